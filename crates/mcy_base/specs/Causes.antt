@@ -1,0 +1,11 @@
+-- Why a fault comes.
+use Rattle.std.specs.Prelude.{ℕ, ◌+◌, ◌-◌, ◌^◌, ◌≤◌, min}
+
+-- the count of faults has risen, or stands at its type's end
+abbrev pub Rose : ℕ → ℕ → Type 0
+Rose before now = min (before + 1) (2 ^ 64 - 1) ≤ now
+
+-- The count never falls, and a fault is told only where it rose.
+pub record IsCaused (before now : ℕ) (is_fault : Type 0) : Type 0 where
+  pub later : before ≤ now
+  pub failed : is_fault → Rose before now

@@ -1,0 +1,18 @@
+//! What all crates speak of: places, words, texts, lists, the causes of faults, and the counter of steps.
+#![tactic(auto)]
+
+mod file;
+mod items;
+mod kind;
+mod span;
+mod steps;
+mod text;
+mod word;
+
+pub use file::{FileList, Line, LineList, SourceFile};
+pub use items::{Bytes, BytesList, Items, TextList, WordList};
+pub use kind::Kind;
+pub use span::Span;
+pub use steps::Steps;
+pub use text::Text;
+pub use word::Word;
