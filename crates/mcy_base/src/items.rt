@@ -1,5 +1,5 @@
 //! Lists that a contract sees as lists: a vector with no more to it than its items.
-ghost use Rattle.std.specs.Prelude.{◌≡◌, IfOk};
+ghost use Rattle.std.specs.Prelude.{◌≡◌, ◌++◌, ◌∷◌, [], IfOk, OnErr, OnOk};
 
 use crate::text::Text;
 use crate::word::Word;
@@ -45,6 +45,17 @@ impl<T> Items<T> {
         ensures { result.now ≡ self.now }
     {
         &self.vec
+    }
+}
+
+impl<T: Drop> Items<T> {
+    /// Adds an item at the end. Where there is no memory for it, the list stays as it was.
+    pub fn push(&mut self, item: T) -> Result<(), AllocError>
+        ensures ok { OnOk result (self.new ≡ self.old ++ item ∷ []) }
+        ensures err { OnErr result (self.new ≡ self.old) }
+    {
+        self.vec.push(item)?;
+        Ok(())
     }
 }
 

@@ -1,6 +1,7 @@
 //! What all crates speak of: places, words, texts, lists, the causes of faults, and the counter of steps.
 #![tactic(auto)]
 
+mod calls;
 mod file;
 mod items;
 mod kind;
@@ -9,6 +10,7 @@ mod steps;
 mod text;
 mod word;
 
+pub use calls::{at_call, call_after};
 pub use file::{FileList, Line, LineList, SourceFile};
 pub use items::{Bytes, BytesList, Items, TextList, WordList};
 pub use kind::Kind;

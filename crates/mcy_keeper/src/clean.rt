@@ -1,0 +1,82 @@
+//! A keeper in memory that never fails.
+//!
+//! `book` is the book that it keeps, and what a crash would leave; `settled` is whether it was loaded.
+ghost use Rattle.std.specs.Prelude.{◌≡◌, false};
+ghost use Rattle.std.proofs.Common.{sym, ◌∙◌};
+ghost use Rattle.mcy_keeper.specs.Books.{blank};
+
+use crate::book::{Book, Entry, Journal};
+use crate::keeper::{KeepError, Keeper};
+use mcy_base::BytesList;
+use std::alloc::Global;
+
+/// A keeper in memory that never fails: only memory can be wanting.
+#[derive(Drop)]
+pub struct CleanKeeper {
+    alloc: Global,
+    book: Book,
+    settled: bool,
+}
+
+impl CleanKeeper {
+    /// A keeper of the empty book.
+    pub fn new(alloc: Global) -> CleanKeeper
+        ensures book { result.book ≡ blank }
+        ensures unsettled { result.settled ≡ false }
+    {
+        CleanKeeper {
+            alloc,
+            book: Book::new(alloc),
+            settled: false,
+        }
+    }
+
+    /// The book that is kept.
+    pub fn held(&self) -> &Book
+        ensures { result.now ≡ self.now.book }
+    {
+        &self.book
+    }
+}
+
+impl Keeper for CleanKeeper {
+    ghost tells = { λ _. Unit {0} };
+
+    ghost holds = { λ k b. b ≡ k.book };
+
+    ghost leaves = { λ k b. b ≡ k.book };
+
+    ghost is_settled = { λ k. k.settled };
+
+    ghost faults = { λ _. 0 };
+
+    ghost one = { λ k a b p q. p ∙ sym q };
+
+    ghost told = { λ k b h. tt };
+
+    fn load(&mut self) -> Result<Book, KeepError> {
+        let copy = self.book.copy(self.alloc)?;
+        self.settled = true;
+        Ok(copy)
+    }
+
+    fn begin(&mut self, meta: &BytesList, mutations: &BytesList) -> Result<(), KeepError> {
+        let meta = meta.copy(self.alloc)?;
+        let mutations = mutations.copy(self.alloc)?;
+        self.book = Book {
+            meta,
+            mutations,
+            journal: Journal::from_vec(Vec::new(self.alloc)),
+        };
+        Ok(())
+    }
+
+    fn append(&mut self, entry: &Entry) -> Result<(), KeepError> {
+        self.book.journal.push(*entry)?;
+        Ok(())
+    }
+
+    fn settled(&self) -> bool {
+        self.settled
+    }
+}

@@ -1,0 +1,10 @@
+//! The keeper of a campaign's book, as a trait, and two that keep theirs in memory.
+#![tactic(auto)]
+
+mod book;
+mod clean;
+mod keeper;
+
+pub use book::{Book, Entry, Journal};
+pub use clean::CleanKeeper;
+pub use keeper::{KeepError, Keeper};

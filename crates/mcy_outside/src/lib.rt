@@ -1,0 +1,13 @@
+//! The outside world: files that are read and a sink that is written, as traits with a count of their
+//! faults; objects in memory that tell what they hold; and adapters to the real ones, which tell nothing.
+#![tactic(auto)]
+
+mod clean_files;
+mod files;
+mod memory_sink;
+mod sink;
+
+pub use clean_files::CleanFiles;
+pub use files::{FileError, SourceFiles};
+pub use memory_sink::MemorySink;
+pub use sink::{CleanSink, Sink, SinkFailed};

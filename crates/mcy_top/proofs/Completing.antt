@@ -1,0 +1,99 @@
+-- A call that is ready and meets no fault succeeds, or finds no memory.
+use Rattle.std.proofs.Common.{◌≡◌, ◌≢◌, ◌⊎◌, inl, inr, arith, ℕ, ◌<◌, ◌≤◌, List, [], ◌∷◌, length, refl, sym, ap, subst, ◌∙◌, Option, None, Some}
+use Rattle.mcy_base.specs.Causes.{Rose}
+use Rattle.mcy_keeper.specs.declared.book.Book.{Book}
+use Rattle.mcy_keeper.specs.Books.{IsBlank}
+use Rattle.mcy_outside.specs.Files.{Held, Gives, IsLarge}
+use Rattle.mcy_top.specs.declared.command.Command.{Command}
+use Rattle.mcy_top.specs.declared.command.Command.TheVariants.{Run}
+use Rattle.mcy_top.specs.declared.campaign.Campaign.{Campaign}
+use Rattle.mcy_top.specs.declared.thin.ThinModule.{ThinModule}
+use Rattle.mcy_top.specs.declared.outcome.Part.TheVariants.{Project, Source}
+use Rattle.mcy_top.specs.declared.outcome.Refusal.{Refusal}
+use Rattle.mcy_top.specs.declared.outcome.Refusal.TheVariants.{SourceBad as RefusedSource, Missing as RefusedMissing, TooLarge as RefusedTooLarge, ReadFault as RefusedRead, Memory as RefusedMemory, Unbuilt as RefusedUnbuilt}
+use Rattle.mcy_top.specs.declared.outcome.Outcome.{Outcome}
+use Rattle.mcy_top.specs.declared.outcome.Outcome.TheVariants.{Done, Usage, SourceBad, Missing, TooLarge, AlreadyBegun, ReadFault, KeeperFault, WriteFault, Memory, Unbuilt}
+use Rattle.mcy_top.specs.Commands.{command_of}
+use Rattle.mcy_top.specs.Projects.{IsProject}
+use Rattle.mcy_top.specs.ThinModules.{IsSource, input_names}
+use Rattle.mcy_top.specs.Campaigns.{config_name, source_name, max_bytes, max_free_bits, Exceeds, Lacks}
+use Rattle.mcy_top.specs.Reads.{IsRead, IsUnmade}
+use Rattle.mcy_top.specs.Life.{Answered, Answers, Early, EndsEarly, HasCause, Life, Takes}
+use Rattle.mcy_top.specs.Complete.{Completes, IsReadable, IsReady, NoneRose}
+use Rattle.mcy_top.proofs.ThinText.{source_once}
+
+given_same : (held : Option (List ℕ)) (max : ℕ) (a b : List ℕ) → Gives held max a → Gives held max b → a ≡ b
+given_same held max a b one two = let is : Some a ≡ Some b = sym one.same ∙ two.same in cc
+
+-- what a readable map rules out
+lacks_not : (map : Held) (name bytes : List ℕ) → Gives (map name) max_bytes bytes → ¬ Lacks (Some map) name
+lacks_not map name bytes given none = let is : Some bytes ≡ None = sym given.same ∙ none in cc
+
+exceeds_not : (map : Held) (name bytes : List ℕ) → Gives (map name) max_bytes bytes → ¬ Exceeds (Some map) name
+exceeds_not map name bytes given large =
+    let more : IsLarge (Some bytes) max_bytes = subst (λ (o : Option (List ℕ)). IsLarge o max_bytes) given.same large in
+    let few : length bytes ≤ max_bytes = given.few in omega arith
+
+-- each file that is read is there
+given_at : (held : Option Held) (r : IsReadable held) (name : List ℕ) → IsRead (Some r.map) name → (bytes : List ℕ) × Gives (r.map name) max_bytes bytes
+given_at held r name (inl is) = (r.config, subst (λ (n : List ℕ). Gives (r.map n) max_bytes r.config) (sym is) r.got_config)
+given_at held r name (inr is) = (r.bytes, subst (λ (n : List ℕ). Gives (r.map n) max_bytes r.bytes) (sym is.0) r.got_source)
+
+-- files that are accepted are refused for faults of reading and want of memory alone
+unmade_not : (held : Option Held) (r : IsReadable held) (refusal : Refusal) → IsUnmade (Some r.map) refusal → ((name : List ℕ) → refusal ≢ RefusedRead name) → refusal ≡ RefusedMemory
+unmade_not held r (RefusedMissing name) why fault = let at = given_at held r name why.0 in absurd (lacks_not r.map name at.0 at.1 why.1)
+unmade_not held r (RefusedTooLarge name) why fault = let at = given_at held r name why.0 in absurd (exceeds_not r.map name at.0 at.1 why.1)
+unmade_not held r (RefusedRead name) why fault = absurd (fault name refl)
+unmade_not held r (RefusedUnbuilt Project) (config, got, bad) fault = absurd (bad (subst IsProject (given_same (r.map config_name) max_bytes r.config config r.got_config got) r.project))
+unmade_not held r (RefusedUnbuilt Source) (source, got, bad) fault = absurd (bad r.parsed (subst (λ (b : List ℕ). IsSource b r.parsed) (given_same (r.map source_name) max_bytes r.bytes source r.got_source got.got) r.text))
+unmade_not held r (RefusedSource error) why fault =
+    let bytes : r.bytes ≡ why.source = given_same (r.map source_name) max_bytes r.bytes why.source r.got_source why.got.got in
+    let same : r.parsed ≡ why.parsed = source_once why.source r.parsed why.parsed (subst (λ (b : List ℕ). IsSource b r.parsed) bytes r.text) why.text in
+    let many : max_free_bits < length (input_names why.parsed.ports) = why.many in
+    let few : length (input_names why.parsed.ports) ≤ max_free_bits = subst (λ (m : ThinModule). length (input_names m.ports) ≤ max_free_bits) same r.few in
+    absurd (omega arith)
+unmade_not held r RefusedMemory why fault = refl
+
+pub completes : (words : List (List ℕ)) (held : Option Held) (holds leaves leaves' : Book → Type 0) (written written' : Option (List ℕ)) (taken taken' f f' k k' s s' : ℕ) (command : Command) (o : Outcome)
+    → IsReady words held holds leaves command → NoneRose f f' k k' s s' → Answered words held o → HasCause f f' k k' s s' o
+    → Early leaves leaves' taken taken' o ⊎ Life words held holds leaves leaves' written written' taken taken' o → Completes o
+completes words held holds leaves leaves' written written' taken taken' f f' k k' s s' command o ready none answer cause (inl early) = go o answer cause early.early
+  where
+    bad : (r : Refusal) → IsUnmade held r → ((name : List ℕ) → r ≢ RefusedRead name) → r ≡ RefusedMemory
+    bad r why fault = unmade_not held ready.readable r (subst (λ (h : Option Held). IsUnmade h r) ready.readable.told why) fault
+
+    go : (o : Outcome) → Answered words held o → HasCause f f' k k' s s' o → EndsEarly o → Completes o
+    go Usage a h e = let is : Some command ≡ None = sym ready.asked ∙ a in cc
+    go (Missing name) a h e = let is : RefusedMissing name ≡ RefusedMemory = bad (RefusedMissing name) a.1 (λ n is. cc) in cc
+    go (TooLarge name) a h e = let is : RefusedTooLarge name ≡ RefusedMemory = bad (RefusedTooLarge name) a.1 (λ n is. cc) in cc
+    go (Unbuilt part) a h e = let is : RefusedUnbuilt part ≡ RefusedMemory = bad (RefusedUnbuilt part) a.1 (λ n is. cc) in cc
+    go (SourceBad error) a h e = let is : RefusedSource error ≡ RefusedMemory = bad (RefusedSource error) a.1 (λ n is. cc) in cc
+    go (ReadFault name) a h e = absurd (none.reads h)
+    go KeeperFault a h e = absurd (none.keeps h)
+    go Memory a h e = tt
+    go Done a h e = absurd e
+    go WriteFault a h e = absurd e
+    go AlreadyBegun a h e = absurd e
+completes words held holds leaves leaves' written written' taken taken' f f' k k' s s' command o ready none answer cause (inr life) = go o cause life.work.answer
+  where
+    same : life.command ≡ command
+    same = let is : Some life.command ≡ Some command = sym life.asked ∙ ready.asked in cc
+
+    takes : Takes life.command life.campaign life.loaded
+    takes = subst (λ (d : Command). Takes d life.campaign life.loaded) (sym same) (ready.takes life.campaign life.loaded life.made life.allowed life.found)
+
+    empty : (d : Command) → Takes d life.campaign life.loaded → IsBlank life.loaded
+    empty Run t = t
+
+    go : (o : Outcome) → HasCause f f' k k' s s' o → Answers life.command life.campaign life.loaded life.work.sure o → Completes o
+    go Done h a = tt
+    go Memory h a = tt
+    go AlreadyBegun h a = absurd (a (empty life.command takes))
+    go KeeperFault h a = absurd (none.keeps h)
+    go WriteFault h a = absurd (none.writes h)
+    go Usage h a = absurd a
+    go (SourceBad error) h a = absurd a
+    go (Missing name) h a = absurd a
+    go (TooLarge name) h a = absurd a
+    go (ReadFault name) h a = absurd a
+    go (Unbuilt part) h a = absurd a

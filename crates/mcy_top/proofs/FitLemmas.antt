@@ -1,0 +1,21 @@
+-- What fits, place by place.
+use Rattle.std.proofs.Common.{◌≡◌, ℕ, ◌<◌, ◌≤◌, List, [], ◌∷◌, length, get_or}
+use Rattle.std.specs.List.{All}
+use Rattle.std.proofs.lemmas.List.Elements.{All-nil, All-cons, All-get_or}
+use Rattle.mcy_top.specs.declared.cell.Bit.{Bit}
+use Rattle.mcy_top.specs.declared.cell.Cell.{Cell}
+use Rattle.mcy_top.specs.Sound.{Plan, IsSound, AllPortsFit, CellFits, AllCellsFit}
+
+-- ports that fit have at most 128 bits each
+pub All-narrow : (limit : ℕ) (ports : List (List Bit)) → AllPortsFit limit ports → All (λ bits. length bits ≤ 128) ports
+All-narrow limit [] fit = All-nil (λ bits. length bits ≤ 128)
+All-narrow limit (bits ∷ more) fit = All-cons (λ bits. length bits ≤ 128) bits more fit.1 (All-narrow limit more fit.3)
+
+All-CellFits : (limit : ℕ) (cells : List Cell) → AllCellsFit limit cells → All (CellFits limit) cells
+All-CellFits limit [] fit = All-nil (CellFits limit)
+All-CellFits limit (cell ∷ more) fit = All-cons (CellFits limit) cell more fit.0 (All-CellFits limit more fit.1)
+
+-- each cell of a sound netlist fits
+pub CellFits-at : (plan : Plan) → IsSound plan → (i : ℕ) (cell : Cell) → i < length plan.raw.cells → cell ≡ get_or plan.raw.cells i cell → CellFits plan.nets cell
+CellFits-at plan sound i cell h is =
+    rw is (All-get_or (CellFits plan.nets) plan.raw.cells i cell h (All-CellFits plan.nets plan.raw.cells sound.cells_fit))

@@ -1,0 +1,87 @@
+-- Rows, one more at the end.
+use Rattle.std.proofs.Common.{◌≡◌, ◌≢◌, ◌⊎◌, inl, inr, arith, ℕ, ◌+◌, ◌<◌, ◌≤◌, List, [], ◌∷◌, ◌++◌, length, refl, sym, ap, subst, ◌∙◌, append_assoc, length-append, Result, Ok, Err, OnOk, OnErr, IsErrOf}
+use Rattle.std.proofs.lemmas.Grind.{common_steps}
+use Rattle.mcy_keeper.specs.declared.book.Entry.{Entry}
+use Rattle.mcy_keeper.specs.declared.book.Book.{Book}
+use Rattle.mcy_keeper.specs.declared.keeper.KeepError.{KeepError}
+use Rattle.mcy_keeper.specs.declared.keeper.KeepError.TheVariants.{Fault, Memory}
+use Rattle.mcy_keeper.specs.Books.{AreNumbered, IsNext, Keeps, LeavesEither, LeavesNothingNew, with_entry}
+use Rattle.mcy_top.specs.declared.campaign.Campaign.{Campaign}
+use Rattle.mcy_top.specs.Rows.{AreRows, AreTrue, IsNextRow, IsRow, IsTrueWord, IsWellFormed}
+use Rattle.mcy_top.specs.Changes.{Course, IsChange}
+use Rattle.mcy_top.specs.Running.{book_of, Broke, LeavesNext, Ran}
+
+pub append-nil : {X : Type 0} (xs : List X) → xs ++ [] ≡ xs
+append-nil [] = refl
+append-nil (x ∷ xs) = ap (λ (t : List _). x ∷ t) (append-nil xs)
+
+pub rows_more : (c : Campaign) (earlier rows : List Entry) (e : Entry) → AreRows c earlier rows → IsRow c (earlier ++ rows) e → AreRows c earlier (rows ++ e ∷ [])
+rows_more c earlier [] e all row = (subst (λ (rs : List Entry). IsRow c rs e) (append-nil earlier) row, tt)
+rows_more c earlier (x ∷ rows) e all row =
+    (all.0, rows_more c (earlier ++ x ∷ []) rows e all.1 (subst (λ (rs : List Entry). IsRow c rs e) (sym (append_assoc earlier (x ∷ []) rows)) row))
+
+pub true_more : (c : Campaign) (rows : List Entry) (e : Entry) → AreTrue c rows → IsTrueWord c e.mutation e.word → AreTrue c (rows ++ e ∷ [])
+true_more c [] e all row = (row, tt)
+true_more c (x ∷ rows) e all row = (all.0, true_more c rows e all.1 row)
+
+-- rows are numbered by their places
+pub are_numbered : (c : Campaign) (earlier rows : List Entry) (from : ℕ) → length earlier ≡ from → AreRows c earlier rows → AreNumbered from rows
+are_numbered c earlier [] from at all = tt
+are_numbered c earlier (x ∷ rows) from at all =
+    (all.0.seq ∙ at, are_numbered c (earlier ++ x ∷ []) rows (from + 1) (length-append earlier (x ∷ []) ∙ ap (λ (n : ℕ). n + 1) at) all.1)
+
+pub next_of : (c : Campaign) (book : Book) (e : Entry) → IsWellFormed c book → IsNextRow c book e → IsNext book e
+next_of c book e form next = record { numbered = are_numbered c [] book.journal 0 refl form.rows; next = next.row.seq }
+
+pub form_more : (c : Campaign) (book : Book) (e : Entry) → IsWellFormed c book → IsNextRow c book e → IsWellFormed c (with_entry book e)
+form_more c book e form next = record { meta = form.meta; mutations = form.mutations; rows = rows_more c [] book.journal e form.rows next.row }
+
+pub course_more : (c : Campaign) (start : Book) (changes : List Book) (end next : Book) → Course c start changes end → IsChange c end next → Course c start (changes ++ next ∷ []) next
+course_more c start [] end next course change = (subst (λ (b : Book). IsChange c b next) course change, refl)
+course_more c start (x ∷ changes) end next course change = (course.0, course_more c x changes end next course.1 change)
+
+pub ran_none : (c : Campaign) (rows : List Entry) → IsWellFormed c (book_of c rows) → Ran c rows rows
+ran_none c rows form = record {
+  goes_on = record { meta = refl; mutations = refl; more = []; rows = sym (append-nil rows) };
+  form = form;
+  words_true = λ all. all;
+  changes = [];
+  course = refl;
+}
+
+pub ran_more : (c : Campaign) (start rows : List Entry) (e : Entry) → Ran c start rows → IsNextRow c (book_of c rows) e → Ran c start (rows ++ e ∷ [])
+ran_more c start rows e ran next = record {
+  goes_on = record {
+    meta = refl;
+    mutations = refl;
+    more = ran.goes_on.more ++ e ∷ [];
+    rows = ap (λ (l : List Entry). l ++ e ∷ []) ran.goes_on.rows ∙ append_assoc start ran.goes_on.more (e ∷ []);
+  };
+  form = form_more c (book_of c rows) e ran.form next;
+  words_true = λ all. true_more c rows e (ran.words_true all) next.word_true;
+  changes = ran.changes ++ book_of c (rows ++ e ∷ []) ∷ [];
+  course = course_more c (book_of c start) ran.changes (book_of c rows) (book_of c (rows ++ e ∷ [])) ran.course (inr (ran.form, (e, next, refl)));
+}
+
+-- where one of two books is left, the book or one with the next row is left
+pub either_next : (leaves : Book → Type 0) (c : Campaign) (book : Book) (e : Entry) → IsNextRow c book e → LeavesEither leaves book (with_entry book e) → LeavesNext leaves c book
+either_next leaves c book e next either other is = go (either other is)
+  where
+    go : (other ≡ book) ⊎ (other ≡ with_entry book e) → (other ≡ book) ⊎ ((f : Entry) × IsNextRow c book f × (other ≡ with_entry book f))
+    go (inl same) = inl same
+    go (inr more) = inr (e, next, more)
+
+pub length_more : (rows : List Entry) (e : Entry) → length (rows ++ e ∷ []) ≡ length rows + 1
+length_more rows e = length-append rows (e ∷ [])
+
+-- what a refused append leaves
+pub append_left : (holds leaves leaves' : Book → Type 0) (result : Result (Unit {0}) KeepError) (c : Campaign) (book : Book) (e : Entry) → IsNextRow c book e → Keeps holds leaves book
+    → (IsErrOf result Fault → (was : Book) → holds was → LeavesEither leaves' was (with_entry was e)) → (IsErrOf result Memory → LeavesNothingNew leaves leaves') → OnErr result (LeavesNext leaves' c book)
+append_left holds leaves leaves' (Ok done) c book e next kept either refused = tt
+append_left holds leaves leaves' (Err Fault) c book e next kept either refused = either_next leaves' c book e next (either refl book kept.told)
+append_left holds leaves leaves' (Err Memory) c book e next kept either refused = λ other is. inl (kept.crash.nothing_else other (refused refl other is))
+
+-- a fact that holds anyway
+pub on_ok : {T E : Type 0} (result : Result T E) (P : Type 0) → P → OnOk result P
+on_ok (Ok value) P p = p
+on_ok (Err error) P p = tt

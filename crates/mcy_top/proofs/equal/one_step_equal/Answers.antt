@@ -1,0 +1,19 @@
+use Rattle.std.proofs.Common.{◌≡◌, ◌∙◌, ap, subst}
+use Rattle.std.specs.Prelude.{IsTrue, ◌↔◌}
+use Rattle.mcy_top.specs.declared.netlist.RawNetlist.{RawNetlist}
+use Rattle.mcy_top.specs.Runs.{Nets, Sight}
+use Rattle.mcy_top.specs.Mutants.{sight_at}
+use Rattle.mcy_top.specs.Seen.{sight_by}
+use Rattle.mcy_top.specs.Equal.{design, mutant, OneStepEqual}
+use Rattle.mcy_top.proofs.TrialLemmas.{one_step_to_all_runs}
+use Rattle.mcy_top.proofs.equal.one_step_equal.Goals as goal
+
+pub returns-clause-equal : goal.returns-clause-equal
+returns-clause-equal c =
+    let raw : RawNetlist = c.args.netlist.now.raw in
+    let same : sight_by c.at-inverted.result ≡ sight_at raw c.args.site.now = c.at-inverted.ensures ∙ ap (λ (r : RawNetlist). sight_at r c.args.site.now) c.raw-raw.ensures.value in
+    let P : (Nets → Sight) → Type 0 = λ sight. IsTrue c.equal_at_all.result ↔ OneStepEqual (design raw) (record { netlist = raw; sight = sight }) in
+    subst P same c.equal_at_all.ensures
+
+pub returns-clause-all_runs : goal.returns-clause-all_runs
+returns-clause-all_runs c told = one_step_to_all_runs (design c.args.netlist.now.raw) (mutant c.args.netlist.now.raw c.args.site.now) ((returns-clause-equal c).0 told)

@@ -1,0 +1,75 @@
+-- The campaign of a project and its source.
+use Rattle.std.specs.Prelude.{◌≡◌, ℕ, ◌≤◌, List, [], ◌∷◌, ◌++◌, length, map, codes, ⊤, Option, None, Some}
+use Rattle.mcy_outside.specs.Files.{Held, Gives, IsLarge}
+use Rattle.mcy_top.specs.declared.thin.ThinModule.{ThinModule}
+use Rattle.mcy_top.specs.declared.campaign.Campaign.{Campaign}
+use Rattle.mcy_top.specs.Projects.{IsProject}
+use Rattle.mcy_top.specs.ThinModules.{IsSource, input_names}
+use Rattle.mcy_top.specs.ThinNetlists.{netlist_of, net_names}
+use Rattle.mcy_top.specs.Sound.{Plan}
+use Rattle.mcy_top.specs.Sites.{sites}
+use Rattle.mcy_top.specs.SiteTexts.{site_text}
+
+-- The files of the and-gate project: the project file, and the source that it names.
+
+abbrev pub config_name : List ℕ
+config_name = codes "config.mcy"
+
+abbrev pub source_name : List ℕ
+source_name = codes "g.v"
+
+-- how many bytes a file may have
+abbrev pub max_bytes : ℕ
+max_bytes = 1048576
+
+-- how many free bits the equivalence test takes, so many input bits
+abbrev pub max_free_bits : ℕ
+max_free_bits = 8
+
+-- what a book keeps of the project and its source: the number of the format, the project's bytes, and each source's
+-- name and bytes (docs/FORMATS.md)
+abbrev pub meta_of : List ℕ → List ℕ → List (List ℕ)
+meta_of config source = codes "1" ∷ config ∷ (source_name ++ (codes "\n" ++ source)) ∷ []
+
+abbrev pub plan_of : ThinModule → Plan
+plan_of m = record { raw = netlist_of m; nets = length (net_names m) }
+
+-- The campaign of a project and its source: the sites of the netlist are its mutations.
+pub record IsCampaign (config source : List ℕ) (c : Campaign) : Type 0 where
+  pub project : IsProject config
+  pub parsed : ThinModule
+  pub text : IsSource source parsed
+  pub few : length (input_names parsed.ports) ≤ max_free_bits
+  pub meta : c.meta ≡ meta_of config source
+  pub netlist : c.netlist ≡ plan_of parsed
+  pub places : c.sites ≡ sites (netlist_of parsed)
+  pub mutations : c.mutations ≡ map (site_text (netlist_of parsed) source_name) (sites (netlist_of parsed))
+
+-- the campaign of some project and source
+pub record IsPlan (c : Campaign) : Type 0 where
+  pub config : List ℕ
+  pub bytes : List ℕ
+  pub made : IsCampaign config bytes c
+
+-- What the files hold, where they tell it.
+
+-- these bytes are held under the name
+abbrev pub Got : Option Held → List ℕ → List ℕ → Type 0
+Got None name bytes = ⊤
+Got (Some held) name bytes = Gives (held name) max_bytes bytes
+
+abbrev pub Lacks : Option Held → List ℕ → Type 0
+Lacks None name = ⊤
+Lacks (Some held) name = held name ≡ None
+
+abbrev pub Exceeds : Option Held → List ℕ → Type 0
+Exceeds None name = ⊤
+Exceeds (Some held) name = IsLarge (held name) max_bytes
+
+-- the campaign of what the files hold
+pub record IsMade (held : Option Held) (c : Campaign) : Type 0 where
+  pub config : List ℕ
+  pub bytes : List ℕ
+  pub got_config : Got held config_name config
+  pub got_source : Got held source_name bytes
+  pub made : IsCampaign config bytes c

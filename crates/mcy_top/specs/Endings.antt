@@ -1,0 +1,42 @@
+-- How the work of a command ends.
+use Rattle.std.specs.Prelude.{◌≡◌, ℕ, List, Option, ⊤}
+use Rattle.mcy_base.specs.Causes.{Rose}
+use Rattle.mcy_keeper.specs.declared.keeper.KeepError.{KeepError}
+use Rattle.mcy_keeper.specs.declared.keeper.KeepError.TheVariants.{Fault as KeepFault, Memory as KeepMemory}
+use Rattle.mcy_outside.specs.Written.{Appends, AppendsPart}
+use Rattle.mcy_top.specs.declared.work.Ending.{Ending}
+use Rattle.mcy_top.specs.declared.work.Ending.TheVariants.{Written, Refused, NoMemory}
+use Rattle.mcy_top.specs.declared.outcome.Outcome.{Outcome}
+use Rattle.mcy_top.specs.declared.outcome.Outcome.TheVariants.{Done, AlreadyBegun, KeeperFault, WriteFault, Memory}
+use Rattle.mcy_top.specs.Life.{IsQuiet}
+
+-- the outcome of a command whose text was made
+abbrev pub ended_outcome : Ending → Outcome
+ended_outcome Written = Done
+ended_outcome Refused = WriteFault
+ended_outcome NoMemory = Memory
+
+-- the outcome of a command that an error of the keeper ended
+abbrev pub failed_outcome : KeepError → Outcome
+failed_outcome KeepFault = KeeperFault
+failed_outcome KeepMemory = Memory
+
+-- a text was written, a part of it, or nothing for want of memory
+abbrev pub Delivers : Option (List ℕ) → Option (List ℕ) → List ℕ → Ending → Type 0
+Delivers before now text Written = Appends before now text
+Delivers before now text Refused = AppendsPart before now text
+Delivers before now text NoMemory = now ≡ before
+
+-- what the outcome of a call that has loaded a book says of the counts
+abbrev pub HasLateCause : (keeper keeper' sink sink' : ℕ) → Outcome → Type 0
+HasLateCause keeper keeper' sink sink' KeeperFault = Rose keeper keeper'
+HasLateCause keeper keeper' sink sink' WriteFault = Rose sink sink'
+HasLateCause keeper keeper' sink sink' Done = ⊤
+HasLateCause keeper keeper' sink sink' AlreadyBegun = ⊤
+HasLateCause keeper keeper' sink sink' Memory = ⊤
+HasLateCause keeper keeper' sink sink' outcome = ⊥
+
+-- what holds of the end of the work, whatever the keeper tells
+pub record Ends (written written' : Option (List ℕ)) (keeper keeper' sink sink' : ℕ) (outcome : Outcome) : Type 0 where
+  pub quiet : IsQuiet written written' outcome
+  pub cause : HasLateCause keeper keeper' sink sink' outcome

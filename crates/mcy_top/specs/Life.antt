@@ -1,0 +1,137 @@
+-- One call of the program, from end to end.
+use Rattle.std.specs.Prelude.{◌≡◌, ◌≢◌, ◌⊎◌, ℕ, ◌+◌, ◌≤◌, List, [], length, ⊤, Option, None, Some}
+use Rattle.mcy_base.specs.Causes.{Rose}
+use Rattle.mcy_keeper.specs.declared.book.Book.{Book}
+use Rattle.mcy_keeper.specs.Books.{IsBlank, LeavesNothingNew, LeavesOnly}
+use Rattle.mcy_outside.specs.Files.{Held}
+use Rattle.mcy_outside.specs.Written.{Appends, AppendsPart}
+use Rattle.mcy_top.specs.declared.command.Command.{Command}
+use Rattle.mcy_top.specs.declared.command.Command.TheVariants.{Run}
+use Rattle.mcy_top.specs.declared.campaign.Campaign.{Campaign}
+use Rattle.mcy_top.specs.declared.outcome.Refusal.TheVariants.{SourceBad as RefusedSource, Missing as RefusedMissing, TooLarge as RefusedTooLarge, ReadFault as RefusedRead, Unbuilt as RefusedUnbuilt}
+use Rattle.mcy_top.specs.declared.outcome.Outcome.{Outcome}
+use Rattle.mcy_top.specs.declared.outcome.Outcome.TheVariants.{Done, Usage, SourceBad, Missing, TooLarge, AlreadyBegun, ReadFault, KeeperFault, WriteFault, Memory, Unbuilt}
+use Rattle.mcy_top.specs.Commands.{command_of, slots_of}
+use Rattle.mcy_top.specs.Campaigns.{IsMade}
+use Rattle.mcy_top.specs.Reads.{IsUnmade}
+use Rattle.mcy_top.specs.Rows.{IsWellFormed, IsGood, IsBlankOrGood, IsFinished, IsPrefix, IsWithinOne}
+use Rattle.mcy_top.specs.Changes.{Course, IsNear}
+use Rattle.mcy_top.specs.Texts.{text_of}
+use Rattle.mcy_top.specs.Defined.{given_up, IsFinalText}
+
+-- the words give a command
+abbrev pub Commands : List (List ℕ) → Type 0
+Commands words = command_of words ≢ None
+
+-- the words give a command, and the files a campaign
+pub record IsAccepted (words : List (List ℕ)) (held : Option Held) : Type 0 where
+  pub asked : Commands words
+  pub campaign : Campaign
+  pub made : IsMade held campaign
+
+-- What each outcome says of the words and the files.
+abbrev pub Answered : List (List ℕ) → Option Held → Outcome → Type 0
+Answered words held Usage = command_of words ≡ None
+Answered words held (Missing name) = Commands words × IsUnmade held (RefusedMissing name)
+Answered words held (TooLarge name) = Commands words × IsUnmade held (RefusedTooLarge name)
+Answered words held (ReadFault name) = Commands words × IsUnmade held (RefusedRead name)
+Answered words held (Unbuilt part) = Commands words × IsUnmade held (RefusedUnbuilt part)
+Answered words held (SourceBad error) = Commands words × IsUnmade held (RefusedSource error)
+Answered words held Memory = ⊤
+Answered words held outcome = IsAccepted words held
+
+-- how a call may end that has loaded no book
+abbrev pub EndsEarly : Outcome → Type 0
+EndsEarly Usage = ⊤
+EndsEarly (Missing name) = ⊤
+EndsEarly (TooLarge name) = ⊤
+EndsEarly (ReadFault name) = ⊤
+EndsEarly (Unbuilt part) = ⊤
+EndsEarly (SourceBad error) = ⊤
+EndsEarly KeeperFault = ⊤
+EndsEarly Memory = ⊤
+EndsEarly outcome = ⊥
+
+-- A fault comes only where its count rose.
+abbrev pub HasCause : (files files' keeper keeper' sink sink' : ℕ) → Outcome → Type 0
+HasCause files files' keeper keeper' sink sink' (ReadFault name) = Rose files files'
+HasCause files files' keeper keeper' sink sink' KeeperFault = Rose keeper keeper'
+HasCause files files' keeper keeper' sink sink' WriteFault = Rose sink sink'
+HasCause files files' keeper keeper' sink sink' outcome = ⊤
+
+-- what was written at each outcome
+abbrev pub Wrote : Option (List ℕ) → Option (List ℕ) → List ℕ → Outcome → Type 0
+Wrote before now text Done = Appends before now text
+Wrote before now text WriteFault = AppendsPart before now text
+Wrote before now text outcome = now ≡ before
+
+-- Nothing is written at a refusal.
+abbrev pub IsQuiet : Option (List ℕ) → Option (List ℕ) → Outcome → Type 0
+IsQuiet before now Done = ⊤
+IsQuiet before now WriteFault = ⊤
+IsQuiet before now outcome = now ≡ before
+
+-- the command takes this book
+abbrev pub Takes : Command → Campaign → Book → Type 0
+Takes Run c book = IsBlank book
+
+-- Every mutation is finished, and the text is the one that the campaign defines with the pairs that the book gave up.
+pub record IsWhole (c : Campaign) (loaded book : Book) (text : List ℕ) : Type 0 where
+  pub finished : IsFinished c book
+  pub final : IsBlankOrGood loaded → IsFinalText c (given_up book.journal) text
+
+-- How a call ends that has loaded a book.
+abbrev pub Answers : Command → Campaign → Book → Book → Outcome → Type 0
+Answers command c loaded sure Done = Takes command c loaded × IsWellFormed c sure × IsWhole c loaded sure (text_of command c sure)
+Answers command c loaded sure AlreadyBegun = ¬ IsBlank loaded
+Answers command c loaded sure KeeperFault = Takes command c loaded
+Answers command c loaded sure WriteFault = Takes command c loaded
+Answers command c loaded sure Memory = ⊤
+Answers command c loaded sure outcome = ⊥
+
+-- the text was made and written
+abbrev pub Carried : Outcome → Type 0
+Carried Done = ⊤
+Carried outcome = ⊥
+
+-- The sure book has the loaded one as its first part, and every crash leaves the sure book with one entry more at
+-- most. It was reached by changes, and every crash leaves it or the book after one change more.
+pub record Grew (leaves : Book → Type 0) (c : Campaign) (loaded sure : Book) (outcome : Outcome) : Type 0 where
+  pub grown : IsPrefix loaded sure
+  pub within_one : (other : Book) → leaves other → IsWithinOne sure other
+  pub good : IsBlankOrGood loaded → (other : Book) → leaves other → IsGood other ⊎ (IsBlank other × IsBlank loaded)
+  pub exact : Carried outcome → LeavesOnly leaves sure
+  pub is_begun : Carried outcome → sure.meta ≢ []
+  pub changes : List Book
+  pub course : Course c loaded changes sure
+  pub near : (other : Book) → leaves other → IsNear c sure other
+
+-- The steps are at most the entries that the sure book gained and the slots, and at Done exactly the entries.
+pub record Stepped (command : Command) (loaded sure : Book) (before now : ℕ) (outcome : Outcome) : Type 0 where
+  pub bound : now + length loaded.journal ≤ before + length sure.journal + slots_of command
+  pub equal : outcome ≡ Done → now + length loaded.journal ≡ before + length sure.journal
+
+-- what a call does after it has loaded a book
+pub record Work (leaves : Book → Type 0) (written written' : Option (List ℕ)) (taken taken' : ℕ) (command : Command) (c : Campaign) (loaded : Book) (outcome : Outcome) : Type 0 where
+  pub sure : Book
+  pub book : Grew leaves c loaded sure outcome
+  pub steps : Stepped command loaded sure taken taken' outcome
+  pub text : Wrote written written' (text_of command c sure) outcome
+  pub answer : Answers command c loaded sure outcome
+
+-- A call that has loaded a book: the one that was told at entry, else one that a crash could have left then.
+pub record Life (words : List (List ℕ)) (held : Option Held) (holds leaves leaves' : Book → Type 0) (written written' : Option (List ℕ)) (taken taken' : ℕ) (outcome : Outcome) : Type 0 where
+  pub command : Command
+  pub campaign : Campaign
+  pub loaded : Book
+  pub asked : command_of words ≡ Some command
+  pub made : IsMade held campaign
+  pub found : (was : Book) → holds was → loaded ≡ was
+  pub allowed : leaves loaded
+  pub work : Work leaves' written written' taken taken' command campaign loaded outcome
+
+-- A call that has loaded no book.
+pub record Early (leaves leaves' : Book → Type 0) (taken taken' : ℕ) (outcome : Outcome) : Type 0 where
+  pub early : EndsEarly outcome
+  pub leaves_is : LeavesNothingNew leaves leaves'
+  pub steps_is : taken' ≡ taken

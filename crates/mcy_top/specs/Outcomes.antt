@@ -1,0 +1,29 @@
+-- Outcomes, and their exit statuses.
+use Rattle.std.specs.Prelude.{ℕ}
+use Rattle.mcy_top.specs.declared.outcome.Refusal.{Refusal}
+use Rattle.mcy_top.specs.declared.outcome.Refusal.TheVariants.{SourceBad as RefusedSource, Missing as RefusedMissing, TooLarge as RefusedTooLarge, ReadFault as RefusedRead, Memory as RefusedMemory, Unbuilt as RefusedUnbuilt}
+use Rattle.mcy_top.specs.declared.outcome.Outcome.{Outcome}
+use Rattle.mcy_top.specs.declared.outcome.Outcome.TheVariants.{Done, Usage, SourceBad, Missing, TooLarge, AlreadyBegun, ReadFault, KeeperFault, WriteFault, Memory, Unbuilt}
+
+-- the exit status (README.md)
+abbrev pub status_of : Outcome → ℕ
+status_of Done = 0
+status_of Usage = 2
+status_of (SourceBad error) = 5
+status_of (Missing name) = 6
+status_of (TooLarge name) = 7
+status_of AlreadyBegun = 9
+status_of (ReadFault name) = 11
+status_of KeeperFault = 12
+status_of WriteFault = 13
+status_of Memory = 14
+status_of (Unbuilt part) = 99
+
+-- the outcome of a call whose files are refused
+abbrev pub outcome_of : Refusal → Outcome
+outcome_of (RefusedSource error) = SourceBad error
+outcome_of (RefusedMissing name) = Missing name
+outcome_of (RefusedTooLarge name) = TooLarge name
+outcome_of (RefusedRead name) = ReadFault name
+outcome_of RefusedMemory = Memory
+outcome_of (RefusedUnbuilt part) = Unbuilt part

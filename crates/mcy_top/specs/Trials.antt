@@ -1,0 +1,22 @@
+-- A design and its mutant, input by input.
+use Rattle.std.specs.Prelude.{◌≡◌, ℕ, List, map}
+use Rattle.mcy_top.specs.declared.cell.Bit.{Bit}
+use Rattle.mcy_top.specs.declared.netlist.RawNetlist.{RawNetlist}
+use Rattle.mcy_top.specs.declared.inverted.Inverted.{Inverted}
+use Rattle.mcy_top.specs.Numbers.{number}
+use Rattle.mcy_top.specs.Runs.{Nets, values, Sight, Outputs, Holds, shown}
+use Rattle.mcy_top.specs.Equal.{Machine}
+use Rattle.mcy_top.specs.Seen.{sight_by}
+use Rattle.mcy_top.specs.Inputs.{all_bits}
+
+-- a netlist where bits are inverted
+abbrev pub inverted_machine : RawNetlist → Inverted → Machine
+inverted_machine netlist inverted = record { netlist = netlist; sight = sight_by inverted }
+
+-- what is read off at output ports
+abbrev pub shown_at : Sight → List (List Bit) → List ℕ
+shown_at see ports = map (λ bits. number (see Outputs bits)) ports
+
+-- equal outputs for the inputs whose bits together are this number's
+abbrev pub EqualAt : Machine → Machine → ℕ → Type 0
+EqualAt a b n = (inputs : List ℕ) (x y : Nets) → number (values x (all_bits a.netlist.inputs)) ≡ n → Holds (a.sight x) x a.netlist inputs → Holds (b.sight y) y b.netlist inputs → shown (a.sight x) a.netlist ≡ shown (b.sight y) b.netlist

@@ -1,0 +1,146 @@
+//! The equivalence test: whether a mutant is equal to its design in one step, by trying all inputs.
+//!
+//! The bits of all input ports form one list, and each number of that many bits is laid over it, in a table of net
+//! values for the design and in one for the mutant. Both are settled, and what their outputs show is compared.
+ghost use Rattle.std.specs.Prelude.{◌≡◌, ℕ, ◌≤◌, ◌<◌, ◌^◌, ◌↔◌, length, IfOk, IsTrue};
+ghost use Rattle.std.specs.List.{Contains};
+ghost use Rattle.mcy_top.specs.declared.inverted.Inverted.TheVariants.{Nowhere};
+ghost use Rattle.mcy_top.specs.Sound.{AllPortsFit};
+ghost use Rattle.mcy_top.specs.Sites.{sites};
+ghost use Rattle.mcy_top.specs.Equal.{design, mutant, OneStepEqual, EqualOnAllRuns};
+ghost use Rattle.mcy_top.specs.Tables.{nets_of};
+ghost use Rattle.mcy_top.specs.Seen.{sight_by};
+ghost use Rattle.mcy_top.specs.Inputs.{all_bits, total_width, input_bits};
+ghost use Rattle.mcy_top.specs.Trials.{inverted_machine, shown_at, EqualAt};
+
+use crate::bits::{lay, number_seen};
+use crate::cell::{Bit, BitList};
+use crate::inverted::{Inverted, View};
+use crate::netlist::Netlist;
+use crate::settle::settle;
+use crate::site::Site;
+use std::alloc::{AllocError, Global};
+
+/// The most bits that the inputs may have together for all their values to be tried.
+pub(crate) const MAX_INPUT_BITS: usize = 8;
+
+/// Whether the inputs have few enough bits together for the equivalence test.
+pub(crate) fn has_few_inputs(netlist: &Netlist) -> bool
+    ensures { IsTrue result ↔ (input_bits netlist.now.raw ≤ MAX_INPUT_BITS) }
+{
+    is_within(netlist.raw().inputs.as_slice(), MAX_INPUT_BITS)
+}
+
+/// Whether ports have at most this many bits together.
+fn is_within(ports: &[BitList], limit: usize) -> bool
+    ensures { IsTrue result ↔ (total_width ports.now ≤ limit) }
+{
+    match ports {
+        [] => true,
+        [port, rest @ ..] => {
+            let width = port.as_slice().len();
+            width <= limit && is_within(rest, limit - width)
+        }
+    }
+}
+
+/// Whether the mutant at a site shows at its outputs what the design shows, for all inputs. Where it does, it shows
+/// the same on every list of inputs.
+pub(crate) fn one_step_equal(
+    alloc: Global,
+    netlist: &Netlist,
+    site: &Site,
+) -> Result<bool, AllocError>
+    requires site { Contains (sites netlist.now.raw) site.now }
+    requires small { input_bits netlist.now.raw ≤ MAX_INPUT_BITS }
+    ensures equal { IfOk result (λ same. IsTrue same
+        ↔ OneStepEqual (design netlist.now.raw) (mutant netlist.now.raw site.now)) }
+    ensures all_runs { IfOk result (λ same. IsTrue same
+        → EqualOnAllRuns (design netlist.now.raw) (mutant netlist.now.raw site.now)) }
+{
+    let raw = netlist.raw();
+    let inverted = Inverted::at(raw, site);
+    let bits = all_bits(alloc, raw.inputs.as_slice())?;
+    let mut first = vec![in alloc; false; netlist.nets() as usize]?;
+    let mut second = vec![in alloc; false; netlist.nets() as usize]?;
+    Ok(equal_at_all(netlist, inverted, &bits, &mut first, &mut second))
+}
+
+/// The bits of all ports, one port after the other.
+fn all_bits(alloc: Global, ports: &[BitList]) -> Result<Vec<Bit>, AllocError>
+    ensures { IfOk result (λ bits. bits.items ≡ all_bits ports.now) }
+{
+    let mut bits = Vec::new(alloc);
+    for port in ports {
+        bits.extend_from_slice(port.as_slice())?;
+    }
+    Ok(bits)
+}
+
+/// Whether the mutant shows what the design shows, for each number over the bits of all inputs.
+fn equal_at_all(
+    netlist: &Netlist,
+    inverted: Inverted,
+    bits: &[Bit],
+    first: &mut [bool],
+    second: &mut [bool],
+) -> bool
+    requires room { length first.old ≡ netlist.now.nets }
+    requires mutant_room { length second.old ≡ netlist.now.nets }
+    requires bits { bits.now ≡ all_bits netlist.now.raw.inputs }
+    requires small { input_bits netlist.now.raw ≤ MAX_INPUT_BITS }
+    ensures { IsTrue result
+        ↔ OneStepEqual (design netlist.now.raw) (inverted_machine netlist.now.raw inverted) }
+{
+    let count = 2u32.pow(bits.len() as u32);
+    for number in 0..count {
+        if !equal_at(netlist, inverted, bits, u128::from(number), first, second) {
+            return false;
+        }
+    }
+    true
+}
+
+/// Whether the mutant shows what the design shows, for the inputs whose bits together are this number's.
+fn equal_at(
+    netlist: &Netlist,
+    inverted: Inverted,
+    bits: &[Bit],
+    number: u128,
+    first: &mut [bool],
+    second: &mut [bool],
+) -> bool
+    requires room { length first.old ≡ netlist.now.nets }
+    requires mutant_room { length second.old ≡ netlist.now.nets }
+    requires bits { bits.now ≡ all_bits netlist.now.raw.inputs }
+    requires fits { number < 2 ^ length bits.now }
+    ensures { IsTrue result
+        ↔ EqualAt (design netlist.now.raw) (inverted_machine netlist.now.raw inverted) number }
+{
+    let raw = netlist.raw();
+    lay(first, bits, number);
+    settle(netlist, Inverted::Nowhere, first);
+    lay(second, bits, number);
+    settle(netlist, inverted, second);
+    shows_same(raw.outputs.as_slice(), first, inverted, second)
+}
+
+/// Whether output ports show the same in the design's table and in the mutant's.
+fn shows_same(outputs: &[BitList], first: &[bool], inverted: Inverted, second: &[bool]) -> bool
+    requires fit { AllPortsFit (length first.now) outputs.now }
+    requires mutant_fit { AllPortsFit (length second.now) outputs.now }
+    ensures { IsTrue result
+        ↔ (shown_at (sight_by Nowhere (nets_of first.now)) outputs.now ≡ shown_at (sight_by inverted (nets_of second.now)) outputs.now) }
+{
+    match outputs {
+        [] => true,
+        [port, rest @ ..] => {
+            let here = number_seen(first, View::Plain, port.as_slice());
+            let there = number_seen(second, inverted.at_outputs(), port.as_slice());
+            here == there && shows_same(rest, first, inverted, second)
+        }
+    }
+}
+
+#[cfg(test)]
+mod tests;

@@ -1,0 +1,34 @@
+//! One campaign from words to a text, over files, a keeper, a sink and a counter of steps.
+#![tactic(auto)]
+
+mod bits;
+mod campaign;
+mod cell;
+mod command;
+mod equal;
+mod inverted;
+mod lower;
+mod main_call;
+mod names;
+mod netlist;
+pub mod netlist_laws;
+mod outcome;
+mod project;
+mod reading;
+mod running;
+mod script;
+mod settle;
+mod site;
+mod site_text;
+mod sites;
+#[cfg(test)]
+mod sound;
+mod state;
+mod status;
+mod thin;
+mod work;
+
+pub use command::{Command, read_words};
+pub use main_call::mcy_main;
+pub use outcome::{Outcome, Part, SourceError, SourceFault, exit_status};
+pub use project::AND_GATE_PROJECT;

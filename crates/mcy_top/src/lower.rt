@@ -1,0 +1,204 @@
+//! The netlist of a module in the thin form.
+//!
+//! Each line is a cell. Nets are numbered by name: the inputs in the order of the ports, then what the lines give, in
+//! their order. So a cell reads nets that stand before the one that it drives.
+ghost use Rattle.std.specs.Prelude.{◌≡◌, ◌+◌, ◌^◌, ◌<◌, ◌≤◌, map, filter, position, bytes_eq, length, IfOk};
+ghost use Rattle.mcy_top.specs.Inputs.{input_bits};
+ghost use Rattle.mcy_top.specs.Ports.{has_direction, names_of};
+ghost use Rattle.mcy_top.specs.ShortNames.{HasShortNames};
+ghost use Rattle.mcy_top.specs.Sites.{sites};
+ghost use Rattle.mcy_top.specs.ThinModules.{IsThin, is_input, input_names};
+ghost use Rattle.mcy_top.specs.ThinNetlists.{net_names, net_of, bits_of, kind_of, operator_span, cell_of, cells_of, netlist_of};
+
+use crate::cell::{Bit, BitList, Cell, CellKind, CellList, PortList};
+use crate::netlist::{Netlist, RawNetlist};
+use crate::thin::{Direction, Item, ItemKind, Operator, PortDecl, ThinModule};
+use mcy_base::{Span, Text};
+use std::alloc::{AllocError, Global};
+
+/// The netlist of the module.
+pub(crate) fn lower(alloc: Global, thin: &ThinModule) -> Result<Netlist, AllocError>
+    requires thin { IsThin thin.now }
+    requires few { length (input_names thin.now.ports) ≤ 8 }
+    ensures raw { IfOk result (λ netlist. netlist.raw ≡ netlist_of thin.now) }
+    ensures nets { IfOk result (λ netlist. netlist.nets ≡ length (net_names thin.now)) }
+    ensures few_bits { IfOk result (λ netlist. input_bits netlist.raw ≤ 8) }
+    ensures few_sites { IfOk result (λ netlist. length (sites netlist.raw) ≤ 9) }
+{
+    let raw = RawNetlist {
+        top: Text::copy(alloc, "g")?,
+        inputs: port_bits(alloc, thin, Direction::Input)?,
+        outputs: port_bits(alloc, thin, Direction::Output)?,
+        cells: cells(alloc, thin)?,
+    };
+    Ok(Netlist::from_parts(raw, net_count(thin)))
+}
+
+/// The bits of each port of the direction.
+fn port_bits(alloc: Global, thin: &ThinModule, direction: Direction) -> Result<PortList, AllocError>
+    requires { length (net_names thin.now) < 2 ^ 32 }
+    ensures { IfOk result
+        (λ ports. ports
+        ≡ map (bits_of thin.now) (names_of direction thin.now.ports)) }
+{
+    let mut ports = Vec::new(alloc);
+    for port in thin.ports.as_slice() {
+        if has_direction(port, direction) {
+            ports.push(bits_of(alloc, thin, port.name.as_slice())?)?;
+        }
+    }
+    Ok(PortList::from_vec(ports))
+}
+
+/// The cells of the lines.
+fn cells(alloc: Global, thin: &ThinModule) -> Result<CellList, AllocError>
+    requires few { length (net_names thin.now) < 2 ^ 32 }
+    requires thin { IsThin thin.now }
+    ensures { IfOk result (λ cells. cells ≡ cells_of thin.now 0 thin.now.items) }
+{
+    let mut cells = Vec::new(alloc);
+    for (number, item) in thin.items.as_slice().iter().enumerate() {
+        cells.push(cell_of(alloc, thin, number as u32, item)?)?;
+    }
+    Ok(CellList::from_vec(cells))
+}
+
+/// The cell of the line of this number, counted from 0.
+fn cell_of(alloc: Global, thin: &ThinModule, number: u32, item: &Item) -> Result<Cell, AllocError>
+    requires few { length (net_names thin.now) < 2 ^ 32 }
+    requires line { number < 3 }
+    requires short { HasShortNames item.now }
+    ensures { IfOk result (λ cell. cell ≡ cell_of thin.now number item.now) }
+{
+    let ports = vec![in alloc;
+        bits_of(alloc, thin, item.left.as_slice())?,
+        bits_of(alloc, thin, item.right.as_slice())?,
+        bits_of(alloc, thin, item.name.as_slice())?,
+    ]?;
+    Ok(Cell {
+        kind: kind_of(item.operator),
+        ports: PortList::from_vec(ports),
+        span: operator_span(number, item),
+    })
+}
+
+/// What the cell of an operator computes.
+fn kind_of(operator: Operator) -> CellKind
+    ensures { result ≡ kind_of operator }
+{
+    match operator {
+        Operator::And => CellKind::And,
+        Operator::Or => CellKind::Or,
+        Operator::Xor => CellKind::Xor,
+    }
+}
+
+/// Where the line of this number, counted from 0, has its operator. Line 1 has the ports.
+fn operator_span(number: u32, item: &Item) -> Span
+    requires line { number < 3 }
+    requires short { HasShortNames item.now }
+    ensures { result ≡ operator_span number item.now }
+{
+    let kind = match item.kind {
+        ItemKind::Wire => "  wire ",
+        ItemKind::Assign => "  assign ",
+    };
+    let name = item.name.as_slice();
+    let left = item.left.as_slice();
+    let col = kind.len() + name.len() + " = ".len() + left.len() + 2;
+    Span {
+        file: 0,
+        line: number + 2,
+        col: col as u32,
+    }
+}
+
+/// The one bit of a name.
+fn bits_of(alloc: Global, thin: &ThinModule, name: &[u8]) -> Result<BitList, AllocError>
+    requires { length (net_names thin.now) < 2 ^ 32 }
+    ensures { IfOk result (λ bits. bits ≡ bits_of thin.now name.now) }
+{
+    let bits = vec![in alloc; Bit::Net(net_of(thin, name))]?;
+    Ok(BitList::from_vec(bits))
+}
+
+/// The net of a name: its place among the names of nets.
+fn net_of(thin: &ThinModule, name: &[u8]) -> u32
+    requires { length (net_names thin.now) < 2 ^ 32 }
+    ensures { result ≡ net_of thin.now name.now }
+{
+    let ports = thin.ports.as_slice();
+    if let Some(place) = input_place(ports, name) {
+        return place as u32;
+    }
+    let items = thin.items.as_slice();
+    match given_place(items, name) {
+        Some(place) => (input_count(ports) + place) as u32,
+        None => 0,
+    }
+}
+
+/// The place of a name among the inputs.
+fn input_place(ports: &[PortDecl], name: &[u8]) -> Option<usize>
+    ensures { result
+        ≡ position (λ port. bytes_eq port.name name.now) (filter is_input ports.now) }
+{
+    let mut inputs = ports.iter().filter(|port| port.is_input());
+    inputs.position(|port| port.name.as_slice() == name)
+}
+
+/// The place of a name among the names that lines give.
+fn given_place(items: &[Item], name: &[u8]) -> Option<usize>
+    ensures { result ≡ position (λ item. bytes_eq item.name name.now) items.now }
+{
+    items.iter().position(|item| item.name.as_slice() == name)
+}
+
+/// How many nets the module has.
+fn net_count(thin: &ThinModule) -> u32
+    requires { length (net_names thin.now) < 2 ^ 32 }
+    ensures { result ≡ length (net_names thin.now) }
+{
+    let ports = thin.ports.as_slice();
+    let items = thin.items.as_slice();
+    (input_count(ports) + items.len()) as u32
+}
+
+/// How many of the ports are inputs.
+pub(crate) fn input_count(ports: &[PortDecl]) -> usize
+    ensures { result ≡ length (input_names ports.now) }
+{
+    ports.iter().filter(|port| port.is_input()).count()
+}
+
+/// Whether the port has this direction.
+fn has_direction(port: &PortDecl, direction: Direction) -> bool
+    ensures { result ≡ has_direction direction port.now }
+{
+    port.direction == direction
+}
+
+#[cfg(test)]
+mod tests {
+    use super::*;
+    use crate::thin::read_source;
+    use std::test::Fail;
+
+    #[test]
+    fn a_cell_stands_at_its_operator(rt: HostRuntime) -> Result<(), Fail> {
+        let source = "module g(input a, input b, output y);\n  assign y = a & b;\nendmodule\n";
+        let thin = read_source(rt.alloc(), source.as_bytes())?.ok_or("not thin")?;
+        assert!(rt; input_count(thin.ports.as_slice()) <= 8);
+        let netlist = lower(rt.alloc(), &thin)?;
+        let cell = netlist.raw().cells.as_slice().first().ok_or("no cell")?;
+        assert_eq!(rt;
+            cell.span,
+            Span {
+                file: 0,
+                line: 2,
+                col: 16
+            }
+        );
+        Ok(())
+    }
+}

@@ -1,0 +1,77 @@
+//! The one call of the program.
+ghost use Rattle.std.specs.Prelude.{◌⊎◌, map, string_bytes};
+ghost use Rattle.mcy_top.specs.declared.command.Command.{Command as Asked};
+ghost use Rattle.mcy_top.specs.Complete.{Completes, IsReady, NoneRose};
+ghost use Rattle.mcy_top.specs.Life.{Answered, Early, HasCause, IsQuiet, Life};
+
+use crate::command::read_words;
+use crate::outcome::Outcome;
+use crate::reading::read_campaign;
+use crate::work::{carry_out, failed};
+use mcy_base::Steps;
+use mcy_keeper::Keeper;
+use mcy_outside::{Sink, SourceFiles};
+use std::alloc::Global;
+use std::sync::ledger::Ledger;
+
+/// Carries out the command that the words after the program's name give: reads the project and its
+/// source from `files`, keeps the campaign's results in `keeper`, and writes the command's text to
+/// `out`. A step of `steps` is one test started.
+pub fn mcy_main<F: SourceFiles, K: Keeper, O: Sink, L: Ledger>(
+    alloc: Global,
+    words: &[String],
+    files: &mut F,
+    keeper: &mut K,
+    out: &mut O,
+    steps: &mut Steps<L>,
+) -> Outcome
+    ensures tells { K.tells keeper.new → K.tells keeper.old }
+
+    // What the outcome says of the words and the files.
+    ensures answer { Answered (map string_bytes words.now) (F.held files.old) result }
+
+    // A fault comes only where its count rose.
+    ensures cause { HasCause (F.faults files.old) (F.faults files.new) (K.faults keeper.old) (K.faults keeper.new) (O.faults out.old) (O.faults out.new) result }
+
+    // Nothing is written at a refusal.
+    ensures quiet { IsQuiet (O.written out.old) (O.written out.new) result }
+
+    // No book was loaded; or what the call does with the book, the steps and the text.
+    ensures life { K.tells keeper.new → Early (K.leaves keeper.old) (K.leaves keeper.new) steps.old steps.new result
+        ⊎ Life (map string_bytes words.now) (F.held files.old) (K.holds keeper.old) (K.leaves keeper.old) (K.leaves keeper.new) (O.written out.old) (O.written out.new) steps.old steps.new result }
+
+    // Where all is there and nothing fails, the command is carried out, or there is no memory.
+    ensures complete { K.tells keeper.new → (command : Asked) → IsReady (map string_bytes words.now) (F.held files.old) (K.holds keeper.old) (K.leaves keeper.old) command
+        → NoneRose (F.faults files.old) (F.faults files.new) (K.faults keeper.old) (K.faults keeper.new) (O.faults out.old) (O.faults out.new) → Completes result }
+{
+    carry_out_words(alloc, words, files, keeper, out, steps)
+}
+
+/// Carries out the command, with every promise but that it is completed.
+fn carry_out_words<F: SourceFiles, K: Keeper, O: Sink, L: Ledger>(
+    alloc: Global,
+    words: &[String],
+    files: &mut F,
+    keeper: &mut K,
+    out: &mut O,
+    steps: &mut Steps<L>,
+) -> Outcome
+    ensures tells { K.tells keeper.new → K.tells keeper.old }
+    ensures answer { Answered (map string_bytes words.now) (F.held files.old) result }
+    ensures cause { HasCause (F.faults files.old) (F.faults files.new) (K.faults keeper.old) (K.faults keeper.new) (O.faults out.old) (O.faults out.new) result }
+    ensures quiet { IsQuiet (O.written out.old) (O.written out.new) result }
+    ensures life { K.tells keeper.new → Early (K.leaves keeper.old) (K.leaves keeper.new) steps.old steps.new result
+        ⊎ Life (map string_bytes words.now) (F.held files.old) (K.holds keeper.old) (K.leaves keeper.old) (K.leaves keeper.new) (O.written out.old) (O.written out.new) steps.old steps.new result }
+{
+    let Some(command) = read_words(words) else {
+        return Outcome::Usage;
+    };
+    let campaign = match read_campaign(alloc, files) {
+        Ok(campaign) => campaign,
+        Err(refusal) => return refusal.into_outcome(),
+    };
+    match keeper.load() {
+        Ok(loaded) => carry_out(alloc, command, &campaign, &loaded, keeper, out, steps),
+        Err(error) => failed(error),
+    }
+}

@@ -1,0 +1,17 @@
+//! Laws of netlists and their mutants, each as the contract of a function that does nothing.
+ghost use Rattle.mcy_top.specs.NetlistLaws.{OneStepEqualityLasts, DesignsHaveOneSolution, MutantsHaveOneSolution};
+
+/// Machines that are equal in one step have equal outputs on every list of inputs.
+pub fn one_step_equality_lasts()
+    ensures { OneStepEqualityLasts }
+{}
+
+/// A sound netlist has exactly one solution for all inputs that fit.
+pub fn designs_have_one_solution()
+    ensures { DesignsHaveOneSolution }
+{}
+
+/// The mutant of a sound netlist at one of its sites has exactly one solution for all inputs that fit.
+pub fn mutants_have_one_solution()
+    ensures { MutantsHaveOneSolution }
+{}

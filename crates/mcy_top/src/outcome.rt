@@ -1,0 +1,102 @@
+//! How a call ends.
+ghost use Rattle.std.specs.Prelude.{◌≡◌};
+ghost use Rattle.mcy_top.specs.Outcomes.{outcome_of, status_of};
+
+use mcy_base::{Kind, Text};
+
+/// A form of input that is not built yet.
+#[derive(Clone, Copy, Debug, PartialEq, Eq)]
+pub enum Part {
+    /// The project file is another one than the and-gate project.
+    Project,
+    /// The source is not in the thin form.
+    Source,
+}
+
+/// What is wrong with a source.
+#[derive(Clone, Copy, Debug, PartialEq, Eq)]
+pub enum SourceFault {
+    /// There are more of these than the limit.
+    TooMany(Kind),
+}
+
+/// What is wrong with the sources, and the file that it is in. No file is named where the fault is of all sources
+/// together.
+#[derive(Drop)]
+pub struct SourceError {
+    pub file: Text,
+    pub fault: SourceFault,
+}
+
+/// How a call ended.
+#[derive(Drop)]
+pub enum Outcome {
+    /// The command was carried out, and its whole text was written.
+    Done,
+    /// The words give no command.
+    Usage,
+    /// The sources are refused.
+    SourceBad(SourceError),
+    /// There is no file of this name.
+    Missing(Text),
+    /// The file of this name has more than 1,048,576 bytes.
+    TooLarge(Text),
+    /// The database holds a campaign already.
+    AlreadyBegun,
+    /// The file of this name could not be read.
+    ReadFault(Text),
+    /// The database failed.
+    KeeperFault,
+    /// The text could not be written.
+    WriteFault,
+    /// There was no memory.
+    Memory,
+    /// This form of input is not built yet.
+    Unbuilt(Part),
+}
+
+/// The exit status of a program whose call ended so.
+pub fn exit_status(outcome: &Outcome) -> u8
+    ensures { result ≡ status_of outcome.now }
+{
+    match outcome {
+        Outcome::Done => 0,
+        Outcome::Usage => 2,
+        Outcome::SourceBad(_) => 5,
+        Outcome::Missing(_) => 6,
+        Outcome::TooLarge(_) => 7,
+        Outcome::AlreadyBegun => 9,
+        Outcome::ReadFault(_) => 11,
+        Outcome::KeeperFault => 12,
+        Outcome::WriteFault => 13,
+        Outcome::Memory => 14,
+        Outcome::Unbuilt(_) => 99,
+    }
+}
+
+/// Why the files make no campaign.
+#[derive(Drop)]
+pub(crate) enum Refusal {
+    SourceBad(SourceError),
+    Missing(Text),
+    TooLarge(Text),
+    ReadFault(Text),
+    Memory,
+    Unbuilt(Part),
+}
+
+impl Refusal {
+    /// How a call ends that is refused so.
+    pub(crate) fn into_outcome(self) -> Outcome
+        ensures { result ≡ outcome_of self }
+    {
+        match self {
+            Refusal::SourceBad(error) => Outcome::SourceBad(error),
+            Refusal::Missing(name) => Outcome::Missing(name),
+            Refusal::TooLarge(name) => Outcome::TooLarge(name),
+            Refusal::ReadFault(name) => Outcome::ReadFault(name),
+            Refusal::Memory => Outcome::Memory,
+            Refusal::Unbuilt(part) => Outcome::Unbuilt(part),
+        }
+    }
+}
