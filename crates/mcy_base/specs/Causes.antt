@@ -1,5 +1,5 @@
 -- Why a fault comes.
-use Rattle.std.specs.Prelude.{ℕ, ◌+◌, ◌-◌, ◌^◌, ◌≤◌, min}
+use Rattle.std.specs.Prelude.{ℕ, ◌+◌, ◌-◌, ◌^◌, ◌≤◌, min, nat_lt, if◌then◌else◌}
 
 -- the count of faults has risen, or stands at its type's end
 abbrev pub Rose : ℕ → ℕ → Type 0
@@ -9,3 +9,7 @@ Rose before now = min (before + 1) (2 ^ 64 - 1) ≤ now
 pub record IsCaused (before now : ℕ) (is_fault : Type 0) : Type 0 where
   pub later : before ≤ now
   pub failed : is_fault → Rose before now
+
+-- a count with one fault more, which stays at its type's end
+abbrev pub one_more : ℕ → ℕ
+one_more faults = if nat_lt faults (2 ^ 64 - 1) then faults + 1 else faults

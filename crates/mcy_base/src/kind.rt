@@ -1,3 +1,4 @@
+//! What has a limit.
 /// What there may be too many of.
 #[derive(Clone, Copy, Debug, PartialEq, Eq)]
 pub enum Kind {

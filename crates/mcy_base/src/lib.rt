@@ -1,4 +1,5 @@
-//! What all crates speak of: places, words, texts, lists, the causes of faults, and the counter of steps.
+//! What all crates speak of: places, words, texts, lists, the causes of faults, the numbers of calls and
+//! the counter of steps.
 #![tactic(auto)]
 
 mod calls;
@@ -18,3 +19,6 @@ pub use span::Span;
 pub use steps::Steps;
 pub use text::Text;
 pub use word::Word;
+
+#[cfg(test)]
+mod tests;

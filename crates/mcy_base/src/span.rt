@@ -1,8 +1,11 @@
-/// A place in a source: the file, counted from 0 in the order of reading, and the line and the byte
-/// of the line, both counted from 1.
+//! Places in the sources.
+/// A place in a source.
 #[derive(Clone, Copy, Debug, PartialEq, Eq)]
 pub struct Span {
+    /// The file, counted from 0 in the order of reading.
     pub file: u16,
+    /// The line, counted from 1.
     pub line: u32,
+    /// The byte of the line, counted from 1.
     pub col: u32,
 }

@@ -3,8 +3,8 @@
 //! `meta` says what the campaign is about, `mutations` which mutations were selected, and `journal`
 //! what was found, row by row. A book of which all three are empty is one that has not begun. Nothing
 //! is ever taken out of a book: it begins once, and its journal grows at the end.
-ghost use Rattle.std.specs.Prelude.{◌≡◌, IfOk};
-ghost use Rattle.mcy_keeper.specs.Books.{blank};
+ghost use Rattle.std.specs.Prelude.{◌≡◌, ◌↔◌, IsTrue, IfOk};
+ghost use Rattle.mcy_keeper.specs.Books.{IsBlank, begun, blank};
 
 use mcy_base::{BytesList, Items};
 use std::alloc::{AllocError, Global};
@@ -51,6 +51,30 @@ impl Book {
             mutations: BytesList::from_vec(Vec::new(alloc)),
             journal: Journal::from_vec(Vec::new(alloc)),
         }
+    }
+
+    /// Whether the book is empty, as one that has not begun.
+    pub fn is_blank(&self) -> bool
+        ensures { IsTrue result ↔ IsBlank self.now }
+    {
+        self.meta.as_slice().is_empty()
+            && self.mutations.as_slice().is_empty()
+            && self.journal.as_slice().is_empty()
+    }
+
+    /// The book that has just begun.
+    pub(crate) fn begun(
+        alloc: Global,
+        meta: &BytesList,
+        mutations: &BytesList,
+    ) -> Result<Book, AllocError>
+        ensures { IfOk result (λ b. b ≡ begun meta.now mutations.now) }
+    {
+        Ok(Book {
+            meta: meta.copy(alloc)?,
+            mutations: mutations.copy(alloc)?,
+            journal: Journal::from_vec(Vec::new(alloc)),
+        })
     }
 
     /// The same book.

@@ -5,10 +5,11 @@ ghost use Rattle.std.specs.Prelude.{◌≡◌, false};
 ghost use Rattle.std.proofs.Common.{sym, ◌∙◌};
 ghost use Rattle.mcy_keeper.specs.Books.{blank};
 
-use crate::book::{Book, Entry, Journal};
+use crate::book::{Book, Entry};
 use crate::keeper::{KeepError, Keeper};
 use mcy_base::BytesList;
 use std::alloc::Global;
+use std::marker::Model;
 
 /// A keeper in memory that never fails: only memory can be wanting.
 #[derive(Drop)]
@@ -18,11 +19,18 @@ pub struct CleanKeeper {
     settled: bool,
 }
 
+impl Model for CleanKeeper {
+    ghost use Rattle.mcy_keeper.specs.CleanKeeper.{Kept};
+
+    ghost Value = { Kept };
+
+    ghost view = { λ k. record { book = k.book; settled = k.settled } };
+}
+
 impl CleanKeeper {
     /// A keeper of the empty book.
     pub fn new(alloc: Global) -> CleanKeeper
-        ensures book { result.book ≡ blank }
-        ensures unsettled { result.settled ≡ false }
+        ensures { result ≡ record { book = blank; settled = false } }
     {
         CleanKeeper {
             alloc,
@@ -31,7 +39,7 @@ impl CleanKeeper {
         }
     }
 
-    /// The book that is kept.
+    /// The book that is kept. It takes no memory.
     pub fn held(&self) -> &Book
         ensures { result.now ≡ self.now.book }
     {
@@ -61,13 +69,7 @@ impl Keeper for CleanKeeper {
     }
 
     fn begin(&mut self, meta: &BytesList, mutations: &BytesList) -> Result<(), KeepError> {
-        let meta = meta.copy(self.alloc)?;
-        let mutations = mutations.copy(self.alloc)?;
-        self.book = Book {
-            meta,
-            mutations,
-            journal: Journal::from_vec(Vec::new(self.alloc)),
-        };
+        self.book = Book::begun(self.alloc, meta, mutations)?;
         Ok(())
     }
 

@@ -51,7 +51,7 @@ pub trait Keeper {
     /// How often a call has failed.
     ghost faults: { Self → ℕ };
 
-    /// Reads the whole book.
+    /// Reads the whole book. Where that fails, or what is read is no book, the answer is `Fault`.
     fn load(&mut self) -> Result<Book, KeepError>
         ensures tells { tells self.new → tells self.old }
         ensures answer { tells self.new → IfOk result (Keeps (holds self.new) (leaves self.new)) }
@@ -62,7 +62,8 @@ pub trait Keeper {
         ensures stays { OnErr result (is_settled self.new ≡ is_settled self.old) }
         ensures cause { IsCaused (faults self.old) (faults self.new) (IsErrOf result KeepError.Fault) };
 
-    /// Begins the book.
+    /// Begins the book, with these two lists and an empty journal. It is in the place as a whole or
+    /// not at all. Where the write fails the answer is `Fault`, and only a load can tell which.
     fn begin(&mut self, meta: &BytesList, mutations: &BytesList) -> Result<(), KeepError>
         requires settled { IsTrue (is_settled self.old) }
         requires empty { (was : Pages) → holds self.old was → IsBlank was }
@@ -78,7 +79,8 @@ pub trait Keeper {
         ensures stays { IsErrOf result KeepError.Memory → IsTrue (is_settled self.new) }
         ensures cause { IsCaused (faults self.old) (faults self.new) (IsErrOf result KeepError.Fault) };
 
-    /// Adds an entry at the journal's end.
+    /// Adds an entry at the journal's end. It is in the place as a whole or not at all. Where the write
+    /// fails the answer is `Fault`, and only a load can tell which.
     fn append(&mut self, entry: &Entry) -> Result<(), KeepError>
         requires settled { IsTrue (is_settled self.old) }
         requires next { (was : Pages) → holds self.old was → IsNext was entry.now }
@@ -93,7 +95,7 @@ pub trait Keeper {
         ensures stays { IsErrOf result KeepError.Memory → IsTrue (is_settled self.new) }
         ensures cause { IsCaused (faults self.old) (faults self.new) (IsErrOf result KeepError.Fault) };
 
-    /// Whether a load has ended well, and no write has failed since.
+    /// Whether a load has ended well, and no write has failed since. It takes no memory.
     fn settled(&self) -> bool
         ensures { result ≡ is_settled self.now };
 

@@ -4,7 +4,12 @@
 mod book;
 mod clean;
 mod keeper;
+mod memory;
 
 pub use book::{Book, Entry, Journal};
 pub use clean::CleanKeeper;
 pub use keeper::{KeepError, Keeper};
+pub use memory::MemoryKeeper;
+
+#[cfg(test)]
+mod tests;

@@ -1,3 +1,5 @@
 pub mod Files
-pub mod Recording
+pub mod MemoryFiles
+pub mod MemorySink
+pub mod RealSink
 pub mod Written

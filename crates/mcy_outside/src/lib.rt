@@ -4,10 +4,19 @@
 
 mod clean_files;
 mod files;
+mod memory_files;
 mod memory_sink;
+mod real_files;
+mod real_sink;
 mod sink;
 
 pub use clean_files::CleanFiles;
 pub use files::{FileError, SourceFiles};
+pub use memory_files::MemoryFiles;
 pub use memory_sink::MemorySink;
+pub use real_files::RealFiles;
+pub use real_sink::RealSink;
 pub use sink::{CleanSink, Sink, SinkFailed};
+
+#[cfg(test)]
+mod tests;

@@ -4,10 +4,8 @@
 //! is the number of the next call, `None` once no `u64` numbers it; `seen` is what was written; `faults` is
 //! how many calls have failed. `room` is for how many bytes there is room: `seen` has that capacity from
 //! the start, so no write takes memory, and `seen` is never longer.
-ghost use Rattle.std.specs.Prelude.{◌≡◌, ◌++◌, if◌then◌else◌, Some, is_ok, OnOk, OnErr, IsErr, vec_capacity};
-ghost use Rattle.mcy_base.specs.Causes.{IsCaused};
-ghost use Rattle.mcy_outside.specs.Recording.{Records, has_room, taken};
-ghost use Rattle.mcy_outside.specs.Written.{Appends, AppendsPart};
+ghost use Rattle.std.specs.Prelude.{◌≡◌, ◌++◌, if◌then◌else◌, Some, is_ok, vec_capacity};
+ghost use Rattle.mcy_outside.specs.MemorySink.{Records, has_room, taken};
 
 use crate::sink::{Sink, SinkFailed};
 use mcy_base::{at_call, call_after};
@@ -25,9 +23,9 @@ pub struct MemorySink {
 
 impl Model for MemorySink {
     ghost use Rattle.std.specs.Prelude.{◌≤◌, vec_len, vec_capacity};
-    ghost use Rattle.mcy_outside.specs.Recording.{Recording};
+    ghost use Rattle.mcy_outside.specs.MemorySink.{ScriptedSink};
 
-    ghost Value = { Recording };
+    ghost Value = { ScriptedSink };
 
     ghost view = { λ s. record { failing = s.failing.items; next = s.next; seen = s.seen.items; room = s.room; faults = s.faults } };
 
@@ -35,8 +33,9 @@ impl Model for MemorySink {
 }
 
 impl MemorySink {
-    /// A sink that was written what `room` holds, and has room for what `room` has capacity for. Each
-    /// call that `failing` numbers, counted from 0, fails after so many bytes of its piece, all at most.
+    /// A sink that holds what `room` holds, and has room for as many bytes as `room` has capacity for.
+    /// A call that `failing` numbers, counted from 0, fails after so many bytes of its piece, all at
+    /// most. A call whose piece has no room fails too; what has no room is left out as a whole.
     pub fn new(failing: Vec<(u64, u32)>, room: Vec<u8>) -> MemorySink
         ensures { result ≡ record { failing = failing.items; next = Some 0; seen = room.items; room = vec_capacity room; faults = 0 } }
     {
@@ -84,10 +83,7 @@ impl Sink for MemorySink {
     ghost faults = { λ s. s.faults };
 
     fn write_all(&mut self, piece: &[u8]) -> Result<(), SinkFailed>
-        ensures done { OnOk result (Appends (Some self.old.seen) (Some self.new.seen) piece.now) }
-        ensures part { OnErr result (AppendsPart (Some self.old.seen) (Some self.new.seen) piece.now) }
-        ensures cause { IsCaused self.old.faults self.new.faults (IsErr result) }
-        ensures exact { Records self.old self.new piece.now (is_ok result) }
+        ensures { Records self.old self.new piece.now (is_ok result) }
     {
         let part = at_call(self.failing.as_slice(), self.next);
         self.next = call_after(self.next);

@@ -4,8 +4,8 @@ use Rattle.std.specs.Prelude.{not}
 use Rattle.std.proofs.lemmas.Bool.Decides.{eqb_tells}
 use Rattle.mcy_top.specs.declared.cell.Bit.{Bit}
 use Rattle.mcy_top.specs.declared.inverted.Inverted.{Inverted}
-use Rattle.mcy_top.specs.declared.inverted.View.{View}
-use Rattle.mcy_top.specs.declared.inverted.View.TheVariants.{Plain, BitInverted, NetInverted}
+use Rattle.mcy_top.specs.declared.view.View.{View}
+use Rattle.mcy_top.specs.declared.view.View.TheVariants.{Plain, BitInverted, NetInverted}
 use Rattle.mcy_top.specs.Runs.{Nets}
 use Rattle.mcy_top.specs.Sound.{with_net, AllKnown}
 use Rattle.mcy_top.specs.Seen.{seen_by, view_of, sight_by, first_seen, view_after}

@@ -13,7 +13,7 @@ use Rattle.mcy_top.specs.declared.site.Place.TheVariants.{Cell}
 use Rattle.mcy_top.specs.declared.site.Site.{Site}
 use Rattle.mcy_top.specs.declared.inverted.Inverted.{Inverted}
 use Rattle.mcy_top.specs.declared.inverted.Inverted.TheVariants.{Nowhere, AtPort, AtNet}
-use Rattle.mcy_top.specs.declared.inverted.View.TheVariants.{Plain, BitInverted}
+use Rattle.mcy_top.specs.declared.view.View.TheVariants.{Plain, BitInverted}
 use Rattle.mcy_top.specs.Runs.{Nets, bit_value, values, Port, Sight}
 use Rattle.mcy_top.specs.Sound.{with_net}
 use Rattle.mcy_top.specs.Sites.{bits_sites, ports_sites, cells_sites, sites}

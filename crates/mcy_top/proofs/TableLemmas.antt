@@ -6,7 +6,7 @@ use Rattle.std.proofs.Math.Nat.{pow-le-pow_right}
 use Rattle.mcy_top.specs.declared.cell.Bit.{Bit}
 use Rattle.mcy_top.specs.declared.cell.Bit.TheVariants.{Fixed}
 use Rattle.mcy_top.specs.declared.cell.Cell.{Cell}
-use Rattle.mcy_top.specs.declared.inverted.View.{View}
+use Rattle.mcy_top.specs.declared.view.View.{View}
 use Rattle.mcy_top.specs.Numbers.{digit, number}
 use Rattle.mcy_top.specs.Runs.{Nets, output_port}
 use Rattle.mcy_top.specs.Sound.{with_net, AllBelow, AllPortsFit, CellFits, AllCellsFit}

@@ -3,8 +3,8 @@ use Rattle.std.specs.Prelude.{zero, suc, Bool, false, not, List, slice_set, slic
 use Rattle.mcy_top.specs.declared.cell.Bit.{Bit}
 use Rattle.mcy_top.specs.declared.inverted.Inverted.{Inverted}
 use Rattle.mcy_top.specs.declared.inverted.Inverted.TheVariants.{Nowhere, AtPort, AtNet}
-use Rattle.mcy_top.specs.declared.inverted.View.{View}
-use Rattle.mcy_top.specs.declared.inverted.View.TheVariants.{Plain, BitInverted, NetInverted}
+use Rattle.mcy_top.specs.declared.view.View.{View}
+use Rattle.mcy_top.specs.declared.view.View.TheVariants.{Plain, BitInverted, NetInverted}
 use Rattle.mcy_top.specs.Runs.{Nets, Reader, Port, Sight, bit_value, values}
 use Rattle.mcy_top.specs.Sound.{with_net}
 use Rattle.mcy_top.specs.Mutants.{same_reader}

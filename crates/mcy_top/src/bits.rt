@@ -7,7 +7,7 @@ ghost use Rattle.mcy_top.specs.Seen.{seen_by, first_seen};
 ghost use Rattle.mcy_top.specs.Settled.{laid};
 
 use crate::cell::Bit;
-use crate::inverted::View;
+use crate::view::View;
 
 /// What a reader sees at its first bit.
 fn bit_seen(table: &[bool], view: View, bit: Bit) -> bool

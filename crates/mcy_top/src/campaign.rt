@@ -50,14 +50,14 @@ pub(crate) fn make_campaign(
     alloc: Global,
     config: &[u8],
     source: &[u8],
-    module: &ThinModule,
+    parsed: &ThinModule,
 ) -> Result<Campaign, AllocError>
     requires project { IsProject config.now }
-    requires text { IsSource source.now module.now }
-    requires few { length (input_names module.now.ports) ≤ max_free_bits }
+    requires text { IsSource source.now parsed.now }
+    requires few { length (input_names parsed.now.ports) ≤ max_free_bits }
     ensures { IfOk result (λ c. IsCampaign config.now source.now c) }
 {
-    let netlist = lower(alloc, module)?;
+    let netlist = lower(alloc, parsed)?;
     let places = sites(alloc, &netlist)?;
     let mutations = site_texts(alloc, &netlist, SOURCE_NAME, &places)?;
     Ok(Campaign {

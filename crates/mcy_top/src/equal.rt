@@ -15,34 +15,15 @@ ghost use Rattle.mcy_top.specs.Trials.{inverted_machine, shown_at, EqualAt};
 
 use crate::bits::{lay, number_seen};
 use crate::cell::{Bit, BitList};
-use crate::inverted::{Inverted, View};
+use crate::inverted::Inverted;
 use crate::netlist::Netlist;
 use crate::settle::settle;
 use crate::site::Site;
+use crate::view::View;
 use std::alloc::{AllocError, Global};
 
 /// The most bits that the inputs may have together for all their values to be tried.
 pub(crate) const MAX_INPUT_BITS: usize = 8;
-
-/// Whether the inputs have few enough bits together for the equivalence test.
-pub(crate) fn has_few_inputs(netlist: &Netlist) -> bool
-    ensures { IsTrue result ↔ (input_bits netlist.now.raw ≤ MAX_INPUT_BITS) }
-{
-    is_within(netlist.raw().inputs.as_slice(), MAX_INPUT_BITS)
-}
-
-/// Whether ports have at most this many bits together.
-fn is_within(ports: &[BitList], limit: usize) -> bool
-    ensures { IsTrue result ↔ (total_width ports.now ≤ limit) }
-{
-    match ports {
-        [] => true,
-        [port, rest @ ..] => {
-            let width = port.as_slice().len();
-            width <= limit && is_within(rest, limit - width)
-        }
-    }
-}
 
 /// Whether the mutant at a site shows at its outputs what the design shows, for all inputs. Where it does, it shows
 /// the same on every list of inputs.
@@ -59,11 +40,22 @@ pub(crate) fn one_step_equal(
         → EqualOnAllRuns (design netlist.now.raw) (mutant netlist.now.raw site.now)) }
 {
     let raw = netlist.raw();
-    let inverted = Inverted::at(raw, site);
     let bits = all_bits(alloc, raw.inputs.as_slice())?;
+    let trial = Trial {
+        netlist,
+        inverted: Inverted::at(raw, site),
+        bits: &bits,
+    };
     let mut first = vec![in alloc; false; netlist.nets() as usize]?;
     let mut second = vec![in alloc; false; netlist.nets() as usize]?;
-    Ok(equal_at_all(netlist, inverted, &bits, &mut first, &mut second))
+    Ok(trial.is_equal(&mut first, &mut second))
+}
+
+/// Whether the inputs have few enough bits together for the equivalence test.
+pub(crate) fn has_few_inputs(netlist: &Netlist) -> bool
+    ensures { IsTrue result ↔ (input_bits netlist.now.raw ≤ MAX_INPUT_BITS) }
+{
+    is_within(netlist.raw().inputs.as_slice(), MAX_INPUT_BITS)
 }
 
 /// The bits of all ports, one port after the other.
@@ -77,52 +69,62 @@ fn all_bits(alloc: Global, ports: &[BitList]) -> Result<Vec<Bit>, AllocError>
     Ok(bits)
 }
 
-/// Whether the mutant shows what the design shows, for each number over the bits of all inputs.
-fn equal_at_all(
-    netlist: &Netlist,
-    inverted: Inverted,
-    bits: &[Bit],
-    first: &mut [bool],
-    second: &mut [bool],
-) -> bool
-    requires room { length first.old ≡ netlist.now.nets }
-    requires mutant_room { length second.old ≡ netlist.now.nets }
-    requires bits { bits.now ≡ all_bits netlist.now.raw.inputs }
-    requires small { input_bits netlist.now.raw ≤ MAX_INPUT_BITS }
-    ensures { IsTrue result
-        ↔ OneStepEqual (design netlist.now.raw) (inverted_machine netlist.now.raw inverted) }
+/// Whether ports have at most this many bits together.
+fn is_within(ports: &[BitList], limit: usize) -> bool
+    ensures { IsTrue result ↔ (total_width ports.now ≤ limit) }
 {
-    let count = 2u32.pow(bits.len() as u32);
-    for number in 0..count {
-        if !equal_at(netlist, inverted, bits, u128::from(number), first, second) {
-            return false;
+    match ports {
+        [] => true,
+        [port, rest @ ..] => {
+            let width = port.as_slice().len();
+            width <= limit && is_within(rest, limit - width)
         }
     }
-    true
 }
 
-/// Whether the mutant shows what the design shows, for the inputs whose bits together are this number's.
-fn equal_at(
-    netlist: &Netlist,
+/// A design beside its mutant: what the mutant inverts, and the bits of all inputs together.
+#[derive(Drop)]
+struct Trial<'a> {
+    netlist: &'a Netlist,
     inverted: Inverted,
-    bits: &[Bit],
-    number: u128,
-    first: &mut [bool],
-    second: &mut [bool],
-) -> bool
-    requires room { length first.old ≡ netlist.now.nets }
-    requires mutant_room { length second.old ≡ netlist.now.nets }
-    requires bits { bits.now ≡ all_bits netlist.now.raw.inputs }
-    requires fits { number < 2 ^ length bits.now }
-    ensures { IsTrue result
-        ↔ EqualAt (design netlist.now.raw) (inverted_machine netlist.now.raw inverted) number }
-{
-    let raw = netlist.raw();
-    lay(first, bits, number);
-    settle(netlist, Inverted::Nowhere, first);
-    lay(second, bits, number);
-    settle(netlist, inverted, second);
-    shows_same(raw.outputs.as_slice(), first, inverted, second)
+    bits: &'a [Bit],
+    ghost all_inputs: { bits.now ≡ all_bits netlist.now.raw.inputs },
+}
+
+impl Trial<'_> {
+    /// Whether the mutant shows what the design shows, for each number over the bits of all inputs. The tables are
+    /// the design's and the mutant's.
+    fn is_equal(&self, first: &mut [bool], second: &mut [bool]) -> bool
+        requires room { length first.old ≡ self.now.netlist.now.nets }
+        requires mutant_room { length second.old ≡ self.now.netlist.now.nets }
+        requires small { input_bits self.now.netlist.now.raw ≤ MAX_INPUT_BITS }
+        ensures { let raw = self.now.netlist.now.raw in
+            IsTrue result ↔ OneStepEqual (design raw) (inverted_machine raw self.now.inverted) }
+    {
+        let count = 2u32.pow(self.bits.len() as u32);
+        for number in 0..count {
+            if !self.is_equal_at(u128::from(number), first, second) {
+                return false;
+            }
+        }
+        true
+    }
+
+    /// The same for the inputs whose bits together are this number's.
+    fn is_equal_at(&self, number: u128, first: &mut [bool], second: &mut [bool]) -> bool
+        requires room { length first.old ≡ self.now.netlist.now.nets }
+        requires mutant_room { length second.old ≡ self.now.netlist.now.nets }
+        requires fits { number < 2 ^ length self.now.bits.now }
+        ensures { let raw = self.now.netlist.now.raw in
+            IsTrue result ↔ EqualAt (design raw) (inverted_machine raw self.now.inverted) number }
+    {
+        let raw = self.netlist.raw();
+        lay(first, self.bits, number);
+        settle(self.netlist, Inverted::Nowhere, first);
+        lay(second, self.bits, number);
+        settle(self.netlist, self.inverted, second);
+        shows_same(raw.outputs.as_slice(), first, self.inverted, second)
+    }
 }
 
 /// Whether output ports show the same in the design's table and in the mutant's.
@@ -130,7 +132,8 @@ fn shows_same(outputs: &[BitList], first: &[bool], inverted: Inverted, second: &
     requires fit { AllPortsFit (length first.now) outputs.now }
     requires mutant_fit { AllPortsFit (length second.now) outputs.now }
     ensures { IsTrue result
-        ↔ (shown_at (sight_by Nowhere (nets_of first.now)) outputs.now ≡ shown_at (sight_by inverted (nets_of second.now)) outputs.now) }
+        ↔ (shown_at (sight_by Nowhere (nets_of first.now)) outputs.now
+        ≡ shown_at (sight_by inverted (nets_of second.now)) outputs.now) }
 {
     match outputs {
         [] => true,

@@ -8,11 +8,12 @@ ghost use Rattle.mcy_top.specs.declared.site.Mode.TheVariants.{Inv};
 ghost use Rattle.mcy_top.specs.Runs.{Port, Outputs};
 ghost use Rattle.mcy_top.specs.Sites.{sites};
 ghost use Rattle.mcy_top.specs.Mutants.{sight_at, sight_at_cell};
-ghost use Rattle.mcy_top.specs.Seen.{view_of, sight_by, view_after};
+ghost use Rattle.mcy_top.specs.Seen.{view_of, sight_by};
 
 use crate::cell::{Bit, Cell};
 use crate::netlist::RawNetlist;
 use crate::site::{Place, Site};
+use crate::view::View;
 
 /// Where bits are inverted.
 #[derive(Clone, Copy)]
@@ -23,17 +24,6 @@ pub(crate) enum Inverted {
     AtPort { cell: u32, port: u8, bit: u8 },
     /// At a net, for all its readers.
     AtNet(u32),
-}
-
-/// How a reader sees its bits.
-#[derive(Clone, Copy)]
-pub(crate) enum View {
-    /// As the nets are.
-    Plain,
-    /// With this bit of the reader's inverted, counted from 0.
-    BitInverted(u8),
-    /// With this net inverted.
-    NetInverted(u32),
 }
 
 /// The number of the cell at a place.
@@ -96,19 +86,6 @@ impl Inverted {
         match self {
             Inverted::Nowhere | Inverted::AtPort { .. } => View::Plain,
             Inverted::AtNet(n) => View::NetInverted(n),
-        }
-    }
-}
-
-impl View {
-    /// How the reader sees the bits after its first.
-    pub(crate) fn after_first(self) -> View
-        ensures { result ≡ view_after self }
-    {
-        match self {
-            View::BitInverted(0) => View::Plain,
-            View::BitInverted(i) => View::BitInverted(i - 1),
-            View::Plain | View::NetInverted(_) => self,
         }
     }
 }

@@ -26,6 +26,7 @@ mod sound;
 mod state;
 mod status;
 mod thin;
+mod view;
 mod work;
 
 pub use command::{Command, read_words};

@@ -1,7 +1,10 @@
-//! Names (IEEE 1364-2005, 3.7) of at most 32 bytes.
+//! Names: what IEEE 1364-2005, 3.7 calls simple identifiers, of at most 32 bytes.
 ghost use Rattle.std.specs.Prelude.{◌≡◌, ◌↔◌, IsTrue, map};
 ghost use Rattle.std.specs.List.{All, Contains};
 ghost use Rattle.mcy_top.specs.Names.{IsName, is_name_byte, is_name_start, reserved};
+
+/// The most bytes that a name has.
+const MAX_NAME_LEN: usize = 32;
 
 /// The reserved words (IEEE 1364-2005, Annex B).
 pub const RESERVED: [&str; 124] = [
@@ -171,7 +174,7 @@ fn are_name_bytes(name: &[u8]) -> bool
 pub fn is_name(name: &[u8]) -> bool
     ensures { IsTrue result ↔ IsName name.now }
 {
-    if name.is_empty() || name.len() > 32 {
+    if name.is_empty() || name.len() > MAX_NAME_LEN {
         return false;
     }
     is_name_start(name[0]) && are_name_bytes(name) && !is_reserved(name)

@@ -83,13 +83,13 @@ fn read_module<F: SourceFiles>(
     ensures cause { IfErr result (HasReadCause (F.faults files.old) (F.faults files.new)) }
 {
     let source = read_file(alloc, files, SOURCE_NAME)?;
-    let Some(module) = read_source(alloc, &source)? else {
+    let Some(parsed) = read_source(alloc, &source)? else {
         return Err(Refusal::Unbuilt(Part::Source));
     };
-    if input_count(module.ports.as_slice()) > MAX_FREE_BITS {
+    if input_count(parsed.ports.as_slice()) > MAX_FREE_BITS {
         return Err(Refusal::SourceBad(too_many_free_bits(alloc)?));
     }
-    Ok((source, module))
+    Ok((source, parsed))
 }
 
 /// The sources have too many free bits together.
@@ -114,6 +114,6 @@ pub(crate) fn read_campaign<F: SourceFiles>(
     ensures cause { IfErr result (HasReadCause (F.faults files.old) (F.faults files.new)) }
 {
     let config = read_project(alloc, files)?;
-    let (source, module) = read_module(alloc, files)?;
-    Ok(make_campaign(alloc, &config, &source, &module)?)
+    let (source, parsed) = read_module(alloc, files)?;
+    Ok(make_campaign(alloc, &config, &source, &parsed)?)
 }

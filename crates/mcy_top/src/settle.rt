@@ -66,7 +66,8 @@ fn advance_all(table: &mut [bool], inverted: Inverted, cells: &[Cell])
 /// Gives the nets the values that they have in a cycle with the inputs that are laid.
 pub(crate) fn settle(netlist: &Netlist, inverted: Inverted, table: &mut [bool])
     requires room { length table.old ≡ netlist.now.nets }
-    ensures { Holds (sight_by inverted (nets_of table.new)) (nets_of table.new) netlist.now.raw (port_numbers (nets_of table.old) netlist.now.raw.inputs) }
+    ensures { let inputs = port_numbers (nets_of table.old) netlist.now.raw.inputs in
+        Holds (sight_by inverted (nets_of table.new)) (nets_of table.new) netlist.now.raw inputs }
 {
     advance_all(table, inverted, netlist.raw().cells.as_slice());
 }

@@ -2,6 +2,8 @@
 //! names (docs/PROFILE.md).
 mod reader;
 mod rules;
+#[cfg(test)]
+mod tests;
 mod text;
 
 use mcy_base::{Bytes, Items};

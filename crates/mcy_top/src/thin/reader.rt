@@ -54,7 +54,8 @@ fn ports_of(alloc: Global, header: &[u8]) -> Result<Items<PortDecl>, AllocError>
     ensures { IfOk result (λ ports. ports ≡ ports_of header.now) }
 {
     let mut ports = Vec::new(alloc);
-    let pieces = pieces_of(alloc, skip(header, 8), b',')?;
+    // One byte is left before each port: the parenthesis before the first, a space before the others.
+    let pieces = pieces_of(alloc, skip(header, b"module g".len()), b',')?;
     for piece in &pieces {
         ports.push(port_of(alloc, piece)?)?;
     }
@@ -65,9 +66,9 @@ fn port_of(alloc: Global, piece: &[u8]) -> Result<PortDecl, AllocError>
     ensures { IfOk result (λ port. port ≡ port_of piece.now) }
 {
     let (direction, start) = if piece.get(1) == Some(&b'o') {
-        (Direction::Output, 8)
+        (Direction::Output, b" output ".len())
     } else {
-        (Direction::Input, 7)
+        (Direction::Input, b" input ".len())
     };
     Ok(PortDecl {
         direction,
@@ -90,6 +91,7 @@ fn items_of(alloc: Global, lines: &[&[u8]]) -> Result<Items<Item>, AllocError>
 fn item_of(alloc: Global, line: &[u8]) -> Result<Item, AllocError>
     ensures { IfOk result (λ item. item ≡ item_of line.now) }
 {
+    // Two words of no bytes, the kind, the name, `=`, the left name, the operator, and the right name with what ends it.
     let words = pieces_of(alloc, line, b' ')?;
     Ok(Item {
         kind: kind_of(piece_at(&words, 2)),

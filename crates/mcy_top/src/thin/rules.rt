@@ -9,13 +9,16 @@ use crate::names::is_name;
 use std::alloc::{AllocError, Global};
 use std::collections::BTreeSet;
 
+/// The most lines that a module has.
+const MAX_ITEMS: usize = 3;
+
 /// Whether the module is in the thin form.
 pub fn is_thin(alloc: Global, m: &ThinModule) -> Result<bool, AllocError>
     ensures { IfOk result (λ thin. IsTrue thin ↔ IsThin m.now) }
 {
     let ports = m.ports.as_slice();
     let items = m.items.as_slice();
-    if ports.is_empty() || items.is_empty() || items.len() > 3 {
+    if ports.is_empty() || items.is_empty() || items.len() > MAX_ITEMS {
         return Ok(false);
     }
     if !are_named(ports) || !are_distinct(alloc, ports)? {

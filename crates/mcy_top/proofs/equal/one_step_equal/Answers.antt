@@ -11,9 +11,9 @@ use Rattle.mcy_top.proofs.equal.one_step_equal.Goals as goal
 pub returns-clause-equal : goal.returns-clause-equal
 returns-clause-equal c =
     let raw : RawNetlist = c.args.netlist.now.raw in
-    let same : sight_by c.at-inverted.result ≡ sight_at raw c.args.site.now = c.at-inverted.ensures ∙ ap (λ (r : RawNetlist). sight_at r c.args.site.now) c.raw-raw.ensures.value in
-    let P : (Nets → Sight) → Type 0 = λ sight. IsTrue c.equal_at_all.result ↔ OneStepEqual (design raw) (record { netlist = raw; sight = sight }) in
-    subst P same c.equal_at_all.ensures
+    let same : sight_by c.at.result ≡ sight_at raw c.args.site.now = c.at.ensures ∙ ap (λ (r : RawNetlist). sight_at r c.args.site.now) c.raw-raw.ensures.value in
+    let P : (Nets → Sight) → Type 0 = λ sight. IsTrue c.is_equal.result ↔ OneStepEqual (design raw) (record { netlist = raw; sight = sight }) in
+    subst P same c.is_equal.ensures
 
 pub returns-clause-all_runs : goal.returns-clause-all_runs
 returns-clause-all_runs c told = one_step_to_all_runs (design c.args.netlist.now.raw) (mutant c.args.netlist.now.raw c.args.site.now) ((returns-clause-equal c).0 told)
