@@ -8,11 +8,11 @@ use mcy_keeper::{CleanKeeper, Keeper};
 use mcy_outside::{RealFiles, RealSink, Sink, SourceFiles};
 use mcy_top::{Outcome, exit_status, mcy_main};
 use std::alloc::{AllocError, Global};
+use std::env::{self, Env};
+use std::io;
 use std::marker::Brand;
 use std::process::ExitCode;
 use std::sync::ledger::{Blank, Ledger};
-use std::env::{self, Env};
-use std::io;
 
 /// The words after the program's name. An error is want of memory, or a word that is no text.
 fn words_of<R: Env + Alloc<A = Global>>(rt: &R) -> io::Result<Vec<String>> {

@@ -4,6 +4,8 @@ use Rattle.mcy_base.specs.Causes.{Rose}
 use Rattle.mcy_keeper.specs.declared.book.Book.{Book}
 use Rattle.mcy_keeper.specs.Books.{IsBlank}
 use Rattle.mcy_outside.specs.Files.{Held, Gives, IsLarge}
+use Rattle.mcy_top.specs.declared.equal.TheConstants.{MAX_FREE_BITS}
+use Rattle.mcy_top.specs.declared.campaign.TheConstants.{MAX_BYTES}
 use Rattle.mcy_top.specs.declared.command.Command.{Command}
 use Rattle.mcy_top.specs.declared.command.Command.TheVariants.{Run}
 use Rattle.mcy_top.specs.declared.campaign.Campaign.{Campaign}
@@ -16,7 +18,7 @@ use Rattle.mcy_top.specs.declared.outcome.Outcome.TheVariants.{Done, Usage, Sour
 use Rattle.mcy_top.specs.Commands.{command_of}
 use Rattle.mcy_top.specs.Projects.{IsProject}
 use Rattle.mcy_top.specs.ThinModules.{IsSource, input_names}
-use Rattle.mcy_top.specs.Campaigns.{config_name, source_name, max_bytes, max_free_bits, Exceeds, Lacks}
+use Rattle.mcy_top.specs.Campaigns.{config_name, source_name, Exceeds, Lacks}
 use Rattle.mcy_top.specs.Reads.{IsRead, IsUnmade}
 use Rattle.mcy_top.specs.Life.{Answered, Answers, Early, EndsEarly, HasCause, Life, Takes}
 use Rattle.mcy_top.specs.Complete.{Completes, IsReadable, IsReady, NoneRose}
@@ -26,31 +28,31 @@ given_same : (held : Option (List ℕ)) (max : ℕ) (a b : List ℕ) → Gives h
 given_same held max a b one two = let is : Some a ≡ Some b = sym one.same ∙ two.same in cc
 
 -- what a readable map rules out
-lacks_not : (map : Held) (name bytes : List ℕ) → Gives (map name) max_bytes bytes → ¬ Lacks (Some map) name
+lacks_not : (map : Held) (name bytes : List ℕ) → Gives (map name) MAX_BYTES bytes → ¬ Lacks (Some map) name
 lacks_not map name bytes given none = let is : Some bytes ≡ None = sym given.same ∙ none in cc
 
-exceeds_not : (map : Held) (name bytes : List ℕ) → Gives (map name) max_bytes bytes → ¬ Exceeds (Some map) name
+exceeds_not : (map : Held) (name bytes : List ℕ) → Gives (map name) MAX_BYTES bytes → ¬ Exceeds (Some map) name
 exceeds_not map name bytes given large =
-    let more : IsLarge (Some bytes) max_bytes = subst (λ (o : Option (List ℕ)). IsLarge o max_bytes) given.same large in
-    let few : length bytes ≤ max_bytes = given.few in omega arith
+    let more : IsLarge (Some bytes) MAX_BYTES = subst (λ (o : Option (List ℕ)). IsLarge o MAX_BYTES) given.same large in
+    let few : length bytes ≤ MAX_BYTES = given.few in omega arith
 
 -- each file that is read is there
-given_at : (held : Option Held) (r : IsReadable held) (name : List ℕ) → IsRead (Some r.map) name → (bytes : List ℕ) × Gives (r.map name) max_bytes bytes
-given_at held r name (inl is) = (r.config, subst (λ (n : List ℕ). Gives (r.map n) max_bytes r.config) (sym is) r.got_config)
-given_at held r name (inr is) = (r.bytes, subst (λ (n : List ℕ). Gives (r.map n) max_bytes r.bytes) (sym is.0) r.got_source)
+given_at : (held : Option Held) (r : IsReadable held) (name : List ℕ) → IsRead (Some r.map) name → (bytes : List ℕ) × Gives (r.map name) MAX_BYTES bytes
+given_at held r name (inl is) = (r.config, subst (λ (n : List ℕ). Gives (r.map n) MAX_BYTES r.config) (sym is) r.got_config)
+given_at held r name (inr is) = (r.bytes, subst (λ (n : List ℕ). Gives (r.map n) MAX_BYTES r.bytes) (sym is.0) r.got_source)
 
 -- files that are accepted are refused for faults of reading and want of memory alone
 unmade_not : (held : Option Held) (r : IsReadable held) (refusal : Refusal) → IsUnmade (Some r.map) refusal → ((name : List ℕ) → refusal ≢ RefusedRead name) → refusal ≡ RefusedMemory
 unmade_not held r (RefusedMissing name) why fault = let at = given_at held r name why.0 in absurd (lacks_not r.map name at.0 at.1 why.1)
 unmade_not held r (RefusedTooLarge name) why fault = let at = given_at held r name why.0 in absurd (exceeds_not r.map name at.0 at.1 why.1)
 unmade_not held r (RefusedRead name) why fault = absurd (fault name refl)
-unmade_not held r (RefusedUnbuilt Project) (config, got, bad) fault = absurd (bad (subst IsProject (given_same (r.map config_name) max_bytes r.config config r.got_config got) r.project))
-unmade_not held r (RefusedUnbuilt Source) (source, got, bad) fault = absurd (bad r.parsed (subst (λ (b : List ℕ). IsSource b r.parsed) (given_same (r.map source_name) max_bytes r.bytes source r.got_source got.got) r.text))
+unmade_not held r (RefusedUnbuilt Project) (config, got, bad) fault = absurd (bad (subst IsProject (given_same (r.map config_name) MAX_BYTES r.config config r.got_config got) r.project))
+unmade_not held r (RefusedUnbuilt Source) (source, got, bad) fault = absurd (bad r.parsed (subst (λ (b : List ℕ). IsSource b r.parsed) (given_same (r.map source_name) MAX_BYTES r.bytes source r.got_source got.got) r.text))
 unmade_not held r (RefusedSource error) why fault =
-    let bytes : r.bytes ≡ why.source = given_same (r.map source_name) max_bytes r.bytes why.source r.got_source why.got.got in
+    let bytes : r.bytes ≡ why.source = given_same (r.map source_name) MAX_BYTES r.bytes why.source r.got_source why.got.got in
     let same : r.parsed ≡ why.parsed = source_once why.source r.parsed why.parsed (subst (λ (b : List ℕ). IsSource b r.parsed) bytes r.text) why.text in
-    let many : max_free_bits < length (input_names why.parsed.ports) = why.many in
-    let few : length (input_names why.parsed.ports) ≤ max_free_bits = subst (λ (m : ThinModule). length (input_names m.ports) ≤ max_free_bits) same r.few in
+    let many : MAX_FREE_BITS < length (input_names why.parsed.ports) = why.many in
+    let few : length (input_names why.parsed.ports) ≤ MAX_FREE_BITS = subst (λ (m : ThinModule). length (input_names m.ports) ≤ MAX_FREE_BITS) same r.few in
     absurd (omega arith)
 unmade_not held r RefusedMemory why fault = refl
 

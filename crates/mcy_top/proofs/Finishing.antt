@@ -24,9 +24,9 @@ known_word netlist (Some site) word (inr right) = λ is. let fail : word ≡ 1 =
 none_given_up : (c : Campaign) (rows : List Entry) → AreTrue c rows → given_up rows ≡ []
 none_given_up c [] right = refl
 none_given_up c (e ∷ more) right = elim (eqb_tells e.word 3) [
-    | inl h ↦ absurd (known_word c.netlist.raw (slice_get c.sites e.mutation) e.word right.0 h.1)
-    | inr h ↦ rw h.0 (none_given_up c more right.1)
-  ]
+  | inl h ↦ absurd (known_word c.netlist.raw (slice_get c.sites e.mutation) e.word right.0 h.1)
+  | inr h ↦ rw h.0 (none_given_up c more right.1)
+]
 
 -- a mutation's rows are the answers that the campaign defines
 answers_are : (c : Campaign) (m : ℕ) (earlier rows : List Entry) → AreRows c earlier rows → AreTrue c rows → is_ended (ask (answers_of m (earlier ++ rows))) ≡ true → AreAnswers c [] m (answers_of m earlier) (answers_of m rows)

@@ -23,9 +23,9 @@ other_rows : (m : ℕ) (rows : List Entry) (e : Entry) → answers_of m rows ≡
 other_rows m [] e none is k d below = absurd (omega arith)
 other_rows m (r ∷ rows) e none is zero d below = λ pair. elim (eqb_tells r.mutation m) [ inl h ↦ (let some : answer_of r ∷ answers_of m rows ≡ [] = rw h.0 at none in cc) | inr h ↦ absurd (h.1 (pair.0 ∙ is)) ]
 other_rows m (r ∷ rows) e none is (suc k) d below = elim (eqb_tells r.mutation m) [
-    | inl h ↦ absurd (let some : answer_of r ∷ answers_of m rows ≡ [] = rw h.0 at none in cc)
-    | inr h ↦ other_rows m rows e (rw h.0 at none) is k d (omega arith)
-  ]
+  | inl h ↦ absurd (let some : answer_of r ∷ answers_of m rows ≡ [] = rw h.0 at none in cc)
+  | inr h ↦ other_rows m rows e (rw h.0 at none) is k d (omega arith)
+]
 
 eq_word : (netlist : RawNetlist) (site : Option Site) (word : ℕ) → IsTrueWordAt netlist site word → IsEqWord word
 eq_word netlist None word h = absurd h
@@ -91,9 +91,9 @@ known_ended c rows words m word tracks at = ap (λ (l : List Answer). is_ended (
 -- after its row a mutation is finished, and the others stand as before
 pub more_ended : (rows : List Entry) (e : Entry) (m : ℕ) → answers_of e.mutation rows ≡ [] → is_ended (ask (answers_of m rows)) ≡ true ⊎ (e.mutation ≡ m) → is_ended (ask (answers_of m (rows ++ e ∷ []))) ≡ true
 more_ended rows e m none was = elim (eqb_tells e.mutation m) [
-    | inl h ↦ (let empty : answers_of m rows ≡ [] = subst (λ (k : ℕ). answers_of k rows ≡ []) h.1 none in ap (λ (l : List Answer). is_ended (ask l)) (answers-same m rows e h.1 ∙ ap (λ (l : List Answer). l ++ answer_of e ∷ []) empty) ∙ ends e.word)
-    | inr h ↦ elim was [ inl before ↦ ap (λ (l : List Answer). is_ended (ask l)) (answers-other m rows e h.1) ∙ before | inr is ↦ absurd (h.1 is) ]
-  ]
+  | inl h ↦ (let empty : answers_of m rows ≡ [] = subst (λ (k : ℕ). answers_of k rows ≡ []) h.1 none in ap (λ (l : List Answer). is_ended (ask l)) (answers-same m rows e h.1 ∙ ap (λ (l : List Answer). l ++ answer_of e ∷ []) empty) ∙ ends e.word)
+  | inr h ↦ elim was [ inl before ↦ ap (λ (l : List Answer). is_ended (ask l)) (answers-other m rows e h.1) ∙ before | inr is ↦ absurd (h.1 is) ]
+]
 
 below_or_at : (k m : ℕ) → k < m + 1 → (k < m) ⊎ (m ≡ k)
 below_or_at k m h = elim (eqb_tells m k) [ inl e ↦ inr e.1 | inr e ↦ inl (let other : m ≢ k = e.1 in omega arith) ]
@@ -114,6 +114,6 @@ ended_added c old new m added none before k below =
 -- a mutation whose test has a word is finished
 pub ended_known : (c : Campaign) (rows : List Entry) (words : List (Option TestWord)) (m : ℕ) → Tracks c rows words → HasWord words m → ((k : ℕ) → k < m → is_ended (ask (answers_of k rows)) ≡ true) → (k : ℕ) → k < m + 1 → is_ended (ask (answers_of k rows)) ≡ true
 ended_known c rows words m tracks known before k below = elim (below_or_at k m below) [
-    | inl less ↦ before k less
-    | inr at ↦ subst (λ (j : ℕ). is_ended (ask (answers_of j rows)) ≡ true) at (known_ended c rows words m known.0 tracks known.1)
-  ]
+  | inl less ↦ before k less
+  | inr at ↦ subst (λ (j : ℕ). is_ended (ask (answers_of j rows)) ≡ true) at (known_ended c rows words m known.0 tracks known.1)
+]

@@ -12,16 +12,16 @@ use Rattle.mcy_top.specs.Texts.{groups_from}
 pub answers-same : (m : ℕ) (rows : List Entry) (e : Entry) → e.mutation ≡ m → answers_of m (rows ++ e ∷ []) ≡ answers_of m rows ++ answer_of e ∷ []
 answers-same m [] e is = elim (eqb_tells e.mutation m) [ inl h ↦ rw h.0 refl | inr h ↦ absurd (h.1 is) ]
 answers-same m (r ∷ rows) e is = elim (eqb_tells r.mutation m) [
-    | inl h ↦ rw h.0 (ap (λ (t : List Answer). answer_of r ∷ t) (answers-same m rows e is))
-    | inr h ↦ rw h.0 (answers-same m rows e is)
-  ]
+  | inl h ↦ rw h.0 (ap (λ (t : List Answer). answer_of r ∷ t) (answers-same m rows e is))
+  | inr h ↦ rw h.0 (answers-same m rows e is)
+]
 
 pub answers-other : (m : ℕ) (rows : List Entry) (e : Entry) → e.mutation ≢ m → answers_of m (rows ++ e ∷ []) ≡ answers_of m rows
 answers-other m [] e other = elim (eqb_tells e.mutation m) [ inl h ↦ absurd (other h.1) | inr h ↦ rw h.0 refl ]
 answers-other m (r ∷ rows) e other = elim (eqb_tells r.mutation m) [
-    | inl h ↦ rw h.0 (ap (λ (t : List Answer). answer_of r ∷ t) (answers-other m rows e other))
-    | inr h ↦ rw h.0 (answers-other m rows e other)
-  ]
+  | inl h ↦ rw h.0 (ap (λ (t : List Answer). answer_of r ∷ t) (answers-other m rows e other))
+  | inr h ↦ rw h.0 (answers-other m rows e other)
+]
 
 -- a count, with one element more in front
 pub count-cons : {X : Type 0} (p : X → Bool) (x : X) (xs : List X) → count_by p (x ∷ xs) ≡ cond (p x) 1 0 + count_by p xs

@@ -1,6 +1,8 @@
 -- The campaign of a project and its source.
 use Rattle.std.specs.Prelude.{◌≡◌, ℕ, ◌≤◌, List, [], ◌∷◌, ◌++◌, length, map, codes, ⊤, Option, None, Some}
 use Rattle.mcy_outside.specs.Files.{Held, Gives, IsLarge}
+use Rattle.mcy_top.specs.declared.equal.TheConstants.{MAX_FREE_BITS}
+use Rattle.mcy_top.specs.declared.campaign.TheConstants.{CONFIG_NAME, MAX_BYTES, SOURCE_NAME}
 use Rattle.mcy_top.specs.declared.thin.ThinModule.{ThinModule}
 use Rattle.mcy_top.specs.declared.campaign.Campaign.{Campaign}
 use Rattle.mcy_top.specs.Projects.{IsProject}
@@ -13,18 +15,10 @@ use Rattle.mcy_top.specs.SiteTexts.{site_text}
 -- The files of the and-gate project: the project file, and the source that it names.
 
 abbrev pub config_name : List ℕ
-config_name = codes "config.mcy"
+config_name = CONFIG_NAME.now
 
 abbrev pub source_name : List ℕ
-source_name = codes "g.v"
-
--- how many bytes a file may have
-abbrev pub max_bytes : ℕ
-max_bytes = 1048576
-
--- how many free bits the equivalence test takes, so many input bits
-abbrev pub max_free_bits : ℕ
-max_free_bits = 8
+source_name = SOURCE_NAME.now
 
 -- what a book keeps of the project and its source: the number of the format, the project's bytes, and each source's
 -- name and bytes (docs/FORMATS.md)
@@ -39,7 +33,7 @@ pub record IsCampaign (config source : List ℕ) (c : Campaign) : Type 0 where
   pub project : IsProject config
   pub parsed : ThinModule
   pub text : IsSource source parsed
-  pub few : length (input_names parsed.ports) ≤ max_free_bits
+  pub few : length (input_names parsed.ports) ≤ MAX_FREE_BITS
   pub meta : c.meta ≡ meta_of config source
   pub netlist : c.netlist ≡ plan_of parsed
   pub places : c.sites ≡ sites (netlist_of parsed)
@@ -56,7 +50,7 @@ pub record IsPlan (c : Campaign) : Type 0 where
 -- these bytes are held under the name
 abbrev pub Got : Option Held → List ℕ → List ℕ → Type 0
 Got None name bytes = ⊤
-Got (Some held) name bytes = Gives (held name) max_bytes bytes
+Got (Some held) name bytes = Gives (held name) MAX_BYTES bytes
 
 abbrev pub Lacks : Option Held → List ℕ → Type 0
 Lacks None name = ⊤
@@ -64,7 +58,7 @@ Lacks (Some held) name = held name ≡ None
 
 abbrev pub Exceeds : Option Held → List ℕ → Type 0
 Exceeds None name = ⊤
-Exceeds (Some held) name = IsLarge (held name) max_bytes
+Exceeds (Some held) name = IsLarge (held name) MAX_BYTES
 
 -- the campaign of what the files hold
 pub record IsMade (held : Option Held) (c : Campaign) : Type 0 where

@@ -3,6 +3,8 @@ use Rattle.std.specs.Prelude.{◌≡◌, ℕ, ◌≤◌, List, length, Option, N
 use Rattle.mcy_base.specs.Causes.{Rose}
 use Rattle.mcy_keeper.specs.declared.book.Book.{Book}
 use Rattle.mcy_outside.specs.Files.{Held, Gives}
+use Rattle.mcy_top.specs.declared.equal.TheConstants.{MAX_FREE_BITS}
+use Rattle.mcy_top.specs.declared.campaign.TheConstants.{MAX_BYTES}
 use Rattle.mcy_top.specs.declared.command.Command.{Command}
 use Rattle.mcy_top.specs.declared.campaign.Campaign.{Campaign}
 use Rattle.mcy_top.specs.declared.thin.ThinModule.{ThinModule}
@@ -11,7 +13,7 @@ use Rattle.mcy_top.specs.declared.outcome.Outcome.TheVariants.{Done, Memory}
 use Rattle.mcy_top.specs.Commands.{command_of}
 use Rattle.mcy_top.specs.Projects.{IsProject}
 use Rattle.mcy_top.specs.ThinModules.{IsSource, input_names}
-use Rattle.mcy_top.specs.Campaigns.{config_name, source_name, max_bytes, max_free_bits, IsMade}
+use Rattle.mcy_top.specs.Campaigns.{config_name, source_name, IsMade}
 use Rattle.mcy_top.specs.Life.{Takes}
 
 -- the files tell what they hold, and it is a project with a source that is accepted
@@ -19,13 +21,13 @@ pub record IsReadable (held : Option Held) : Type 0 where
   pub map : Held
   pub told : held ≡ Some map
   pub config : List ℕ
-  pub got_config : Gives (map config_name) max_bytes config
+  pub got_config : Gives (map config_name) MAX_BYTES config
   pub project : IsProject config
   pub bytes : List ℕ
-  pub got_source : Gives (map source_name) max_bytes bytes
+  pub got_source : Gives (map source_name) MAX_BYTES bytes
   pub parsed : ThinModule
   pub text : IsSource bytes parsed
-  pub few : length (input_names parsed.ports) ≤ max_free_bits
+  pub few : length (input_names parsed.ports) ≤ MAX_FREE_BITS
 
 -- the command is given, the files are there, and each book that a load may give is one that the command takes
 pub record IsReady (words : List (List ℕ)) (held : Option Held) (holds leaves : Book → Type 0) (command : Command) : Type 0 where

@@ -6,6 +6,7 @@ ghost use Rattle.std.specs.Prelude.{◌≡◌, ◌≤◌, IfOk, length};
 ghost use Rattle.mcy_top.specs.Projects.{IsProject};
 ghost use Rattle.mcy_top.specs.ThinModules.{IsSource, input_names};
 
+use crate::equal::MAX_FREE_BITS;
 use crate::lower::lower;
 use crate::netlist::Netlist;
 use crate::site::Site;
@@ -15,8 +16,14 @@ use crate::thin::ThinModule;
 use mcy_base::{Bytes, BytesList, Items};
 use std::alloc::{AllocError, Global};
 
+/// The name of the project file.
+pub(crate) const CONFIG_NAME: &str = "config.mcy";
+
 /// The name of the source that the and-gate project names.
 pub(crate) const SOURCE_NAME: &str = "g.v";
+
+/// How many bytes a file may have.
+pub(crate) const MAX_BYTES: u32 = 1_048_576;
 
 /// Sites by number, from 0.
 pub type SiteList = Items<Site>;
@@ -30,13 +37,14 @@ pub struct Campaign {
     pub netlist: Netlist,
 }
 
-ghost use Rattle.mcy_top.specs.Campaigns.{IsCampaign, meta_of, max_free_bits};
+ghost use Rattle.mcy_top.specs.Campaigns.{IsCampaign, meta_of};
 
 /// What a book keeps of the project and its source.
 fn make_meta(alloc: Global, config: &[u8], source: &[u8]) -> Result<BytesList, AllocError>
     ensures { IfOk result (λ meta. meta ≡ meta_of config.now source.now) }
 {
-    let mut file = b"g.v\n".to_vec(alloc)?;
+    let mut file = SOURCE_NAME.as_bytes().to_vec(alloc)?;
+    file.push(b'\n')?;
     file.extend_from_slice(source)?;
     let mut meta = Vec::new(alloc);
     meta.push(Bytes::copy(alloc, b"1")?)?;
@@ -54,7 +62,7 @@ pub(crate) fn make_campaign(
 ) -> Result<Campaign, AllocError>
     requires project { IsProject config.now }
     requires text { IsSource source.now parsed.now }
-    requires few { length (input_names parsed.now.ports) ≤ max_free_bits }
+    requires few { length (input_names parsed.now.ports) ≤ MAX_FREE_BITS }
     ensures { IfOk result (λ c. IsCampaign config.now source.now c) }
 {
     let netlist = lower(alloc, parsed)?;

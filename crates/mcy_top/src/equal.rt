@@ -23,7 +23,7 @@ use crate::view::View;
 use std::alloc::{AllocError, Global};
 
 /// The most bits that the inputs may have together for all their values to be tried.
-pub(crate) const MAX_INPUT_BITS: usize = 8;
+pub(crate) const MAX_FREE_BITS: usize = 8;
 
 /// Whether the mutant at a site shows at its outputs what the design shows, for all inputs. Where it does, it shows
 /// the same on every list of inputs.
@@ -33,7 +33,7 @@ pub(crate) fn one_step_equal(
     site: &Site,
 ) -> Result<bool, AllocError>
     requires site { Contains (sites netlist.now.raw) site.now }
-    requires small { input_bits netlist.now.raw ≤ MAX_INPUT_BITS }
+    requires small { input_bits netlist.now.raw ≤ MAX_FREE_BITS }
     ensures equal { IfOk result (λ same. IsTrue same
         ↔ OneStepEqual (design netlist.now.raw) (mutant netlist.now.raw site.now)) }
     ensures all_runs { IfOk result (λ same. IsTrue same
@@ -51,13 +51,6 @@ pub(crate) fn one_step_equal(
     Ok(trial.is_equal(&mut first, &mut second))
 }
 
-/// Whether the inputs have few enough bits together for the equivalence test.
-pub(crate) fn has_few_inputs(netlist: &Netlist) -> bool
-    ensures { IsTrue result ↔ (input_bits netlist.now.raw ≤ MAX_INPUT_BITS) }
-{
-    is_within(netlist.raw().inputs.as_slice(), MAX_INPUT_BITS)
-}
-
 /// The bits of all ports, one port after the other.
 fn all_bits(alloc: Global, ports: &[BitList]) -> Result<Vec<Bit>, AllocError>
     ensures { IfOk result (λ bits. bits.items ≡ all_bits ports.now) }
@@ -67,19 +60,6 @@ fn all_bits(alloc: Global, ports: &[BitList]) -> Result<Vec<Bit>, AllocError>
         bits.extend_from_slice(port.as_slice())?;
     }
     Ok(bits)
-}
-
-/// Whether ports have at most this many bits together.
-fn is_within(ports: &[BitList], limit: usize) -> bool
-    ensures { IsTrue result ↔ (total_width ports.now ≤ limit) }
-{
-    match ports {
-        [] => true,
-        [port, rest @ ..] => {
-            let width = port.as_slice().len();
-            width <= limit && is_within(rest, limit - width)
-        }
-    }
 }
 
 /// A design beside its mutant: what the mutant inverts, and the bits of all inputs together.
@@ -97,7 +77,7 @@ impl Trial<'_> {
     fn is_equal(&self, first: &mut [bool], second: &mut [bool]) -> bool
         requires room { length first.old ≡ self.now.netlist.now.nets }
         requires mutant_room { length second.old ≡ self.now.netlist.now.nets }
-        requires small { input_bits self.now.netlist.now.raw ≤ MAX_INPUT_BITS }
+        requires small { input_bits self.now.netlist.now.raw ≤ MAX_FREE_BITS }
         ensures { let raw = self.now.netlist.now.raw in
             IsTrue result ↔ OneStepEqual (design raw) (inverted_machine raw self.now.inverted) }
     {

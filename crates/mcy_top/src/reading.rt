@@ -5,10 +5,11 @@ ghost use Rattle.std.specs.Prelude.{◌≡◌, ◌≤◌, [], length, IfOk, IfEr
 ghost use Rattle.mcy_base.specs.Causes.{Rose};
 ghost use Rattle.mcy_top.specs.Projects.{IsProject};
 ghost use Rattle.mcy_top.specs.ThinModules.{IsSource, input_names};
-ghost use Rattle.mcy_top.specs.Campaigns.{config_name, max_free_bits, Got, IsMade};
+ghost use Rattle.mcy_top.specs.Campaigns.{config_name, Got, IsMade};
 ghost use Rattle.mcy_top.specs.Reads.{IsUnmade, IsUnread, HasReadCause, HasProject, GotSource};
 
-use crate::campaign::{Campaign, SOURCE_NAME, make_campaign};
+use crate::campaign::{CONFIG_NAME, Campaign, MAX_BYTES, SOURCE_NAME, make_campaign};
+use crate::equal::MAX_FREE_BITS;
 use crate::lower::input_count;
 use crate::outcome::{Part, Refusal, SourceError, SourceFault};
 use crate::project::is_project;
@@ -17,16 +18,9 @@ use mcy_base::{Kind, Text};
 use mcy_outside::{FileError, SourceFiles};
 use std::alloc::{AllocError, Global};
 
-const CONFIG_NAME: &str = "config.mcy";
-
-/// How many bytes a file may have.
-const MAX_BYTES: u32 = 1_048_576;
-
-/// How many free bits the equivalence test takes.
-const MAX_FREE_BITS: usize = 8;
-
 impl From<AllocError> for Refusal {
     ghost use Rattle.mcy_top.specs.declared.outcome.Refusal.TheVariants.{Memory};
+
     ghost from_gives = { λ _ e. e ≡ Memory };
 
     fn from(_: AllocError) -> Refusal {
@@ -77,7 +71,7 @@ fn read_module<F: SourceFiles>(
     ensures same { F.held files.new ≡ F.held files.old }
     ensures got { IfOk result (λ read. GotSource (F.held files.old) read.0.items) }
     ensures text { IfOk result (λ read. IsSource read.0.items read.1) }
-    ensures few { IfOk result (λ read. length (input_names read.1.ports) ≤ max_free_bits) }
+    ensures few { IfOk result (λ read. length (input_names read.1.ports) ≤ MAX_FREE_BITS) }
     ensures refused { IfErr result (IsUnmade (F.held files.old)) }
     ensures later { F.faults files.old ≤ F.faults files.new }
     ensures cause { IfErr result (HasReadCause (F.faults files.old) (F.faults files.new)) }

@@ -42,28 +42,40 @@ fn word_count(wanted: TestWord, words: &[Option<TestWord>]) -> usize
 fn finished_count(words: &[Option<TestWord>]) -> usize
     ensures { result ≡ ask_count is_ended (map answers_in words.now) }
 {
-    words.iter().filter(|word| Ask::after(**word).is_ended()).count()
+    words
+        .iter()
+        .filter(|word| Ask::after(**word).is_ended())
+        .count()
 }
 
 /// How many mutations' scripts ended with a tag, which is given by its bit.
 fn tag_count(bit: u32, words: &[Option<TestWord>]) -> usize
     ensures { result ≡ ask_count (has_tag bit) (map answers_in words.now) }
 {
-    words.iter().filter(|word| Ask::after(**word).has_tag(bit)).count()
+    words
+        .iter()
+        .filter(|word| Ask::after(**word).has_tag(bit))
+        .count()
 }
 
 /// How many mutations' scripts ended at an assertion.
 fn assert_count(words: &[Option<TestWord>]) -> usize
     ensures { result ≡ ask_count is_assert_failed (map answers_in words.now) }
 {
-    words.iter().filter(|word| Ask::after(**word).is_assert_failed()).count()
+    words
+        .iter()
+        .filter(|word| Ask::after(**word).is_assert_failed())
+        .count()
 }
 
 /// How many mutations' scripts ended at a word that is not expected.
 fn unexpected_count(words: &[Option<TestWord>]) -> usize
     ensures { result ≡ ask_count is_unexpected (map answers_in words.now) }
 {
-    words.iter().filter(|word| Ask::after(**word).is_unexpected()).count()
+    words
+        .iter()
+        .filter(|word| Ask::after(**word).is_unexpected())
+        .count()
 }
 
 impl Counts {
@@ -117,7 +129,10 @@ fn add_test_line(
 ) -> Result<(), AllocError>
     ensures { OnOk result (string_bytes text.new ≡ string_bytes text.old ++ test_line passed failed unknown) }
 {
-    writeln!(text, "Test same: PASS {passed} FAIL {failed} UNKNOWN {unknown}")
+    writeln!(
+        text,
+        "Test same: PASS {passed} FAIL {failed} UNKNOWN {unknown}"
+    )
 }
 
 /// The status text, from what is known of each mutation's test.

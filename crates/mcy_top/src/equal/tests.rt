@@ -1,10 +1,10 @@
 //! The answers of the equivalence test on netlists that a person can judge.
-ghost use Rattle.std.specs.Prelude.{◌≤◌, ◌<◌, [], length, slice_index_or, IsTrue};
+ghost use Rattle.std.specs.Prelude.{◌≤◌, ◌<◌, ◌↔◌, [], length, slice_index_or, IsTrue};
 ghost use Rattle.std.specs.List.{Contains};
 ghost use Rattle.mcy_top.specs.Sites.{sites};
-ghost use Rattle.mcy_top.specs.Inputs.{input_bits};
+ghost use Rattle.mcy_top.specs.Inputs.{input_bits, total_width};
 
-use super::{MAX_INPUT_BITS, has_few_inputs, one_step_equal};
+use super::{MAX_FREE_BITS, one_step_equal};
 use crate::cell::{Bit, BitList, Cell, CellKind, CellList, PortList};
 use crate::inverted::number_of;
 use crate::netlist::{Netlist, RawNetlist};
@@ -141,6 +141,26 @@ fn expect_case(rt: &impl Abort, alloc: Global, case: &Case) -> Result<(), AllocE
     expect_answers(rt, alloc, &netlist, case.equal, true)
 }
 
+/// Whether the inputs have few enough bits together for the equivalence test.
+fn has_few_inputs(netlist: &Netlist) -> bool
+    ensures { IsTrue result ↔ (input_bits netlist.now.raw ≤ MAX_FREE_BITS) }
+{
+    is_within(netlist.raw().inputs.as_slice(), MAX_FREE_BITS)
+}
+
+/// Whether ports have at most this many bits together.
+fn is_within(ports: &[BitList], limit: usize) -> bool
+    ensures { IsTrue result ↔ (total_width ports.now ≤ limit) }
+{
+    match ports {
+        [] => true,
+        [port, rest @ ..] => {
+            let width = port.as_slice().len();
+            width <= limit && is_within(rest, limit - width)
+        }
+    }
+}
+
 /// Asserts the answer at these sites.
 fn expect_answers(
     rt: &impl Abort,
@@ -149,7 +169,7 @@ fn expect_answers(
     places: &[(u32, u8, u8)],
     wanted: bool,
 ) -> Result<(), AllocError>
-    requires { input_bits netlist.now.raw ≤ MAX_INPUT_BITS }
+    requires { input_bits netlist.now.raw ≤ MAX_FREE_BITS }
 {
     for (cell, port, bit) in places {
         let site = Site {
