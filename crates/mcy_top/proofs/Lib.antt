@@ -27,3 +27,6 @@ pub mod Advancing
 pub mod Finishing
 pub mod Working
 pub mod Completing
+pub mod Once
+pub mod Exacting
+pub mod Living

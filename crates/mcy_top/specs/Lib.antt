@@ -33,3 +33,7 @@ pub mod Life
 pub mod Complete
 pub mod Running
 pub mod Endings
+pub mod Once
+pub mod Exact
+pub mod Lives
+pub mod Calls

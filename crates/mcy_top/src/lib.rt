@@ -7,6 +7,7 @@ mod cell;
 mod command;
 mod equal;
 mod inverted;
+pub mod laws;
 mod lower;
 mod main_call;
 mod names;
@@ -25,6 +26,8 @@ mod sites;
 mod sound;
 mod state;
 mod status;
+#[cfg(test)]
+mod tests;
 mod thin;
 mod view;
 mod work;

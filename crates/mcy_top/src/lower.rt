@@ -2,7 +2,7 @@
 //!
 //! Each line is a cell. Nets are numbered by name: the inputs in the order of the ports, then what the lines give, in
 //! their order. So a cell reads nets that stand before the one that it drives.
-ghost use Rattle.std.specs.Prelude.{◌≡◌, ◌+◌, ◌^◌, ◌<◌, ◌≤◌, map, filter, position, bytes_eq, length, IfOk};
+ghost use Rattle.std.specs.Prelude.{◌≡◌, ◌^◌, ◌<◌, ◌≤◌, map, filter, position, bytes_eq, length, IfOk};
 ghost use Rattle.mcy_top.specs.Inputs.{input_bits};
 ghost use Rattle.mcy_top.specs.Ports.{has_direction, names_of};
 ghost use Rattle.mcy_top.specs.ShortNames.{HasShortNames};
@@ -37,9 +37,7 @@ pub(crate) fn lower(alloc: Global, thin: &ThinModule) -> Result<Netlist, AllocEr
 /// The bits of each port of the direction.
 fn port_bits(alloc: Global, thin: &ThinModule, direction: Direction) -> Result<PortList, AllocError>
     requires { length (net_names thin.now) < 2 ^ 32 }
-    ensures { IfOk result
-        (λ ports. ports
-        ≡ map (bits_of thin.now) (names_of direction thin.now.ports)) }
+    ensures { IfOk result (λ bits. bits ≡ map (bits_of thin.now) (names_of direction thin.now.ports)) }
 {
     let mut ports = Vec::new(alloc);
     for port in thin.ports.as_slice() {

@@ -1,7 +1,7 @@
 //! The text of a mutation site, `MODE TOP cell NAME PORT BIT FILE:LINE`.
-ghost use Rattle.std.specs.Prelude.{◌≡◌, All, map, string_bytes, IfOk};
+ghost use Rattle.std.specs.Prelude.{◌≡◌, map, string_bytes, IfOk};
 ghost use Rattle.mcy_top.specs.SiteTexts as texts;
-ghost use Rattle.mcy_top.specs.Places.{HasPlace};
+ghost use Rattle.mcy_top.specs.Places.{HasPlace, HavePlaces};
 
 use crate::cell::CellKind;
 use crate::netlist::{Netlist, RawNetlist};
@@ -16,7 +16,7 @@ pub(crate) fn site_texts(
     file: &str,
     sites: &[Site],
 ) -> Result<BytesList, AllocError>
-    requires { All (λ site. HasPlace netlist.now.raw site.place) sites.now }
+    requires { HavePlaces netlist.now.raw sites.now }
     ensures { IfOk result (λ list. list ≡ map (texts.site_text netlist.now.raw file.now) sites.now) }
 {
     let mut list = Vec::new(alloc);
@@ -52,8 +52,7 @@ fn place_text(
     site: &Site,
 ) -> Result<String, AllocError>
     requires { HasPlace raw.now site.now.place }
-    ensures { IfOk result
-        (λ text. string_bytes text
+    ensures { IfOk result (λ text. string_bytes text
         ≡ texts.text_at raw.now file.now site.now.place site.now.port site.now.bit) }
 {
     match site.place {

@@ -1,7 +1,7 @@
 //! The mutation sites of a netlist, in their order: by cell, port, bit and mode.
-ghost use Rattle.std.specs.Prelude.{◌≡◌, ◌≤◌, ◌<◌, ◌+◌, ◌++◌, ◌^◌, length, All, IfOk, OnOk};
+ghost use Rattle.std.specs.Prelude.{◌≡◌, ◌≤◌, ◌++◌, length, All, IfOk, OnOk};
 ghost use Rattle.mcy_top.specs.Sites.{sites, ports_sites, bits_sites};
-ghost use Rattle.mcy_top.specs.Places.{HasPlace};
+ghost use Rattle.mcy_top.specs.Places.{HavePlaces};
 
 use crate::cell::{Bit, BitList};
 use crate::netlist::Netlist;
@@ -11,7 +11,7 @@ use std::alloc::{AllocError, Global};
 /// The sites of the netlist.
 pub(crate) fn sites(alloc: Global, netlist: &Netlist) -> Result<Vec<Site>, AllocError>
     ensures sites { IfOk result (λ list. list.items ≡ sites netlist.now.raw) }
-    ensures places { IfOk result (λ list. All (λ site. HasPlace netlist.now.raw site.place) list.items) }
+    ensures places { IfOk result (λ list. HavePlaces netlist.now.raw list.items) }
 {
     let mut list = Vec::new(alloc);
     for (number, cell) in netlist.raw().cells.as_slice().iter().enumerate() {

@@ -1,7 +1,7 @@
 //! The work of the commands over a loaded book.
-ghost use Rattle.std.specs.Prelude.{◌≡◌, ◌↔◌, ◌≤◌, IsTrue, map};
+ghost use Rattle.std.specs.Prelude.{◌≡◌, ◌≤◌, IsTrue, map};
 ghost use Rattle.mcy_base.specs.Causes.{Rose};
-ghost use Rattle.mcy_keeper.specs.Books.{blank, IsBlank, Keeps};
+ghost use Rattle.mcy_keeper.specs.Books.{blank, Keeps};
 ghost use Rattle.mcy_top.specs.Campaigns.{IsPlan};
 ghost use Rattle.mcy_top.specs.Endings.{ended_outcome, failed_outcome, Delivers, Ends};
 ghost use Rattle.mcy_top.specs.Texts.{status_text};
@@ -51,15 +51,6 @@ pub(crate) fn failed(error: KeepError) -> Outcome
         KeepError::Fault => Outcome::KeeperFault,
         KeepError::Memory => Outcome::Memory,
     }
-}
-
-/// Whether nothing is kept.
-fn is_blank(book: &Book) -> bool
-    ensures { IsTrue result ↔ IsBlank book.now }
-{
-    book.meta.as_slice().is_empty()
-        && book.mutations.as_slice().is_empty()
-        && book.journal.as_slice().is_empty()
 }
 
 /// Writes a whole text.
@@ -124,7 +115,7 @@ pub(crate) fn carry_out<K: Keeper, O: Sink, L: Ledger>(
     ensures work { K.tells keeper.new → Work (K.leaves keeper.new) (O.written out.old) (O.written out.new) steps.old steps.new command campaign.now loaded.now result }
     ensures ends { Ends (O.written out.old) (O.written out.new) (K.faults keeper.old) (K.faults keeper.new) (O.faults out.old) (O.faults out.new) result }
 {
-    if !is_blank(loaded) {
+    if !loaded.is_blank() {
         return Outcome::AlreadyBegun;
     }
     match command {

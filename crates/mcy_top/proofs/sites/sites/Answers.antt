@@ -3,7 +3,7 @@ use Rattle.std.proofs.lemmas.Grind.{common_steps}
 use Rattle.mcy_top.specs.Sites.{sites}
 use Rattle.mcy_top.specs.Sound.{CellFits}
 use Rattle.mcy_top.proofs.FitLemmas.{All-narrow, CellFits-at}
-use Rattle.mcy_top.proofs.SiteLemmas.{All-HasPlace-sites}
+use Rattle.mcy_top.proofs.SiteLemmas.{HavePlaces-sites}
 use Rattle.mcy_top.proofs.sites.sites.Goals as goal
 
 pub add_cell-requires : goal.add_cell-requires
@@ -18,4 +18,4 @@ add_cell-requires c =
 pub returns-clause-places : goal.returns-clause-places
 returns-clause-places c =
     let all : c.loop-number.list.items ≡ sites c.args.netlist.now.raw = grind (arith, common_steps) in
-    rw all (All-HasPlace-sites c.args.netlist.now.raw)
+    rw all (HavePlaces-sites c.args.netlist.now.raw)

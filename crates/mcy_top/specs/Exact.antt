@@ -1,0 +1,52 @@
+-- Laws of refusals: each comes exactly where its cause holds.
+use Rattle.std.specs.Prelude.{◌≡◌, ◌⊎◌, ℕ, List, Option, None, Some, ⊤}
+use Rattle.mcy_keeper.specs.declared.book.Book.{Book}
+use Rattle.mcy_keeper.specs.Books.{IsBlank}
+use Rattle.mcy_outside.specs.Files.{Held}
+use Rattle.mcy_top.specs.declared.command.Command.{Command}
+use Rattle.mcy_top.specs.declared.command.Command.TheVariants.{Run}
+use Rattle.mcy_top.specs.declared.campaign.Campaign.{Campaign}
+use Rattle.mcy_top.specs.declared.outcome.Refusal.{Refusal}
+use Rattle.mcy_top.specs.declared.outcome.Outcome.{Outcome}
+use Rattle.mcy_top.specs.declared.outcome.Outcome.TheVariants.{Usage, AlreadyBegun, ReadFault, Memory}
+use Rattle.mcy_top.specs.Commands.{command_of}
+use Rattle.mcy_top.specs.Campaigns.{IsMade}
+use Rattle.mcy_top.specs.Reads.{IsUnmade}
+use Rattle.mcy_top.specs.Outcomes.{outcome_of}
+use Rattle.mcy_top.specs.Life.{Answered, Answers, Commands}
+
+-- Reading failed, or there was no memory: that may come whatever the files hold.
+abbrev pub IsCutShort : Outcome → Type 0
+IsCutShort (ReadFault name) = ⊤
+IsCutShort Memory = ⊤
+IsCutShort outcome = ⊥
+
+-- why what the files hold makes no campaign
+pub record RefusesFiles (map : Held) (refusal : Refusal) : Type 0 where
+  pub cause : IsUnmade (Some map) refusal
+  pub by_files : ¬ IsCutShort (outcome_of refusal)
+
+-- why a command refuses the book that was loaded
+abbrev pub RefusesBook : Command → Campaign → Book → Outcome → Type 0
+RefusesBook Run c loaded AlreadyBegun = ¬ IsBlank loaded
+RefusesBook Run c loaded outcome = ⊥
+
+-- Where the words give no command, the call ends with that, or there is no memory.
+abbrev pub UsageIsExact : Type 0
+UsageIsExact = (words : List (List ℕ)) (held : Option Held) (outcome : Outcome) → command_of words ≡ None → Answered words held outcome → (outcome ≡ Usage) ⊎ (outcome ≡ Memory)
+
+-- Where the files are refused, the call ends with that, or it was cut short.
+abbrev pub FileRefusalsAreExact : Type 0
+FileRefusalsAreExact = (words : List (List ℕ)) (map : Held) (refusal : Refusal) (outcome : Outcome) → Commands words → RefusesFiles map refusal → Answered words (Some map) outcome → (outcome ≡ outcome_of refusal) ⊎ IsCutShort outcome
+
+-- Where the command refuses the loaded book, the call ends with that, or there is no memory.
+abbrev pub BookRefusalsAreExact : Type 0
+BookRefusalsAreExact = (command : Command) (c : Campaign) (loaded sure : Book) (refusal outcome : Outcome) → RefusesBook command c loaded refusal → Answers command c loaded sure outcome → (outcome ≡ refusal) ⊎ (outcome ≡ Memory)
+
+-- Files are refused for one cause,
+abbrev pub FilesHaveOneCause : Type 0
+FilesHaveOneCause = (map : Held) (refusal other : Refusal) → RefusesFiles map refusal → RefusesFiles map other → refusal ≡ other
+
+-- and where they are refused they make no campaign.
+abbrev pub RefusedFilesMakeNone : Type 0
+RefusedFilesMakeNone = (map : Held) (refusal : Refusal) (c : Campaign) → RefusesFiles map refusal → ¬ IsMade (Some map) c

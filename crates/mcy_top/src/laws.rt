@@ -1,0 +1,56 @@
+//! What follows from the contract of the one call and its definitions, each law as the contract of a
+//! function that does nothing: each refusal comes exactly where its cause holds, a project has one
+//! campaign and that one text, and no call that is cut off loses or repeats what was acknowledged.
+ghost use Rattle.mcy_top.specs.Once.{AnswersAreOne, CampaignsAreOne, FinalTextsAreOne, FinishedTextsAreOne};
+ghost use Rattle.mcy_top.specs.Exact.{BookRefusalsAreExact, FileRefusalsAreExact, FilesHaveOneCause, RefusedFilesMakeNone, UsageIsExact};
+ghost use Rattle.mcy_top.specs.Lives.{LivesAreSafe, PartsAreGood};
+ghost use Rattle.mcy_top.specs.Calls.{CallIsALife, EarlyCallLeavesNothingNew, SureBookHasAll};
+
+use mcy_keeper::Keeper;
+
+/// Where the words, the files or the loaded book are a reason to refuse, the call ends with that
+/// refusal, unless reading failed or there was no memory. Files are refused for one reason, and then
+/// make no campaign.
+pub fn refusals_are_exact()
+    ensures words { UsageIsExact }
+    ensures files { FileRefusalsAreExact }
+    ensures book { BookRefusalsAreExact }
+    ensures one_cause { FilesHaveOneCause }
+    ensures no_campaign { RefusedFilesMakeNone }
+{}
+
+/// A project and its source have one campaign. With the pairs that were given up it defines the
+/// answers of each mutation, and the status text, once.
+pub fn campaigns_are_one()
+    ensures campaign { CampaignsAreOne }
+    ensures answers { AnswersAreOne }
+    ensures text { FinalTextsAreOne }
+{}
+
+/// The status text of a finished book depends on the campaign and the pairs that were given up alone:
+/// not on the order of the tests, and not on where calls were cut off.
+pub fn finished_texts_are_the_campaigns()
+    ensures { FinishedTextsAreOne }
+{}
+
+/// Over every list of lives that begins with the empty book: each book is empty or good and has no
+/// pair of mutation and test twice, nothing that was acknowledged is lost later, and a finished book
+/// has the text that the campaign defines. A good book cut off after any of its rows is good.
+pub fn lives_are_safe()
+    ensures lives { LivesAreSafe }
+    ensures parts { PartsAreGood }
+{}
+
+/// What a call is sure of is a first part of the keeper's sure book, the longest that is a first part
+/// of every book that a crash may leave, and no such book has more than one entry beyond that one.
+pub fn sure_book_has_all<K: Keeper>(keeper: &K)
+    ensures { SureBookHasAll (K.leaves keeper.now) }
+{}
+
+/// A call that has loaded a book is a life: it begins with a book that a crash could leave before,
+/// goes on by changes, and every crash leaves its last book or that with one change more. A call that
+/// has loaded no book leaves nothing new.
+pub fn call_is_a_life<K: Keeper>(before: &K, after: &K)
+    ensures life { CallIsALife (K.holds before.now) (K.leaves before.now) (K.leaves after.now) }
+    ensures early { EarlyCallLeavesNothingNew (K.leaves before.now) (K.leaves after.now) }
+{}
