@@ -1,13 +1,13 @@
 -- A book that was begun and run.
-use Rattle.std.proofs.Common.{◌≡◌, ◌⊎◌, inl, inr, arith, ℕ, ◌+◌, ◌≤◌, List, [], ◌∷◌, ◌++◌, length, refl, sym, ap, subst, ◌∙◌}
+use Rattle.std.proofs.Common.{◌≡◌, ◌⊎◌, inl, inr, arith, ℕ, List, [], ◌∷◌, length, refl, sym, ap, subst}
 use Rattle.mcy_keeper.specs.declared.book.Entry.{Entry}
 use Rattle.mcy_keeper.specs.declared.book.Book.{Book}
 use Rattle.mcy_keeper.specs.Books.{blank, IsBlank, LeavesEither, with_entry}
 use Rattle.mcy_top.specs.declared.campaign.Campaign.{Campaign}
 use Rattle.mcy_top.specs.Campaigns.{IsPlan}
-use Rattle.mcy_top.specs.Rows.{AreTrue, GoesOn, IsBlankOrGood, IsGood, IsNextRow, IsPrefix, IsWellFormed, IsWithinOne}
-use Rattle.mcy_top.specs.Changes.{Course, IsNear, opened}
-use Rattle.mcy_top.specs.Running.{book_of, Advanced, Broke, LeavesNext, Ran, Stopped}
+use Rattle.mcy_top.specs.Rows.{AreTrue, IsGood, IsNextRow, IsWellFormed, IsWithinOne}
+use Rattle.mcy_top.specs.Changes.{IsNear, opened}
+use Rattle.mcy_top.specs.Running.{book_of, Advanced, Broke, Ran, Stopped}
 use Rattle.mcy_top.proofs.Growing.{append-nil, form_more, length_more, true_more}
 
 pub good_of : (c : Campaign) (book : Book) → IsPlan c → IsWellFormed c book → AreTrue c book.journal → IsGood book

@@ -1,6 +1,5 @@
 -- A call that is ready and meets no fault succeeds, or finds no memory.
-use Rattle.std.proofs.Common.{◌≡◌, ◌≢◌, ◌⊎◌, inl, inr, arith, ℕ, ◌<◌, ◌≤◌, List, [], ◌∷◌, length, refl, sym, ap, subst, ◌∙◌, Option, None, Some}
-use Rattle.mcy_base.specs.Causes.{Rose}
+use Rattle.std.proofs.Common.{◌≡◌, ◌≢◌, ◌⊎◌, inl, inr, arith, ℕ, ◌<◌, ◌≤◌, List, length, refl, sym, subst, ◌∙◌, Option, None, Some}
 use Rattle.mcy_keeper.specs.declared.book.Book.{Book}
 use Rattle.mcy_keeper.specs.Books.{IsBlank}
 use Rattle.mcy_outside.specs.Files.{Held, Gives, IsLarge}
@@ -8,14 +7,12 @@ use Rattle.mcy_top.specs.declared.equal.TheConstants.{MAX_FREE_BITS}
 use Rattle.mcy_top.specs.declared.campaign.TheConstants.{MAX_BYTES}
 use Rattle.mcy_top.specs.declared.command.Command.{Command}
 use Rattle.mcy_top.specs.declared.command.Command.TheVariants.{Run}
-use Rattle.mcy_top.specs.declared.campaign.Campaign.{Campaign}
 use Rattle.mcy_top.specs.declared.thin.ThinModule.{ThinModule}
 use Rattle.mcy_top.specs.declared.outcome.Part.TheVariants.{Project, Source}
 use Rattle.mcy_top.specs.declared.outcome.Refusal.{Refusal}
 use Rattle.mcy_top.specs.declared.outcome.Refusal.TheVariants.{SourceBad as RefusedSource, Missing as RefusedMissing, TooLarge as RefusedTooLarge, ReadFault as RefusedRead, Memory as RefusedMemory, Unbuilt as RefusedUnbuilt}
 use Rattle.mcy_top.specs.declared.outcome.Outcome.{Outcome}
 use Rattle.mcy_top.specs.declared.outcome.Outcome.TheVariants.{Done, Usage, SourceBad, Missing, TooLarge, AlreadyBegun, ReadFault, KeeperFault, WriteFault, Memory, Unbuilt}
-use Rattle.mcy_top.specs.Commands.{command_of}
 use Rattle.mcy_top.specs.Projects.{IsProject}
 use Rattle.mcy_top.specs.ThinModules.{IsSource, input_names}
 use Rattle.mcy_top.specs.Campaigns.{config_name, source_name, Exceeds, Lacks}

@@ -1,5 +1,5 @@
 -- The rows of a good book that is finished are what the campaign defines.
-use Rattle.std.proofs.Common.{◌≡◌, ◌≢◌, ◌⊎◌, inl, inr, arith, ℕ, zero, suc, ◌+◌, ◌<◌, Bool, true, false, ◌==◌, List, [], ◌∷◌, ◌++◌, length, slice_get, Option, None, Some, refl, sym, ap, subst, ◌∙◌, append_assoc, if◌then◌else◌}
+use Rattle.std.proofs.Common.{◌≡◌, ◌≢◌, inl, inr, arith, ℕ, zero, suc, ◌+◌, ◌<◌, true, List, [], ◌∷◌, ◌++◌, length, slice_get, Option, None, Some, refl, sym, subst, append_assoc}
 use Rattle.std.proofs.lemmas.Bool.Decides.{eqb_tells}
 use Rattle.mcy_keeper.specs.declared.book.Entry.{Entry}
 use Rattle.mcy_keeper.specs.declared.book.Book.{Book}
@@ -8,7 +8,7 @@ use Rattle.mcy_top.specs.declared.site.Site.{Site}
 use Rattle.mcy_top.specs.declared.campaign.Campaign.{Campaign}
 use Rattle.mcy_top.specs.declared.script.Ask.TheVariants.{Need}
 use Rattle.mcy_top.specs.Scripts.{Answer, ask, is_ended}
-use Rattle.mcy_top.specs.Rows.{answer_of, answers_of, AreRows, AreTrue, IsFinished, IsTrueWord, IsTrueWordAt, IsWellFormed}
+use Rattle.mcy_top.specs.Rows.{answers_of, AreRows, AreTrue, IsFinished, IsTrueWord, IsTrueWordAt, IsWellFormed}
 use Rattle.mcy_top.specs.Texts.{groups, groups_from, status_text}
 use Rattle.mcy_top.specs.Defined.{given_up, AreAllAnswers, AreAnswers, IsFinalText, Pair}
 use Rattle.mcy_top.proofs.Growing.{append-nil}

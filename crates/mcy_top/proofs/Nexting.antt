@@ -1,18 +1,15 @@
 -- The next row of a mutation whose test has no word yet.
-use Rattle.std.proofs.Common.{◌≡◌, ◌≢◌, ◌⊎◌, inl, inr, arith, ℕ, zero, suc, ◌+◌, ◌<◌, ◌≤◌, Bool, true, false, ◌==◌, List, [], ◌∷◌, ◌++◌, length, map, set, get_or, slice_get, count_by, is_some, Option, None, Some, refl, sym, ◌∙◌, ap, subst, if◌then◌else◌}
+use Rattle.std.proofs.Common.{◌≡◌, ◌≢◌, ◌⊎◌, inl, inr, arith, ℕ, zero, suc, ◌+◌, ◌<◌, ◌≤◌, true, List, [], ◌∷◌, ◌++◌, length, set, get_or, slice_get, is_some, Option, None, Some, refl, sym, ◌∙◌, ap, subst}
 use Rattle.std.proofs.lemmas.Bool.Decides.{eqb_tells}
 use Rattle.std.proofs.lemmas.List.{length-map}
 use Rattle.std.proofs.lemmas.List.Sums.{count_by-le-length}
-use Rattle.std.specs.List.{All}
 use Rattle.mcy_keeper.specs.declared.book.Entry.{Entry}
 use Rattle.mcy_top.specs.declared.netlist.RawNetlist.{RawNetlist}
 use Rattle.mcy_top.specs.declared.site.Site.{Site}
 use Rattle.mcy_top.specs.declared.campaign.Campaign.{Campaign}
 use Rattle.mcy_top.specs.declared.script.TestWord.{TestWord}
-use Rattle.mcy_top.specs.declared.script.Ask.{Ask}
-use Rattle.mcy_top.specs.declared.script.Ask.TheVariants.{Need}
 use Rattle.mcy_top.specs.Scripts.{Answer, answers_in, ask, end_on, is_ended, mark_of, tags_of, word_code}
-use Rattle.mcy_top.specs.Rows.{answer_of, answers_of, IsEqWord, IsNextRow, IsOther, IsRow, IsTrueWord, IsTrueWordAt}
+use Rattle.mcy_top.specs.Rows.{answer_of, answers_of, IsEqWord, IsNextRow, IsOther, IsTrueWord, IsTrueWordAt}
 use Rattle.mcy_top.specs.Texts.{groups_from}
 use Rattle.mcy_top.specs.Running.{book_of, next_row, AddsRow, HasWord, Ran, Tracks}
 use Rattle.mcy_top.proofs.Growing.{length_more, ran_more}

@@ -1,5 +1,5 @@
 -- What a plan's netlist is: small enough for the equivalence test, with the campaign's sites.
-use Rattle.std.proofs.Common.{◌≡◌, ℕ, ◌<◌, ◌≤◌, ◌+◌, ◌*◌, List, [], ◌∷◌, length, map, get_or, slice_get, Option, Some, inl, inr, refl, sym, ◌∙◌, ap, subst, arith}
+use Rattle.std.proofs.Common.{◌≡◌, ℕ, ◌<◌, ◌≤◌, ◌*◌, List, length, get_or, Option, inl, inr, refl, sym, ◌∙◌, ap, subst, arith}
 use Rattle.std.proofs.lemmas.List.{get_or_default}
 use Rattle.std.proofs.lemmas.Option.{slice_get-get_or}
 use Rattle.mcy_top.specs.declared.thin.ThinModule.{ThinModule}
@@ -13,7 +13,7 @@ use Rattle.mcy_top.specs.Sites.{sites}
 use Rattle.mcy_top.specs.Equal.{OneStepEqual, design, mutant}
 use Rattle.mcy_top.specs.Rows.{IsTrueWord, IsTrueWordAt}
 use Rattle.mcy_top.proofs.ThinSites.{input_bits-netlist_of, length-sites}
-use Rattle.mcy_top.specs.Campaigns.{IsPlan, plan_of}
+use Rattle.mcy_top.specs.Campaigns.{IsPlan}
 
 pub plan_small : (c : Campaign) → IsPlan c → input_bits c.netlist.raw ≤ 8
 plan_small c plan =

@@ -1,5 +1,5 @@
 -- The work of a command, put together.
-use Rattle.std.proofs.Common.{◌≡◌, ◌≢◌, ◌⊎◌, inl, inr, arith, ℕ, ◌+◌, ◌≤◌, List, [], ◌∷◌, length, refl, sym, ap, subst, ◌∙◌, Option}
+use Rattle.std.proofs.Common.{◌≡◌, ◌≢◌, ◌⊎◌, inl, inr, arith, ℕ, ◌+◌, List, [], length, refl, sym, subst, ◌∙◌, Option}
 use Rattle.mcy_base.specs.Causes.{Rose}
 use Rattle.mcy_keeper.specs.declared.book.Book.{Book}
 use Rattle.mcy_keeper.specs.declared.keeper.KeepError.{KeepError}
@@ -11,13 +11,12 @@ use Rattle.mcy_top.specs.declared.campaign.Campaign.{Campaign}
 use Rattle.mcy_top.specs.declared.work.Ending.{Ending}
 use Rattle.mcy_top.specs.declared.work.Ending.TheVariants.{Written, Refused, NoMemory}
 use Rattle.mcy_top.specs.declared.outcome.Outcome.{Outcome}
-use Rattle.mcy_top.specs.declared.outcome.Outcome.TheVariants.{Done, AlreadyBegun, KeeperFault, WriteFault, Memory}
-use Rattle.mcy_top.specs.Commands.{slots_of}
+use Rattle.mcy_top.specs.declared.outcome.Outcome.TheVariants.{AlreadyBegun, KeeperFault, Memory}
 use Rattle.mcy_top.specs.Campaigns.{IsPlan}
 use Rattle.mcy_top.specs.Rows.{IsBlankOrGood, IsFinished, IsGood, IsPrefix, IsWellFormed, IsWithinOne}
 use Rattle.mcy_top.specs.Changes.{Course}
 use Rattle.mcy_top.specs.Running.{Advanced, Stopped}
-use Rattle.mcy_top.specs.Texts.{groups, status_text, text_of}
+use Rattle.mcy_top.specs.Texts.{groups, status_text}
 use Rattle.mcy_top.specs.Endings.{ended_outcome, failed_outcome, Delivers, Ends}
 use Rattle.mcy_top.specs.Life.{Answers, Carried, Grew, Work, Wrote}
 use Rattle.mcy_top.proofs.Advancing.{within_itself}

@@ -1,14 +1,14 @@
 -- How the rows of a book grow in a run.
-use Rattle.std.specs.Prelude.{◌≡◌, ◌⊎◌, ℕ, ◌+◌, ◌<◌, ◌≤◌, Bool, true, List, [], ◌∷◌, ◌++◌, length, map, slice_get, count_by, is_some, Option, None, Some}
+use Rattle.std.specs.Prelude.{◌≡◌, ◌⊎◌, ℕ, ◌+◌, ◌≤◌, List, [], ◌∷◌, ◌++◌, length, map, slice_get, count_by, is_some, Option, Some}
 use Rattle.mcy_keeper.specs.declared.book.Entry.{Entry}
 use Rattle.mcy_keeper.specs.declared.book.Book.{Book}
 use Rattle.mcy_keeper.specs.Books.{IsBlank, with_entry}
 use Rattle.mcy_top.specs.declared.campaign.Campaign.{Campaign}
 use Rattle.mcy_top.specs.declared.script.TestWord.{TestWord}
-use Rattle.mcy_top.specs.Scripts.{answers_in, ask, is_ended, end_on, mark_of, tags_of, word_code}
-use Rattle.mcy_top.specs.Rows.{answers_of, AreTrue, GoesOn, IsBlankOrGood, IsGood, IsNextRow, IsPrefix, IsWellFormed, IsWithinOne}
+use Rattle.mcy_top.specs.Scripts.{answers_in, end_on, mark_of, tags_of, word_code}
+use Rattle.mcy_top.specs.Rows.{AreTrue, GoesOn, IsBlankOrGood, IsGood, IsNextRow, IsPrefix, IsWellFormed, IsWithinOne}
 use Rattle.mcy_top.specs.Texts.{groups}
-use Rattle.mcy_top.specs.Changes.{Course, IsNear, opened}
+use Rattle.mcy_top.specs.Changes.{Course, IsNear}
 
 -- the book of the campaign with these rows
 abbrev pub book_of : Campaign → List Entry → Book

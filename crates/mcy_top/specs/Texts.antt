@@ -1,6 +1,6 @@
 -- The text of the status, from the answers of each mutation in the order of the mutations. The order of rows of
 -- different mutations plays no part.
-use Rattle.std.specs.Prelude.{ℕ, zero, suc, ◌+◌, Bool, true, false, ◌==◌, ◌&&◌, List, [], ◌∷◌, ◌++◌, length, map, sum_by, count_by, Option, None, Some, codes, decimal}
+use Rattle.std.specs.Prelude.{ℕ, zero, suc, ◌+◌, Bool, false, ◌==◌, ◌&&◌, List, [], ◌∷◌, ◌++◌, length, sum_by, count_by, Option, None, Some, codes, decimal}
 use Rattle.mcy_keeper.specs.declared.book.Entry.{Entry}
 use Rattle.mcy_keeper.specs.declared.book.Book.{Book}
 use Rattle.mcy_top.specs.declared.command.Command.{Command}
@@ -9,7 +9,6 @@ use Rattle.mcy_top.specs.declared.campaign.Campaign.{Campaign}
 use Rattle.mcy_top.specs.declared.script.TestWord.{TestWord}
 use Rattle.mcy_top.specs.declared.script.TestWord.TheVariants.{Pass, Fail, Unknown}
 use Rattle.mcy_top.specs.declared.script.Ask.{Ask}
-use Rattle.mcy_top.specs.declared.script.Ask.TheVariants.{Need, Done, AssertFailed, Unexpected}
 use Rattle.mcy_top.specs.declared.status.Counts.{Counts}
 use Rattle.mcy_top.specs.Scripts.{Answer, word_code, ask, is_assert_failed, is_ended, is_unexpected, has_tag}
 use Rattle.mcy_top.specs.Rows.{answers_of}

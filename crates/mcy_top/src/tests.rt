@@ -16,9 +16,11 @@ const AND_GATE: &str = "module g(input a, input b, output y);\n  assign y = a & 
 const REDUNDANT_OR: &str =
     "module g(input a, input b, output y);\n  wire u = a & b;\n  assign y = a | b;\nendmodule\n";
 
-const AND_GATE_STATUS: &str = "Mutations: 3\nFinished: 3\nTest same: PASS 0 FAIL 3 UNKNOWN 0\nTag CHANGED: 3\nTag NOCHANGE: 0\nAsserts: 0\nUnexpected: 0\n";
+const AND_GATE_STATUS: &str =
+    "Mutations: 3\nFinished: 3\nTest same: PASS 0 FAIL 3 UNKNOWN 0\nTag CHANGED: 3\nTag NOCHANGE: 0\nAsserts: 0\nUnexpected: 0\n";
 
-const REDUNDANT_OR_STATUS: &str = "Mutations: 6\nFinished: 6\nTest same: PASS 3 FAIL 3 UNKNOWN 0\nTag CHANGED: 3\nTag NOCHANGE: 3\nAsserts: 0\nUnexpected: 0\n";
+const REDUNDANT_OR_STATUS: &str =
+    "Mutations: 6\nFinished: 6\nTest same: PASS 3 FAIL 3 UNKNOWN 0\nTag CHANGED: 3\nTag NOCHANGE: 3\nAsserts: 0\nUnexpected: 0\n";
 
 /// A call with a counter of steps of its own.
 fn call_with<F: SourceFiles, K: Keeper, O: Sink, L: Ledger>(
@@ -79,11 +81,7 @@ fn files_of(
     if let Some(bytes) = source {
         files.push(file(alloc, "g.v", bytes)?)?;
     }
-    Ok(MemoryFiles::new(
-        alloc,
-        FileList::from_vec(files),
-        failing.to_vec(alloc)?,
-    ))
+    Ok(MemoryFiles::new(alloc, FileList::from_vec(files), failing.to_vec(alloc)?))
 }
 
 /// The project and a source.
@@ -98,10 +96,7 @@ fn campaign_of(alloc: Global, source: &str) -> Result<MemoryFiles, AllocError> {
 
 /// A sink with room for each text here, whose calls of these numbers fail after so many bytes.
 fn sink_of(alloc: Global, failing: &[(u64, u32)]) -> Result<MemorySink, AllocError> {
-    Ok(MemorySink::new(
-        failing.to_vec(alloc)?,
-        Vec::with_capacity(alloc, 1000)?,
-    ))
+    Ok(MemorySink::new(failing.to_vec(alloc)?, Vec::with_capacity(alloc, 1000)?))
 }
 
 /// An outcome by its name, with what it carries.
@@ -158,7 +153,9 @@ fn expect_rows(rt: &impl Abort, rows: &[Entry], words: &[u32]) {
 fn each_inverted_port_of_one_operator_is_told_from_the_design(rt: HostRuntime) -> Result<(), Fail> {
     let alloc = rt.alloc();
     for operator in ["&", "|", "^"] {
-        let source = format!(in alloc; "module g(input a, input b, output y);\n  assign y = a {operator} b;\nendmodule\n")?;
+        let source = format!(in alloc;
+            "module g(input a, input b, output y);\n  assign y = a {operator} b;\nendmodule\n"
+        )?;
         expect_run(&rt, alloc, source.as_str(), AND_GATE_STATUS, &[1, 1, 1])?;
     }
     Ok(())
@@ -190,7 +187,9 @@ fn the_book_keeps_the_project_the_source_and_the_places(rt: HostRuntime) -> Resu
     );
     assert!(rt; exit_status(&outcome) == 0);
     let Book {
-        meta, mutations, ..
+        meta,
+        mutations,
+        ..
     } = keeper.held();
     let file = format!(in alloc; "g.v\n{AND_GATE}")?;
     for (item, wanted) in meta
@@ -232,7 +231,12 @@ fn expect_refusal(rt: &impl Abort, alloc: Global, case: &Refusal) -> Result<(), 
     let mut files = files_of(alloc, case.config, case.source, case.failing)?;
     let words = words_of(alloc, case.line)?;
     let outcome = call(alloc, &words, &mut files, &mut keeper, &mut out);
-    assert!(rt; shown(&outcome) == case.wanted, "of `{}`, not {}", case.line, case.wanted.0);
+    assert!(rt;
+        shown(&outcome) == case.wanted,
+        "of `{}`, not {}",
+        case.line,
+        case.wanted.0
+    );
     assert!(rt; out.seen().is_empty());
     Ok(())
 }
@@ -244,7 +248,8 @@ fn words_and_files_are_refused_in_their_order(rt: HostRuntime) -> Result<(), Fai
     let and_gate = Some(AND_GATE.as_bytes());
     let large = vec![in alloc; b'('; 1_048_577]?;
     let parentheses = &large[1..];
-    let nine = "module g(input a, input b, input c, input d, input e, input f, input h, input i, input j, output y);\n  assign y = a & j;\nendmodule\n";
+    let nine =
+        "module g(input a, input b, input c, input d, input e, input f, input h, input i, input j, output y);\n  assign y = a & j;\nendmodule\n";
     let refusal = |line, config, source, failing, wanted| Refusal {
         line,
         config,
@@ -262,14 +267,38 @@ fn words_and_files_are_refused_in_their_order(rt: HostRuntime) -> Result<(), Fai
         refusal("run", Some(&large), None, &[], ("TooLarge", "config.mcy")),
         refusal("run", Some(b""), None, &[], ("Unbuilt", "Project")),
         refusal("run", Some(parentheses), None, &[], ("Unbuilt", "Project")),
-        refusal("run", Some(&[0, 255, 10]), None, &[], ("Unbuilt", "Project")),
+        refusal(
+            "run",
+            Some(&[0, 255, 10]),
+            None,
+            &[],
+            ("Unbuilt", "Project"),
+        ),
         refusal("run", and_gate, and_gate, &[], ("Unbuilt", "Project")),
         refusal("run", project, None, &[], ("Missing", "g.v")),
         refusal("run", project, Some(&large), &[], ("TooLarge", "g.v")),
         refusal("run", project, Some(b""), &[], ("Unbuilt", "Source")),
-        refusal("run", project, Some(parentheses), &[], ("Unbuilt", "Source")),
-        refusal("run", project, Some(&[0, 255, 10]), &[], ("Unbuilt", "Source")),
-        refusal("run", project, Some(nine.as_bytes()), &[], ("SourceBad FreeBits", "")),
+        refusal(
+            "run",
+            project,
+            Some(parentheses),
+            &[],
+            ("Unbuilt", "Source"),
+        ),
+        refusal(
+            "run",
+            project,
+            Some(&[0, 255, 10]),
+            &[],
+            ("Unbuilt", "Source"),
+        ),
+        refusal(
+            "run",
+            project,
+            Some(nine.as_bytes()),
+            &[],
+            ("SourceBad FreeBits", ""),
+        ),
         refusal("run", project, and_gate, &[0], ("ReadFault", "config.mcy")),
         refusal("run", project, and_gate, &[1], ("ReadFault", "g.v")),
         refusal("run", None, None, &[0], ("ReadFault", "config.mcy")),
@@ -316,10 +345,17 @@ fn a_keeper_that_fails_keeps_what_was_acknowledged(rt: HostRuntime) -> Result<()
         let outcome = run_on(alloc, &mut keeper, &mut out)?;
         assert!(rt; shown(&outcome) == ("KeeperFault", ""), "at call {number}");
         assert!(rt; out.seen().is_empty());
-        assert!(rt; keeper.held().mutations.as_slice().len() == mutations, "at call {number}");
+        assert!(rt;
+            keeper.held().mutations.as_slice().len() == mutations,
+            "at call {number}"
+        );
         expect_rows(&rt, keeper.held().journal.as_slice(), words);
         let again = run_on(alloc, &mut keeper, &mut out)?;
-        let wanted = if mutations == 0 { "Done" } else { "AlreadyBegun" };
+        let wanted = if mutations == 0 {
+            "Done"
+        } else {
+            "AlreadyBegun"
+        };
         assert!(rt; shown(&again).0 == wanted, "after call {number}");
     }
     Ok(())

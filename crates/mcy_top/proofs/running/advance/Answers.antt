@@ -1,4 +1,4 @@
-use Rattle.std.proofs.Common.{List, subst, [], ℕ}
+use Rattle.std.proofs.Common.{List, subst}
 use Rattle.mcy_keeper.specs.declared.book.Entry.{Entry}
 use Rattle.mcy_top.specs.Running.{Broke, Ran}
 use Rattle.mcy_top.proofs.Advancing.{advanced_of, stopped_of, unopened}

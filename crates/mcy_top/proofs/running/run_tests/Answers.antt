@@ -1,4 +1,4 @@
-use Rattle.std.proofs.Common.{◌≡◌, ◌+◌, ◌<◌, length, ap, arith}
+use Rattle.std.proofs.Common.{length, ap, arith}
 use Rattle.mcy_top.proofs.Plans.{plan_few}
 use Rattle.mcy_top.proofs.Nexting.{ended_added, ended_known, length_added, nothing_yet, ran_added, tracks_length}
 use Rattle.mcy_top.proofs.running.run_tests.Goals as goal

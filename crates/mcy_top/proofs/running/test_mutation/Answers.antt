@@ -1,10 +1,9 @@
-use Rattle.std.proofs.Common.{◌≡◌, ◌<◌, ◌++◌, [], ◌∷◌, List, length, Option, Some, set, sym, subst, ap, ◌∙◌, arith, rules}
+use Rattle.std.proofs.Common.{◌≡◌, length, sym, subst, ap, arith}
 use Rattle.mcy_keeper.specs.declared.book.Book.{Book}
 use Rattle.mcy_keeper.specs.declared.book.Entry.{Entry}
 use Rattle.mcy_keeper.specs.Books.{IsNext}
-use Rattle.mcy_top.specs.declared.script.TestWord.{TestWord}
 use Rattle.mcy_top.specs.Rows.{IsNextRow}
-use Rattle.mcy_top.specs.Running.{book_of, next_row, AddsRow, Tracks}
+use Rattle.mcy_top.specs.Running.{book_of}
 use Rattle.mcy_top.proofs.Growing.{next_of, append_left, on_ok}
 use Rattle.mcy_top.proofs.Nexting.{next_row_is, tracks_few, tracks_length, tracks_more}
 use Rattle.mcy_top.proofs.Plans.{plan_few}

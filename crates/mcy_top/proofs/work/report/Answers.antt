@@ -1,4 +1,4 @@
-use Rattle.std.proofs.Common.{◌≡◌, List, ℕ, Option, ap, map, subst, ◌∙◌}
+use Rattle.std.proofs.Common.{List, ℕ, Option, ap, map, subst, ◌∙◌}
 use Rattle.mcy_top.specs.declared.script.TestWord.{TestWord}
 use Rattle.mcy_top.specs.Scripts.{answers_in}
 use Rattle.mcy_top.specs.Texts.{status_text}

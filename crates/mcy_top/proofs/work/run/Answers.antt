@@ -1,13 +1,9 @@
-use Rattle.std.proofs.Common.{◌≡◌, List, ℕ, map, subst}
-use Rattle.mcy_top.specs.Scripts.{Answer, answers_in}
+use Rattle.std.proofs.Common.{List, subst}
+use Rattle.mcy_top.specs.Scripts.{Answer}
 use Rattle.mcy_top.specs.Running.{book_of}
 use Rattle.mcy_top.specs.Texts.{groups, status_text}
 use Rattle.mcy_top.specs.Endings.{Delivers}
-use Rattle.mcy_top.specs.declared.outcome.Outcome.{Outcome}
-use Rattle.mcy_top.specs.declared.command.Command.TheVariants.{Run}
-use Rattle.mcy_keeper.specs.Books.{blank}
-use Rattle.mcy_top.specs.Life.{Work}
-use Rattle.mcy_top.proofs.Working.{work_ran, work_stopped}
+use Rattle.mcy_top.proofs.Working.{work_ran}
 use Rattle.mcy_top.proofs.work.run.Goals as goal
 
 pub returns-in-Ok-clause-work : goal.returns-in-Ok-clause-work

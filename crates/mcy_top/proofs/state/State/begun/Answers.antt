@@ -1,6 +1,6 @@
-use Rattle.std.proofs.Common.{◌≡◌, ℕ, List, [], Option, None, length, map, replicate, count_by, is_some, sym, ◌∙◌, ap, arith}
+use Rattle.std.proofs.Common.{◌≡◌, ℕ, List, [], Option, None, map, replicate, count_by, is_some, sym, ◌∙◌, ap, arith}
 use Rattle.mcy_top.specs.declared.script.TestWord.{TestWord}
-use Rattle.mcy_top.specs.Scripts.{Answer, answers_in}
+use Rattle.mcy_top.specs.Scripts.{answers_in}
 use Rattle.mcy_top.specs.Texts.{groups_from}
 use Rattle.mcy_top.proofs.Tracking.{groups-none, count-none}
 use Rattle.mcy_top.proofs.state.State.begun.Goals as goal
