@@ -1,25 +1,34 @@
 -- A call that is ready and meets no fault succeeds, or finds no memory.
-use Rattle.std.proofs.Common.{◌≡◌, ◌≢◌, ◌⊎◌, inl, inr, arith, ℕ, ◌<◌, ◌≤◌, List, length, refl, sym, subst, ◌∙◌, Option, None, Some}
+use Rattle.std.proofs.Common.{◌≡◌, ◌≢◌, ◌⊎◌, inl, inr, arith, ℕ, ◌<◌, ◌≤◌, List, [], length, refl, sym, ap, subst, ◌∙◌, Option, None, Some}
 use Rattle.mcy_keeper.specs.declared.book.Book.{Book}
 use Rattle.mcy_keeper.specs.Books.{IsBlank}
 use Rattle.mcy_outside.specs.Files.{Held, Gives, IsLarge}
+use Rattle.result_book.specs.declared.check.BookError.{BookError}
+use Rattle.result_book.specs.declared.check.BookError.TheVariants.{Stray, Memory as NoMemoryFor}
+use Rattle.result_book.specs.Rows.{IsWellFormed}
 use Rattle.mcy_top.specs.declared.equal.TheConstants.{MAX_FREE_BITS}
-use Rattle.mcy_top.specs.declared.campaign.TheConstants.{MAX_BYTES}
+use Rattle.mcy_top.specs.declared.prepared.TheConstants.{MAX_BYTES}
 use Rattle.mcy_top.specs.declared.command.Command.{Command}
-use Rattle.mcy_top.specs.declared.command.Command.TheVariants.{Run}
+use Rattle.mcy_top.specs.declared.command.Command.TheVariants.{Init, Run, Status}
+use Rattle.mcy_top.specs.declared.prepared.Prepared.{Prepared}
 use Rattle.mcy_top.specs.declared.thin.ThinModule.{ThinModule}
 use Rattle.mcy_top.specs.declared.outcome.Part.TheVariants.{Project, Source}
 use Rattle.mcy_top.specs.declared.outcome.Refusal.{Refusal}
 use Rattle.mcy_top.specs.declared.outcome.Refusal.TheVariants.{SourceBad as RefusedSource, Missing as RefusedMissing, TooLarge as RefusedTooLarge, ReadFault as RefusedRead, Memory as RefusedMemory, Unbuilt as RefusedUnbuilt}
+use Rattle.mcy_top.specs.declared.outcome.BookRefusal.{BookRefusal}
+use Rattle.mcy_top.specs.declared.outcome.BookRefusal.TheVariants.{NoCampaign as RefusedNone, AlreadyBegun as RefusedBegun, BookBad as RefusedBook, Memory as NoMemory}
 use Rattle.mcy_top.specs.declared.outcome.Outcome.{Outcome}
-use Rattle.mcy_top.specs.declared.outcome.Outcome.TheVariants.{Done, Usage, SourceBad, Missing, TooLarge, AlreadyBegun, ReadFault, KeeperFault, WriteFault, Memory, Unbuilt}
+use Rattle.mcy_top.specs.declared.outcome.Outcome.TheVariants.{Done, Unfinished, Usage, SourceBad, Missing, TooLarge, NoCampaign, AlreadyBegun, BookBad, ReadFault, KeeperFault, WriteFault, Memory, Unbuilt}
+use Rattle.mcy_top.specs.Commands.{stop_of}
 use Rattle.mcy_top.specs.Projects.{IsProject}
 use Rattle.mcy_top.specs.ThinModules.{IsSource, input_names}
-use Rattle.mcy_top.specs.Campaigns.{config_name, source_name, Exceeds, Lacks}
+use Rattle.mcy_top.specs.Campaigns.{config_name, meta_of, source_name, Exceeds, IsPlan, Lacks}
 use Rattle.mcy_top.specs.Reads.{IsRead, IsUnmade}
+use Rattle.mcy_top.specs.BookRefusals.{IsBookBad, RefusesBook}
 use Rattle.mcy_top.specs.Life.{Answered, Answers, Early, EndsEarly, HasCause, Life, Takes}
 use Rattle.mcy_top.specs.Complete.{Completes, IsReadable, IsReady, NoneRose}
 use Rattle.mcy_top.proofs.ThinText.{source_once}
+use Rattle.mcy_top.proofs.Plans.{plan_meta}
 
 given_same : (held : Option (List ℕ)) (max : ℕ) (a b : List ℕ) → Gives held max a → Gives held max b → a ≡ b
 given_same held max a b one two = let is : Some a ≡ Some b = sym one.same ∙ two.same in cc
@@ -53,15 +62,64 @@ unmade_not held r (RefusedSource error) why fault =
     absurd (omega arith)
 unmade_not held r RefusedMemory why fault = refl
 
+-- A book that is taken is not refused.
+
+pub blank_meta : (book : Book) → IsBlank book → book.meta ≡ []
+blank_meta book empty = ap (λ (b : Book). b.meta) empty
+
+-- a campaign's book is begun
+form_meta : (c : Prepared) (book : Book) → IsPlan c → IsWellFormed c.campaign book → book.meta ≢ []
+form_meta c book plan form none = let is : meta_of plan.config plan.bytes ≡ [] = sym (plan_meta c plan) ∙ sym form.meta ∙ none in cc
+
+-- what a command takes is blank, or is the campaign's book
+taken_as : (command : Command) (c : Prepared) (book : Book) → Takes command c book → IsBlank book ⊎ IsWellFormed c.campaign book
+taken_as Init c book takes = inl takes
+taken_as (Run stop) c book takes = takes
+taken_as Status c book takes = inr takes
+
+-- a blank book is not bad, and neither is the campaign's, nor one that a command finds begun already
+pub blank_not_bad : (c : Prepared) (book : Book) (error : BookError) → IsBlank book → ¬ IsBookBad c book error
+blank_not_bad c book (Stray mutations rows) empty bad = bad.1 empty
+blank_not_bad c book NoMemoryFor empty bad = bad
+blank_not_bad c book error empty bad = bad.0 (blank_meta book empty)
+
+form_not_bad : (c : Prepared) (book : Book) (error : BookError) → IsPlan c → IsWellFormed c.campaign book → ¬ IsBookBad c book error
+form_not_bad c book (Stray mutations rows) plan form bad = form_meta c book plan form bad.0
+form_not_bad c book NoMemoryFor plan form bad = bad
+form_not_bad c book error plan form bad = bad.1 form
+
+pub begun_not_bad : (command : Command) (c : Prepared) (book : Book) (error : BookError) → RefusesBook command c book RefusedBegun → ¬ RefusesBook command c book (RefusedBook error)
+begun_not_bad command c book (Stray mutations rows) begun bad = begun.0 bad.0.0
+begun_not_bad command c book error begun bad = bad.1 begun.1
+
+-- nor one that is taken
+bad_not : (c : Prepared) (book : Book) (error : BookError) → IsPlan c → IsBlank book ⊎ IsWellFormed c.campaign book → ¬ IsBookBad c book error
+bad_not c book error plan (inl empty) bad = blank_not_bad c book error empty bad
+bad_not c book error plan (inr form) bad = form_not_bad c book error plan form bad
+
+none_not : (command : Command) (c : Prepared) (book : Book) → IsPlan c → Takes command c book → ¬ RefusesBook command c book RefusedNone
+none_not Init c book plan takes refuses = refuses.1
+none_not (Run stop) c book plan takes refuses = refuses.1
+none_not Status c book plan form refuses = form_meta c book plan form (blank_meta book refuses.0)
+
+begun_not : (command : Command) (c : Prepared) (book : Book) → Takes command c book → ¬ RefusesBook command c book RefusedBegun
+begun_not command c book takes refuses = refuses.0 (blank_meta book (subst (λ (d : Command). Takes d c book) refuses.1 takes))
+
+pub taken_not_refused : (command : Command) (c : Prepared) (book : Book) (refusal : BookRefusal) → IsPlan c → Takes command c book → RefusesBook command c book refusal → refusal ≡ NoMemory
+taken_not_refused command c book RefusedNone plan takes refuses = absurd (none_not command c book plan takes refuses)
+taken_not_refused command c book RefusedBegun plan takes refuses = absurd (begun_not command c book takes refuses)
+taken_not_refused command c book (RefusedBook error) plan takes refuses = absurd (bad_not c book error plan (taken_as command c book takes) refuses.0)
+taken_not_refused command c book NoMemory plan takes refuses = refl
+
 pub completes : (words : List (List ℕ)) (held : Option Held) (holds leaves leaves' : Book → Type 0) (written written' : Option (List ℕ)) (taken taken' f f' k k' s s' : ℕ) (command : Command) (o : Outcome)
     → IsReady words held holds leaves command → NoneRose f f' k k' s s' → Answered words held o → HasCause f f' k k' s s' o
-    → Early leaves leaves' taken taken' o ⊎ Life words held holds leaves leaves' written written' taken taken' o → Completes o
+    → Early leaves leaves' taken taken' o ⊎ Life words held holds leaves leaves' written written' taken taken' o → Completes command o
 completes words held holds leaves leaves' written written' taken taken' f f' k k' s s' command o ready none answer cause (inl early) = go o answer cause early.early
   where
     bad : (r : Refusal) → IsUnmade held r → ((name : List ℕ) → r ≢ RefusedRead name) → r ≡ RefusedMemory
     bad r why fault = unmade_not held ready.readable r (subst (λ (h : Option Held). IsUnmade h r) ready.readable.told why) fault
 
-    go : (o : Outcome) → Answered words held o → HasCause f f' k k' s s' o → EndsEarly o → Completes o
+    go : (o : Outcome) → Answered words held o → HasCause f f' k k' s s' o → EndsEarly o → Completes command o
     go Usage a h e = let is : Some command ≡ None = sym ready.asked ∙ a in cc
     go (Missing name) a h e = let is : RefusedMissing name ≡ RefusedMemory = bad (RefusedMissing name) a.1 (λ n is. cc) in cc
     go (TooLarge name) a h e = let is : RefusedTooLarge name ≡ RefusedMemory = bad (RefusedTooLarge name) a.1 (λ n is. cc) in cc
@@ -70,29 +128,28 @@ completes words held holds leaves leaves' written written' taken taken' f f' k k
     go (ReadFault name) a h e = absurd (none.reads h)
     go KeeperFault a h e = absurd (none.keeps h)
     go Memory a h e = tt
-    go Done a h e = absurd e
-    go WriteFault a h e = absurd e
-    go AlreadyBegun a h e = absurd e
+    go o a h e = absurd e
 completes words held holds leaves leaves' written written' taken taken' f f' k k' s s' command o ready none answer cause (inr life) = go o cause life.work.answer
   where
     same : life.command ≡ command
     same = let is : Some life.command ≡ Some command = sym life.asked ∙ ready.asked in cc
 
-    takes : Takes life.command life.campaign life.loaded
-    takes = subst (λ (d : Command). Takes d life.campaign life.loaded) (sym same) (ready.takes life.campaign life.loaded life.made life.allowed life.found)
+    takes : Takes life.command life.prepared life.loaded
+    takes = subst (λ (d : Command). Takes d life.prepared life.loaded) (sym same) (ready.takes life.prepared life.loaded life.made life.allowed life.found)
 
-    empty : (d : Command) → Takes d life.campaign life.loaded → IsBlank life.loaded
-    empty Run t = t
+    plan : IsPlan life.prepared
+    plan = record { config = life.made.config; bytes = life.made.bytes; made = life.made.made }
 
-    go : (o : Outcome) → HasCause f f' k k' s s' o → Answers life.command life.campaign life.loaded life.work.sure o → Completes o
+    refused : (r : BookRefusal) → RefusesBook life.command life.prepared life.loaded r → r ≡ NoMemory
+    refused r refuses = taken_not_refused life.command life.prepared life.loaded r plan takes refuses
+
+    go : (o : Outcome) → HasCause f f' k k' s s' o → Answers life.command life.prepared life.loaded life.work.sure o → Completes command o
     go Done h a = tt
+    go (Unfinished left) h a = λ none. let is : Some a.2.stop ≡ None = sym a.2.asked ∙ ap stop_of same ∙ none in cc
     go Memory h a = tt
-    go AlreadyBegun h a = absurd (a (empty life.command takes))
+    go NoCampaign h a = let is : RefusedNone ≡ NoMemory = refused RefusedNone a in cc
+    go AlreadyBegun h a = let is : RefusedBegun ≡ NoMemory = refused RefusedBegun a in cc
+    go (BookBad error) h a = let is : RefusedBook error ≡ NoMemory = refused (RefusedBook error) a in cc
     go KeeperFault h a = absurd (none.keeps h)
     go WriteFault h a = absurd (none.writes h)
-    go Usage h a = absurd a
-    go (SourceBad error) h a = absurd a
-    go (Missing name) h a = absurd a
-    go (TooLarge name) h a = absurd a
-    go (ReadFault name) h a = absurd a
-    go (Unbuilt part) h a = absurd a
+    go o h a = absurd a

@@ -3,28 +3,34 @@ use Rattle.std.proofs.Common.{◌≡◌, ◌⊎◌, inl, inr, arith, ℕ, ◌<�
 use Rattle.mcy_base.specs.declared.kind.Kind.TheVariants.{FreeBits}
 use Rattle.mcy_keeper.specs.declared.book.Book.{Book}
 use Rattle.mcy_outside.specs.Files.{Held, Gives, IsLarge}
+use Rattle.result_book.specs.declared.check.BookError.{BookError}
+use Rattle.result_book.specs.declared.check.BookError.TheVariants.{Stray, Memory as NoMemoryFor}
 use Rattle.mcy_top.specs.declared.equal.TheConstants.{MAX_FREE_BITS}
-use Rattle.mcy_top.specs.declared.campaign.TheConstants.{MAX_BYTES}
+use Rattle.mcy_top.specs.declared.prepared.TheConstants.{MAX_BYTES}
 use Rattle.mcy_top.specs.declared.command.Command.{Command}
-use Rattle.mcy_top.specs.declared.command.Command.TheVariants.{Run}
-use Rattle.mcy_top.specs.declared.campaign.Campaign.{Campaign}
+use Rattle.mcy_top.specs.declared.prepared.Prepared.{Prepared}
 use Rattle.mcy_top.specs.declared.thin.ThinModule.{ThinModule}
 use Rattle.mcy_top.specs.declared.outcome.Part.TheVariants.{Project, Source}
 use Rattle.mcy_top.specs.declared.outcome.SourceFault.TheVariants.{TooMany}
 use Rattle.mcy_top.specs.declared.outcome.SourceError.{SourceError}
 use Rattle.mcy_top.specs.declared.outcome.Refusal.{Refusal}
 use Rattle.mcy_top.specs.declared.outcome.Refusal.TheVariants.{SourceBad as RefusedSource, Missing as RefusedMissing, TooLarge as RefusedTooLarge, ReadFault as RefusedRead, Memory as RefusedMemory, Unbuilt as RefusedUnbuilt}
+use Rattle.mcy_top.specs.declared.outcome.BookRefusal.{BookRefusal}
+use Rattle.mcy_top.specs.declared.outcome.BookRefusal.TheVariants.{NoCampaign as RefusedNone, AlreadyBegun as RefusedBegun, BookBad as RefusedBook, Memory as NoMemory}
 use Rattle.mcy_top.specs.declared.outcome.Outcome.{Outcome}
-use Rattle.mcy_top.specs.declared.outcome.Outcome.TheVariants.{Done, Usage, SourceBad, Missing, TooLarge, AlreadyBegun, ReadFault, KeeperFault, WriteFault, Memory, Unbuilt}
+use Rattle.mcy_top.specs.declared.outcome.Outcome.TheVariants.{Done, Unfinished, Usage, SourceBad, Missing, TooLarge, NoCampaign, AlreadyBegun, BookBad, ReadFault, KeeperFault, WriteFault, Memory, Unbuilt}
 use Rattle.mcy_top.specs.Commands.{command_of}
 use Rattle.mcy_top.specs.Projects.{IsProject}
 use Rattle.mcy_top.specs.ThinModules.{IsSource, input_names}
-use Rattle.mcy_top.specs.Campaigns.{config_name, source_name, IsMade}
+use Rattle.mcy_top.specs.Campaigns.{config_name, source_name, IsMade, IsPlan}
 use Rattle.mcy_top.specs.Reads.{HasProject, IsUnmade}
-use Rattle.mcy_top.specs.Outcomes.{outcome_of}
-use Rattle.mcy_top.specs.Life.{Answered, Answers, Commands, IsAccepted}
-use Rattle.mcy_top.specs.Exact.{IsCutShort, RefusesBook, RefusesFiles}
+use Rattle.mcy_top.specs.Outcomes.{book_outcome, outcome_of}
+use Rattle.mcy_top.specs.BookRefusals.{IsBookBad, RefusesBook}
+use Rattle.mcy_top.specs.Life.{Answered, Answers, Commands, IsAccepted, Takes}
+use Rattle.mcy_top.specs.Exact.{IsCutShort, RefusesFiles, RefusesFor}
 use Rattle.mcy_top.proofs.ThinText.{source_once}
+use Rattle.mcy_top.proofs.OneFault.{refused_for_one}
+use Rattle.mcy_top.proofs.Completing.{begun_not_bad, blank_meta, blank_not_bad, taken_not_refused}
 
 -- What is held under a name: nothing, too much, or these bytes.
 data Found : Type 0 where
@@ -133,7 +139,7 @@ pub refused_once : (map : Held) (r q : Refusal) → RefusesFiles map r → Refus
 refused_once map r q h k = place_once map r q (place_of map r h.cause h.by_files) (place_of map q k.cause k.by_files)
 
 -- and make no campaign
-made_not : (map : Held) (r : Refusal) (c : Campaign) → IsMade (Some map) c → ¬ (AtConfig map r ⊎ AtSource map r)
+made_not : (map : Held) (r : Refusal) (c : Prepared) → IsMade (Some map) c → ¬ (AtConfig map r ⊎ AtSource map r)
 made_not map r c made (inl at) = config_passed map r (made.config, made.got_config, made.made.project) at
 made_not map r c made (inr at) = go (subst (λ (f : Found). RefusesSource f r) (found_once (map source_name) at.found (Bytes made.bytes) at.is made.got_source) at.why)
   where
@@ -145,7 +151,7 @@ made_not map r c made (inr at) = go (subst (λ (f : Found). RefusesSource f r) (
         let few : length (input_names made.made.parsed.ports) ≤ MAX_FREE_BITS = made.made.few in
         omega arith
 
-pub refused_not_made : (map : Held) (r : Refusal) (c : Campaign) → RefusesFiles map r → ¬ IsMade (Some map) c
+pub refused_not_made : (map : Held) (r : Refusal) (c : Prepared) → RefusesFiles map r → ¬ IsMade (Some map) c
 refused_not_made map r c h made = made_not map r c made (place_of map r h.cause h.by_files)
 
 pub exact_words : (words : List (List ℕ)) (held : Option Held) (o : Outcome) → command_of words ≡ None → Answered words held o → (o ≡ Usage) ⊎ (o ≡ Memory)
@@ -165,7 +171,7 @@ exact_files words map r o asked h a = go o a
     one q k whole = ap outcome_of (refused_once map q r (record { cause = k; by_files = whole }) h)
 
     none : ¬ IsAccepted words (Some map)
-    none accepted = refused_not_made map r accepted.campaign h accepted.made
+    none accepted = refused_not_made map r accepted.prepared h accepted.made
 
     go : (o : Outcome) → Answered words (Some map) o → (o ≡ outcome_of r) ⊎ IsCutShort o
     go Usage a = absurd (asked a)
@@ -177,11 +183,51 @@ exact_files words map r o asked h a = go o a
     go Memory a = inr tt
     go o a = absurd (none a)
 
-pub exact_book : (command : Command) (c : Campaign) (loaded sure : Book) (r o : Outcome) → RefusesBook command c loaded r → Answers command c loaded sure o → (o ≡ r) ⊎ (o ≡ Memory)
-exact_book Run c loaded sure AlreadyBegun AlreadyBegun h a = inl refl
-exact_book Run c loaded sure AlreadyBegun Memory h a = inr refl
-exact_book Run c loaded sure AlreadyBegun Done h a = absurd (h a.0)
-exact_book Run c loaded sure AlreadyBegun KeeperFault h a = absurd (h a)
-exact_book Run c loaded sure AlreadyBegun WriteFault h a = absurd (h a)
-exact_book Run c loaded sure AlreadyBegun o h a = absurd a
-exact_book Run c loaded sure r o h a = absurd h
+-- A book is refused for one cause.
+
+none_once : (command : Command) (c : Prepared) (loaded : Book) (q : BookRefusal) → RefusesBook command c loaded RefusedNone → RefusesFor command c loaded q → NoCampaign ≡ book_outcome q
+none_once command c loaded RefusedNone h k = refl
+none_once command c loaded RefusedBegun h k = absurd (k.cause.0 (blank_meta loaded h.0))
+none_once command c loaded (RefusedBook error) h k = absurd (blank_not_bad c loaded error h.0 k.cause.0)
+none_once command c loaded NoMemory h k = absurd (k.by_book refl)
+
+begun_once : (command : Command) (c : Prepared) (loaded : Book) (q : BookRefusal) → RefusesBook command c loaded RefusedBegun → RefusesFor command c loaded q → AlreadyBegun ≡ book_outcome q
+begun_once command c loaded RefusedNone h k = absurd (h.0 (blank_meta loaded k.cause.0))
+begun_once command c loaded RefusedBegun h k = refl
+begun_once command c loaded (RefusedBook error) h k = absurd (begun_not_bad command c loaded error h k.cause)
+begun_once command c loaded NoMemory h k = absurd (k.by_book refl)
+
+-- a bad book has one fault that is told
+bad_for_one : (c : Prepared) (book : Book) (error other : BookError) → IsBookBad c book error → IsBookBad c book other → error ≡ other
+bad_for_one c book (Stray m r) (Stray n s) h k =
+    let mutations : m ≡ n = h.2 ∙ sym k.2 in
+    let rows : r ≡ s = h.3 ∙ sym k.3 in
+    λ i. Stray (mutations i) (rows i)
+bad_for_one c book NoMemoryFor other h k = absurd h
+bad_for_one c book error NoMemoryFor h k = absurd k
+bad_for_one c book (Stray m r) other h k = absurd (k.0 h.0)
+bad_for_one c book error (Stray m r) h k = absurd (h.0 k.0)
+bad_for_one c book error other h k = refused_for_one c.campaign book error other h.2 k.2 (λ is. cc) (λ is. cc)
+
+bad_once : (command : Command) (c : Prepared) (loaded : Book) (error : BookError) (q : BookRefusal) → RefusesBook command c loaded (RefusedBook error) → RefusesFor command c loaded q → BookBad error ≡ book_outcome q
+bad_once command c loaded error RefusedNone h k = absurd (blank_not_bad c loaded error k.cause.0 h.0)
+bad_once command c loaded error RefusedBegun h k = absurd (begun_not_bad command c loaded error k.cause h)
+bad_once command c loaded error (RefusedBook other) h k = ap (λ (e : BookError). BookBad e) (bad_for_one c loaded error other h.0 k.cause.0)
+bad_once command c loaded error NoMemory h k = absurd (k.by_book refl)
+
+pub exact_book : (command : Command) (c : Prepared) (loaded sure : Book) (q : BookRefusal) (o : Outcome) → IsPlan c → RefusesFor command c loaded q → Answers command c loaded sure o → (o ≡ book_outcome q) ⊎ (o ≡ Memory)
+exact_book command c loaded sure q o plan h a = go o a
+  where
+    taken : ¬ Takes command c loaded
+    taken takes = h.by_book (taken_not_refused command c loaded q plan takes h.cause)
+
+    go : (o : Outcome) → Answers command c loaded sure o → (o ≡ book_outcome q) ⊎ (o ≡ Memory)
+    go Done a = absurd (taken a.0)
+    go (Unfinished left) a = absurd (taken a.0)
+    go NoCampaign a = inl (none_once command c loaded q a h)
+    go AlreadyBegun a = inl (begun_once command c loaded q a h)
+    go (BookBad error) a = inl (bad_once command c loaded error q a h)
+    go KeeperFault a = absurd (taken a)
+    go WriteFault a = absurd (taken a)
+    go Memory a = inr refl
+    go o a = absurd a

@@ -1,45 +1,47 @@
 -- Rows, one more at the end.
-use Rattle.std.proofs.Common.{◌≡◌, ◌⊎◌, inl, inr, ℕ, ◌+◌, List, [], ◌∷◌, ◌++◌, length, refl, sym, ap, subst, ◌∙◌, append_assoc, length-append, Result, Ok, Err, OnOk, OnErr, IsErrOf}
+use Rattle.std.proofs.Common.{◌≡◌, ◌≢◌, ◌⊎◌, inl, inr, arith, ℕ, ◌+◌, ◌<◌, ◌≤◌, List, [], ◌∷◌, ◌++◌, length, refl, sym, ap, subst, ◌∙◌, append_assoc, length-append, Result, Ok, Err, OnOk, OnErr, IsErrOf}
+use Rattle.std.proofs.lemmas.Grind.{common_steps}
 use Rattle.mcy_keeper.specs.declared.book.Entry.{Entry}
 use Rattle.mcy_keeper.specs.declared.book.Book.{Book}
 use Rattle.mcy_keeper.specs.declared.keeper.KeepError.{KeepError}
 use Rattle.mcy_keeper.specs.declared.keeper.KeepError.TheVariants.{Fault, Memory}
 use Rattle.mcy_keeper.specs.Books.{AreNumbered, IsNext, Keeps, LeavesEither, LeavesNothingNew, with_entry}
-use Rattle.mcy_top.specs.declared.campaign.Campaign.{Campaign}
-use Rattle.mcy_top.specs.Rows.{AreRows, AreTrue, IsNextRow, IsRow, IsTrueWord, IsWellFormed}
+use Rattle.mcy_top.specs.declared.prepared.Prepared.{Prepared}
+use Rattle.result_book.specs.Rows.{AreRows, IsPair, IsRow, IsWellFormed}
+use Rattle.mcy_top.specs.Rows.{AreTrue, IsNextRow, IsTrueWord}
 use Rattle.mcy_top.specs.Changes.{Course, IsChange}
-use Rattle.mcy_top.specs.Running.{book_of, LeavesNext, Ran}
+use Rattle.mcy_top.specs.Running.{book_of, AddsRow, Broke, LeavesNext, Ran}
 
 pub append-nil : {X : Type 0} (xs : List X) → xs ++ [] ≡ xs
 append-nil [] = refl
 append-nil (x ∷ xs) = ap (λ (t : List _). x ∷ t) (append-nil xs)
 
-pub rows_more : (c : Campaign) (earlier rows : List Entry) (e : Entry) → AreRows c earlier rows → IsRow c (earlier ++ rows) e → AreRows c earlier (rows ++ e ∷ [])
-rows_more c earlier [] e all row = (subst (λ (rs : List Entry). IsRow c rs e) (append-nil earlier) row, tt)
+pub rows_more : (c : Prepared) (earlier rows : List Entry) (e : Entry) → AreRows c.campaign earlier rows → IsRow c.campaign (earlier ++ rows) e → AreRows c.campaign earlier (rows ++ e ∷ [])
+rows_more c earlier [] e all row = (subst (λ (rs : List Entry). IsRow c.campaign rs e) (append-nil earlier) row, tt)
 rows_more c earlier (x ∷ rows) e all row =
-    (all.0, rows_more c (earlier ++ x ∷ []) rows e all.1 (subst (λ (rs : List Entry). IsRow c rs e) (sym (append_assoc earlier (x ∷ []) rows)) row))
+    (all.0, rows_more c (earlier ++ x ∷ []) rows e all.1 (subst (λ (rs : List Entry). IsRow c.campaign rs e) (sym (append_assoc earlier (x ∷ []) rows)) row))
 
-pub true_more : (c : Campaign) (rows : List Entry) (e : Entry) → AreTrue c rows → IsTrueWord c e.mutation e.word → AreTrue c (rows ++ e ∷ [])
+pub true_more : (c : Prepared) (rows : List Entry) (e : Entry) → AreTrue c rows → IsTrueWord c e.mutation e.word → AreTrue c (rows ++ e ∷ [])
 true_more c [] e all row = (row, tt)
 true_more c (x ∷ rows) e all row = (all.0, true_more c rows e all.1 row)
 
 -- rows are numbered by their places
-pub are_numbered : (c : Campaign) (earlier rows : List Entry) (from : ℕ) → length earlier ≡ from → AreRows c earlier rows → AreNumbered from rows
+pub are_numbered : (c : Prepared) (earlier rows : List Entry) (from : ℕ) → length earlier ≡ from → AreRows c.campaign earlier rows → AreNumbered from rows
 are_numbered c earlier [] from at all = tt
 are_numbered c earlier (x ∷ rows) from at all =
     (all.0.seq ∙ at, are_numbered c (earlier ++ x ∷ []) rows (from + 1) (length-append earlier (x ∷ []) ∙ ap (λ (n : ℕ). n + 1) at) all.1)
 
-pub next_of : (c : Campaign) (book : Book) (e : Entry) → IsWellFormed c book → IsNextRow c book e → IsNext book e
+pub next_of : (c : Prepared) (book : Book) (e : Entry) → IsWellFormed c.campaign book → IsNextRow c book e → IsNext book e
 next_of c book e form next = record { numbered = are_numbered c [] book.journal 0 refl form.rows; next = next.row.seq }
 
-pub form_more : (c : Campaign) (book : Book) (e : Entry) → IsWellFormed c book → IsNextRow c book e → IsWellFormed c (with_entry book e)
+pub form_more : (c : Prepared) (book : Book) (e : Entry) → IsWellFormed c.campaign book → IsNextRow c book e → IsWellFormed c.campaign (with_entry book e)
 form_more c book e form next = record { meta = form.meta; mutations = form.mutations; rows = rows_more c [] book.journal e form.rows next.row }
 
-pub course_more : (c : Campaign) (start : Book) (changes : List Book) (end next : Book) → Course c start changes end → IsChange c end next → Course c start (changes ++ next ∷ []) next
+pub course_more : (c : Prepared) (start : Book) (changes : List Book) (end next : Book) → Course c start changes end → IsChange c end next → Course c start (changes ++ next ∷ []) next
 course_more c start [] end next course change = (subst (λ (b : Book). IsChange c b next) course change, refl)
 course_more c start (x ∷ changes) end next course change = (course.0, course_more c x changes end next course.1 change)
 
-pub ran_none : (c : Campaign) (rows : List Entry) → IsWellFormed c (book_of c rows) → Ran c rows rows
+pub ran_none : (c : Prepared) (rows : List Entry) → IsWellFormed c.campaign (book_of c rows) → Ran c rows rows
 ran_none c rows form = record {
   goes_on = record { meta = refl; mutations = refl; more = []; rows = sym (append-nil rows) };
   form = form;
@@ -48,7 +50,7 @@ ran_none c rows form = record {
   course = refl;
 }
 
-pub ran_more : (c : Campaign) (start rows : List Entry) (e : Entry) → Ran c start rows → IsNextRow c (book_of c rows) e → Ran c start (rows ++ e ∷ [])
+pub ran_more : (c : Prepared) (start rows : List Entry) (e : Entry) → Ran c start rows → IsNextRow c (book_of c rows) e → Ran c start (rows ++ e ∷ [])
 ran_more c start rows e ran next = record {
   goes_on = record {
     meta = refl;
@@ -63,7 +65,7 @@ ran_more c start rows e ran next = record {
 }
 
 -- where one of two books is left, the book or one with the next row is left
-pub either_next : (leaves : Book → Type 0) (c : Campaign) (book : Book) (e : Entry) → IsNextRow c book e → LeavesEither leaves book (with_entry book e) → LeavesNext leaves c book
+pub either_next : (leaves : Book → Type 0) (c : Prepared) (book : Book) (e : Entry) → IsNextRow c book e → LeavesEither leaves book (with_entry book e) → LeavesNext leaves c book
 either_next leaves c book e next either other is = go (either other is)
   where
     go : (other ≡ book) ⊎ (other ≡ with_entry book e) → (other ≡ book) ⊎ ((f : Entry) × IsNextRow c book f × (other ≡ with_entry book f))
@@ -74,7 +76,7 @@ pub length_more : (rows : List Entry) (e : Entry) → length (rows ++ e ∷ []) 
 length_more rows e = length-append rows (e ∷ [])
 
 -- what a refused append leaves
-pub append_left : (holds leaves leaves' : Book → Type 0) (result : Result (Unit {0}) KeepError) (c : Campaign) (book : Book) (e : Entry) → IsNextRow c book e → Keeps holds leaves book
+pub append_left : (holds leaves leaves' : Book → Type 0) (result : Result (Unit {0}) KeepError) (c : Prepared) (book : Book) (e : Entry) → IsNextRow c book e → Keeps holds leaves book
     → (IsErrOf result Fault → (was : Book) → holds was → LeavesEither leaves' was (with_entry was e)) → (IsErrOf result Memory → LeavesNothingNew leaves leaves') → OnErr result (LeavesNext leaves' c book)
 append_left holds leaves leaves' (Ok done) c book e next kept either refused = tt
 append_left holds leaves leaves' (Err Fault) c book e next kept either refused = either_next leaves' c book e next (either refl book kept.told)
@@ -84,3 +86,13 @@ append_left holds leaves leaves' (Err Memory) c book e next kept either refused 
 pub on_ok : {T E : Type 0} (result : Result T E) (P : Type 0) → P → OnOk result P
 on_ok (Ok value) P p = p
 on_ok (Err error) P p = tt
+
+-- a row was added
+pub ran_added : (c : Prepared) (start old new : List Entry) (m : ℕ) → Ran c start old → AddsRow c old new m → Ran c start new
+ran_added c start old new m ran added = subst (λ (rows : List Entry). Ran c start rows) (sym added.is) (ran_more c start old added.row ran added.next)
+
+pub length_added : (c : Prepared) (old new : List Entry) (m : ℕ) → AddsRow c old new m → length new ≡ length old + 1
+length_added c old new m added = ap length added.is ∙ length_more old added.row
+
+pub next_row_of : (c : Prepared) (rows : List Entry) (e : Entry) (m t word : ℕ) → IsRow c.campaign rows e → IsPair m t e → e.word ≡ word → IsTrueWord c m word → IsNextRow c (book_of c rows) e
+next_row_of c rows e m t word row pair is right = record { row = row; word_true = rw (pair.0, is) right }

@@ -19,14 +19,15 @@ pub mod InputLemmas
 pub mod TrialLemmas
 pub mod Solved
 pub mod SitesListed
-pub mod Tracking
+pub mod Asking
 pub mod Growing
+pub mod Counting
 pub mod Plans
-pub mod Nexting
 pub mod Advancing
 pub mod Finishing
 pub mod Working
 pub mod Completing
+pub mod OneFault
 pub mod Once
 pub mod Exacting
 pub mod Living

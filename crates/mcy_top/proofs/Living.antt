@@ -7,11 +7,12 @@ use Rattle.mcy_keeper.specs.declared.book.Entry.{Entry}
 use Rattle.mcy_keeper.specs.declared.book.Book.{Book}
 use Rattle.mcy_keeper.specs.Books.{blank}
 use Rattle.mcy_outside.specs.Files.{Held}
-use Rattle.mcy_top.specs.declared.campaign.Campaign.{Campaign}
+use Rattle.mcy_top.specs.declared.prepared.Prepared.{Prepared}
 use Rattle.mcy_top.specs.declared.outcome.Outcome.{Outcome}
 use Rattle.mcy_top.specs.Campaigns.{IsPlan}
 use Rattle.mcy_top.specs.Changes.{Course, IsChange, IsNear}
-use Rattle.mcy_top.specs.Rows.{AreRows, AreTrue, GoesOn, IsBlankOrGood, IsGood, IsOther, IsPrefix, IsWithinOne}
+use Rattle.result_book.specs.Rows.{AreRows, IsPair}
+use Rattle.mcy_top.specs.Rows.{AreTrue, GoesOn, IsBlankOrGood, IsGood, IsPrefix, IsWithinOne}
 use Rattle.mcy_top.specs.Life.{Life}
 use Rattle.mcy_top.specs.Lives.{books_of, AreSafe, HasFinalText, HasPairsOnce, IsHistory, Lived}
 use Rattle.mcy_top.specs.Calls.{IsCovered, IsLived, IsSureBook}
@@ -50,30 +51,30 @@ prefix_few a b (inr on) =
 
 -- One change, and many.
 
-change_prefix : (c : Campaign) (book next : Book) → IsChange c book next → IsPrefix book next
+change_prefix : (c : Prepared) (book next : Book) → IsChange c book next → IsPrefix book next
 change_prefix c book next (inl begin) = inl begin.0
 change_prefix c book next (inr (form, (e, row, is))) = subst (λ (b : Book). IsPrefix book b) (sym is) (inr (record { meta = refl; mutations = refl; more = e ∷ []; rows = refl }))
 
-change_good : (c : Campaign) (book next : Book) → IsPlan c → IsChange c book next → IsBlankOrGood book → IsBlankOrGood next
+change_good : (c : Prepared) (book next : Book) → IsPlan c → IsChange c book next → IsBlankOrGood book → IsBlankOrGood next
 change_good c book next plan (inl begin) was = inr (subst IsGood (sym begin.1) (good_of c _ plan (opened_form c) tt))
 change_good c book next plan (inr (form, (e, row, is))) was =
     inr (subst IsGood (sym is) (good_of c _ plan (form_more c book e form row) (true_more c book.journal e (true_of c book plan form was) row.word_true)))
 
-near_prefix : (c : Campaign) (sure next : Book) → IsNear c sure next → IsPrefix sure next
+near_prefix : (c : Prepared) (sure next : Book) → IsNear c sure next → IsPrefix sure next
 near_prefix c sure next (inl same) = subst (λ (b : Book). IsPrefix sure b) (sym same) (prefix_itself sure)
 near_prefix c sure next (inr change) = change_prefix c sure next change
 
-near_good : (c : Campaign) (sure next : Book) → IsPlan c → IsNear c sure next → IsBlankOrGood sure → IsBlankOrGood next
+near_good : (c : Prepared) (sure next : Book) → IsPlan c → IsNear c sure next → IsBlankOrGood sure → IsBlankOrGood next
 near_good c sure next plan (inl same) was = subst IsBlankOrGood (sym same) was
 near_good c sure next plan (inr change) was = change_good c sure next plan change was
 
-course_good : (c : Campaign) (start : Book) (changes : List Book) (end : Book) → IsPlan c → Course c start changes end → IsBlankOrGood start → IsBlankOrGood end
+course_good : (c : Prepared) (start : Book) (changes : List Book) (end : Book) → IsPlan c → Course c start changes end → IsBlankOrGood start → IsBlankOrGood end
 course_good c start [] end plan course was = subst IsBlankOrGood (sym course) was
 course_good c start (next ∷ more) end plan course was = course_good c next more end plan course.1 (change_good c start next plan course.0 was)
 
 -- The books of a life, and those of the lives after it.
 
-books_good : (c : Campaign) (start : Book) (changes : List Book) (end : Book) (later : List Book) → IsPlan c → Course c start changes end → IsBlankOrGood start → All IsBlankOrGood later → All IsBlankOrGood ((start ∷ changes ++ end ∷ []) ++ later)
+books_good : (c : Prepared) (start : Book) (changes : List Book) (end : Book) (later : List Book) → IsPlan c → Course c start changes end → IsBlankOrGood start → All IsBlankOrGood later → All IsBlankOrGood ((start ∷ changes ++ end ∷ []) ++ later)
 books_good c start [] end later plan course was rest = All-cons IsBlankOrGood start (end ∷ later) was (All-cons IsBlankOrGood end later (subst IsBlankOrGood (sym course) was) rest)
 books_good c start (next ∷ more) end later plan course was rest =
     All-cons IsBlankOrGood start ((next ∷ more ++ end ∷ []) ++ later) was (books_good c next more end later plan course.1 (change_good c start next plan course.0 was) rest)
@@ -82,11 +83,11 @@ all_good : (start : Book) (lives : List Lived) → IsBlankOrGood start → IsHis
 all_good start [] was history = All-nil IsBlankOrGood
 all_good start (l ∷ more) was (same, life, (next, near, history)) =
     let begin : IsBlankOrGood l.start = subst IsBlankOrGood (sym same) was in
-    let end : IsBlankOrGood l.sure = course_good l.campaign l.start l.changes l.sure life.plan life.course begin in
-    books_good l.campaign l.start l.changes l.sure (books_of more) life.plan life.course begin (all_good next more (near_good l.campaign l.sure next life.plan near end) history)
+    let end : IsBlankOrGood l.sure = course_good l.prepared l.start l.changes l.sure life.plan life.course begin in
+    books_good l.prepared l.start l.changes l.sure (books_of more) life.plan life.course begin (all_good next more (near_good l.prepared l.sure next life.plan near end) history)
 
 -- a book that is a first part of the start is one of all that follow
-books_after : (book : Book) (c : Campaign) (start : Book) (changes : List Book) (end : Book) (later : List Book) → Course c start changes end → IsPrefix book start → (IsPrefix book end → All (IsPrefix book) later) → All (IsPrefix book) ((start ∷ changes ++ end ∷ []) ++ later)
+books_after : (book : Book) (c : Prepared) (start : Book) (changes : List Book) (end : Book) (later : List Book) → Course c start changes end → IsPrefix book start → (IsPrefix book end → All (IsPrefix book) later) → All (IsPrefix book) ((start ∷ changes ++ end ∷ []) ++ later)
 books_after book c start [] end later course before rest =
     let last : IsPrefix book end = subst (λ (b : Book). IsPrefix book b) (sym course) before in
     All-cons (IsPrefix book) start (end ∷ later) before (All-cons (IsPrefix book) end later last (rest last))
@@ -96,10 +97,10 @@ books_after book c start (next ∷ more) end later course before rest =
 all_after : (book start : Book) (lives : List Lived) → IsPrefix book start → IsHistory start lives → All (IsPrefix book) (books_of lives)
 all_after book start [] before history = All-nil (IsPrefix book)
 all_after book start (l ∷ more) before (same, life, (next, near, history)) =
-    books_after book l.campaign l.start l.changes l.sure (books_of more) life.course (subst (λ (b : Book). IsPrefix book b) (sym same) before)
-    (λ end. all_after book next more (prefix_trans book l.sure next end (near_prefix l.campaign l.sure next near)) history)
+    books_after book l.prepared l.start l.changes l.sure (books_of more) life.course (subst (λ (b : Book). IsPrefix book b) (sym same) before)
+    (λ end. all_after book next more (prefix_trans book l.sure next end (near_prefix l.prepared l.sure next near)) history)
 
-books_kept : (c : Campaign) (start : Book) (changes : List Book) (end : Book) (later : List Book) → Course c start changes end → ((book : Book) → IsPrefix book end → All (IsPrefix book) later) → AllPairs IsPrefix later → AllPairs IsPrefix ((start ∷ changes ++ end ∷ []) ++ later)
+books_kept : (c : Prepared) (start : Book) (changes : List Book) (end : Book) (later : List Book) → Course c start changes end → ((book : Book) → IsPrefix book end → All (IsPrefix book) later) → AllPairs IsPrefix later → AllPairs IsPrefix ((start ∷ changes ++ end ∷ []) ++ later)
 books_kept c start [] end later course rest kept =
     let last : IsPrefix start end = subst (λ (b : Book). IsPrefix start b) (sym course) (prefix_itself start) in
     AllPairs-cons IsPrefix start (end ∷ later) (All-cons (IsPrefix start) end later last (rest start last)) (AllPairs-cons IsPrefix end later (rest end (prefix_itself end)) kept)
@@ -109,33 +110,33 @@ books_kept c start (next ∷ more) end later course rest kept =
 all_kept : (start : Book) (lives : List Lived) → IsHistory start lives → AllPairs IsPrefix (books_of lives)
 all_kept start [] history = λ i j d lt within. absurd (omega (arith, within))
 all_kept start (l ∷ more) (same, life, (next, near, history)) =
-    books_kept l.campaign l.start l.changes l.sure (books_of more) life.course
-    (λ book end. all_after book next more (prefix_trans book l.sure next end (near_prefix l.campaign l.sure next near)) history) (all_kept next more history)
+    books_kept l.prepared l.start l.changes l.sure (books_of more) life.course
+    (λ book end. all_after book next more (prefix_trans book l.sure next end (near_prefix l.prepared l.sure next near)) history) (all_kept next more history)
 
 -- No pair stands twice.
 
-others_later : (c : Campaign) (row : Entry) (earlier rows : List Entry) → Contains earlier row → AreRows c earlier rows → All (λ e. IsOther e row) rows
-others_later c row earlier [] has all = All-nil (λ e. IsOther e row)
+others_later : (c : Prepared) (row : Entry) (earlier rows : List Entry) → Contains earlier row → AreRows c.campaign earlier rows → All (λ e. ¬ IsPair e.mutation e.test row) rows
+others_later c row earlier [] has all = All-nil (λ e. ¬ IsPair e.mutation e.test row)
 others_later c row earlier (e ∷ rows) has all =
-    All-cons (λ e. IsOther e row) e rows (All-contains (IsOther e) earlier row all.0.new has) (others_later c row (earlier ++ e ∷ []) rows (Contains-append_left earlier (e ∷ []) row has) all.1)
+    All-cons (λ e. ¬ IsPair e.mutation e.test row) e rows (All-contains (λ row. ¬ IsPair e.mutation e.test row) earlier row all.0.new has) (others_later c row (earlier ++ e ∷ []) rows (Contains-append_left earlier (e ∷ []) row has) all.1)
 
-rows_once : (c : Campaign) (earlier rows : List Entry) → AreRows c earlier rows → AllPairs (λ row e. IsOther e row) rows
+rows_once : (c : Prepared) (earlier rows : List Entry) → AreRows c.campaign earlier rows → AllPairs (λ row e. ¬ IsPair e.mutation e.test row) rows
 rows_once c earlier [] all = λ i j d lt within. absurd (omega (arith, within))
 rows_once c earlier (row ∷ rows) all =
-    AllPairs-cons (λ row e. IsOther e row) row rows (others_later c row (earlier ++ row ∷ []) rows (Contains-push earlier row) all.1) (rows_once c (earlier ++ row ∷ []) rows all.1)
+    AllPairs-cons (λ row e. ¬ IsPair e.mutation e.test row) row rows (others_later c row (earlier ++ row ∷ []) rows (Contains-push earlier row) all.1) (rows_once c (earlier ++ row ∷ []) rows all.1)
 
 pairs_once : (book : Book) → IsBlankOrGood book → HasPairsOnce book
 pairs_once book (inl empty) = subst HasPairsOnce (sym empty) (λ i j d lt within. absurd (omega (arith, within)))
-pairs_once book (inr good) = rows_once good.campaign [] book.journal good.form.rows
+pairs_once book (inr good) = rows_once good.prepared [] book.journal good.form.rows
 
 -- A finished book's text.
 
-all_final : (start : Book) (lives : List Lived) → IsBlankOrGood start → IsHistory start lives → All (λ l. HasFinalText l.campaign l.sure) lives
-all_final start [] was history = All-nil (λ l. HasFinalText l.campaign l.sure)
+all_final : (start : Book) (lives : List Lived) → IsBlankOrGood start → IsHistory start lives → All (λ l. HasFinalText l.prepared l.sure) lives
+all_final start [] was history = All-nil (λ l. HasFinalText l.prepared l.sure)
 all_final start (l ∷ more) was (same, life, (next, near, history)) =
-    let end : IsBlankOrGood l.sure = course_good l.campaign l.start l.changes l.sure life.plan life.course (subst IsBlankOrGood (sym same) was) in
-    All-cons (λ l. HasFinalText l.campaign l.sure) l more (λ form finished. final_is l.campaign l.sure form (true_of l.campaign l.sure life.plan form end) finished)
-    (all_final next more (near_good l.campaign l.sure next life.plan near end) history)
+    let end : IsBlankOrGood l.sure = course_good l.prepared l.start l.changes l.sure life.plan life.course (subst IsBlankOrGood (sym same) was) in
+    All-cons (λ l. HasFinalText l.prepared l.sure) l more (λ form finished. final_is l.prepared l.sure form (true_of l.prepared l.sure life.plan form end) finished)
+    (all_final next more (near_good l.prepared l.sure next life.plan near end) history)
 
 pub lives_safe : (lives : List Lived) → IsHistory blank lives → AreSafe lives
 lives_safe lives history =
@@ -149,24 +150,24 @@ lives_safe lives history =
 
 -- A first part of a good book is good.
 
-rows_first : (c : Campaign) (earlier rows more : List Entry) → AreRows c earlier (rows ++ more) → AreRows c earlier rows
+rows_first : (c : Prepared) (earlier rows more : List Entry) → AreRows c.campaign earlier (rows ++ more) → AreRows c.campaign earlier rows
 rows_first c earlier [] more all = tt
 rows_first c earlier (row ∷ rows) more all = (all.0, rows_first c (earlier ++ row ∷ []) rows more all.1)
 
-true_first : (c : Campaign) (rows more : List Entry) → AreTrue c (rows ++ more) → AreTrue c rows
+true_first : (c : Prepared) (rows more : List Entry) → AreTrue c (rows ++ more) → AreTrue c rows
 true_first c [] more all = tt
 true_first c (row ∷ rows) more all = (all.0, true_first c rows more all.1)
 
 pub part_good : (book part : Book) → IsGood book → GoesOn part book → IsGood part
 part_good book part good on = record {
-  campaign = good.campaign;
+  prepared = good.prepared;
   plan = good.plan;
   form = record {
     meta = sym on.meta ∙ good.form.meta;
     mutations = sym on.mutations ∙ good.form.mutations;
-    rows = rows_first good.campaign [] part.journal on.more (subst (λ (rows : List Entry). AreRows good.campaign [] rows) on.rows good.form.rows);
+    rows = rows_first good.prepared [] part.journal on.more (subst (λ (rows : List Entry). AreRows good.prepared.campaign [] rows) on.rows good.form.rows);
   };
-  words_true = true_first good.campaign part.journal on.more (subst (AreTrue good.campaign) on.rows good.words_true);
+  words_true = true_first good.prepared part.journal on.more (subst (AreTrue good.prepared) on.rows good.words_true);
 }
 
 -- What a call is sure of.
@@ -180,7 +181,7 @@ covered leaves sure book within longest =
     }
 
 pub lived_of : (words : List (List ℕ)) (held : Option Held) (holds leaves leaves' : Book → Type 0) (written written' : Option (List ℕ)) (taken taken' : ℕ) (outcome : Outcome)
-    → (life : Life words held holds leaves leaves' written written' taken taken' outcome) → IsLived leaves leaves' life.campaign life.loaded life.work.sure
+    → (life : Life words held holds leaves leaves' written written' taken taken' outcome) → IsLived leaves leaves' life.prepared life.loaded life.work.sure
 lived_of words held holds leaves leaves' written written' taken taken' outcome life = record {
   changes = life.work.book.changes;
   life = record { plan = record { config = life.made.config; bytes = life.made.bytes; made = life.made.made }; course = life.work.book.course };

@@ -1,23 +1,24 @@
 -- A project and its source have one campaign, and what a campaign defines is one.
-use Rattle.std.proofs.Common.{◌≡◌, inl, inr, arith, ℕ, ◌+◌, Bool, true, false, MatchBool, List, [], ◌∷◌, ◌++◌, length, map, slice_get, Option, None, Some, refl, sym, ap, subst, ◌∙◌, codes}
+use Rattle.std.proofs.Common.{◌≡◌, inl, inr, arith, ℕ, ◌+◌, Bool, true, false, MatchBool, List, [], ◌∷◌, ◌++◌, length, slice_get, Option, None, Some, refl, sym, ap, subst, ◌∙◌, codes}
 use Rattle.mcy_keeper.specs.declared.book.Book.{Book}
 use Rattle.mcy_top.specs.declared.netlist.RawNetlist.{RawNetlist}
 use Rattle.mcy_top.specs.declared.site.Site.{Site}
 use Rattle.mcy_top.specs.declared.thin.ThinModule.{ThinModule}
-use Rattle.mcy_top.specs.declared.campaign.Campaign.{Campaign}
-use Rattle.mcy_top.specs.declared.script.Ask.{Ask}
-use Rattle.mcy_top.specs.declared.script.Ask.TheVariants.{Need}
+use Rattle.mcy_top.specs.declared.prepared.Prepared.{Prepared}
+use Rattle.result_book.specs.declared.script.Ask.{Ask}
+use Rattle.result_book.specs.declared.script.Ask.TheVariants.{Need}
 use Rattle.mcy_top.specs.ThinModules.{IsSource}
 use Rattle.mcy_top.specs.ThinNetlists.{netlist_of}
 use Rattle.mcy_top.specs.Sites.{sites}
-use Rattle.mcy_top.specs.SiteTexts.{site_text}
-use Rattle.mcy_top.specs.Scripts.{Answer, ask, is_ended}
-use Rattle.mcy_top.specs.Campaigns.{meta_of, plan_of, source_name, IsPlan}
-use Rattle.mcy_top.specs.Rows.{AreTrue, IsBlankOrGood, IsTrueWord, IsTrueWordAt, IsWellFormed}
-use Rattle.mcy_top.specs.Texts.{groups, status_text}
+use Rattle.result_book.specs.Scripts.{Answer, ask, is_ended}
+use Rattle.mcy_top.specs.Campaigns.{campaign_of, meta_of, plan_of, source_name, IsPlan}
+use Rattle.result_book.specs.Rows.{IsWellFormed}
+use Rattle.mcy_top.specs.Rows.{AreTrue, IsBlankOrGood, IsTrueWord, IsTrueWordAt}
+use Rattle.source_report.specs.Texts.{lines, status_text}
 use Rattle.mcy_top.specs.Defined.{given_up, is_given_up, AreAllAnswers, AreAnswers, IsFinalText, IsWordOf, Pair}
 use Rattle.mcy_top.specs.Once.{GaveUpSame, IsEnded}
 use Rattle.mcy_top.proofs.ThinText.{source_once}
+use Rattle.mcy_top.proofs.Plans.{plan_meta}
 use Rattle.mcy_top.proofs.Finishing.{final_is}
 
 -- The campaign.
@@ -29,19 +30,22 @@ source_kept config source config' source' same =
     let bytes : 103 ∷ 46 ∷ 118 ∷ 10 ∷ source ≡ 103 ∷ 46 ∷ 118 ∷ 10 ∷ source' = file in
     cc
 
-pub plan_once : (c d : Campaign) → IsPlan c → IsPlan d → c.meta ≡ d.meta → c ≡ d
+pub plan_once : (c d : Prepared) → IsPlan c → IsPlan d → c.campaign.meta ≡ d.campaign.meta → c ≡ d
 plan_once c d one two same =
-    let bytes : one.bytes ≡ two.bytes = source_kept one.config one.bytes two.config two.bytes (sym one.made.meta ∙ same ∙ two.made.meta) in
+    let kept : meta_of one.config one.bytes ≡ meta_of two.config two.bytes = sym (plan_meta c one) ∙ same ∙ plan_meta d two in
+    let config : one.config ≡ two.config = cc in
+    let bytes : one.bytes ≡ two.bytes = source_kept one.config one.bytes two.config two.bytes kept in
     let parsed : one.made.parsed ≡ two.made.parsed = source_once two.bytes one.made.parsed two.made.parsed (subst (λ (b : List ℕ). IsSource b one.made.parsed) bytes one.made.text) two.made.text in
     let netlist : c.netlist ≡ d.netlist = one.made.netlist ∙ ap plan_of parsed ∙ sym two.made.netlist in
     let places : c.sites ≡ d.sites = one.made.places ∙ ap (λ (m : ThinModule). sites (netlist_of m)) parsed ∙ sym two.made.places in
-    let mutations : c.mutations ≡ d.mutations = one.made.mutations ∙ ap (λ (m : ThinModule). map (site_text (netlist_of m) source_name) (sites (netlist_of m))) parsed ∙ sym two.made.mutations in
-    λ i. record { meta = same i; mutations = mutations i; sites = places i; netlist = netlist i }
+    let derived : campaign_of one.config one.bytes one.made.parsed ≡ campaign_of two.config two.bytes two.made.parsed = λ i. campaign_of (config i) (bytes i) (parsed i) in
+    let campaign : c.campaign ≡ d.campaign = one.made.campaign ∙ derived ∙ sym two.made.campaign in
+    λ i. record { campaign = campaign i; sites = places i; netlist = netlist i }
 
 -- a good book's words are true for the campaign that it is well-formed for
-pub true_of : (c : Campaign) (book : Book) → IsPlan c → IsWellFormed c book → IsBlankOrGood book → AreTrue c book.journal
+pub true_of : (c : Prepared) (book : Book) → IsPlan c → IsWellFormed c.campaign book → IsBlankOrGood book → AreTrue c book.journal
 true_of c book plan form (inl empty) = subst (λ (b : Book). AreTrue c b.journal) (sym empty) tt
-true_of c book plan form (inr good) = subst (λ (d : Campaign). AreTrue d book.journal) (plan_once good.campaign c good.plan plan (sym good.form.meta ∙ form.meta)) good.words_true
+true_of c book plan form (inr good) = subst (λ (d : Prepared). AreTrue d book.journal) (plan_once good.prepared c good.plan plan (sym good.form.meta ∙ form.meta)) good.words_true
 
 -- What it defines.
 
@@ -56,7 +60,7 @@ true_word_once netlist (Some site) a b (inr h) (inr k) = h.0 ∙ sym k.0
 abbrev SamePairs : List Pair → List Pair → ℕ → Type 0
 SamePairs pairs others m = (t : ℕ) → is_given_up pairs m t ≡ is_given_up others m t
 
-word_once : (c : Campaign) (pairs others : List Pair) (m t a b : ℕ) → is_given_up pairs m t ≡ is_given_up others m t → IsWordOf c pairs m t a → IsWordOf c others m t b → a ≡ b
+word_once : (c : Prepared) (pairs others : List Pair) (m t a b : ℕ) → is_given_up pairs m t ≡ is_given_up others m t → IsWordOf c pairs m t a → IsWordOf c others m t b → a ≡ b
 word_once c pairs others m t a b same h k = go (is_given_up others m t) (subst (λ (x : Bool). MatchBool x (a ≡ 3) (IsTrueWord c m a)) same h) k
   where
     go : (x : Bool) → MatchBool x (a ≡ 3) (IsTrueWord c m a) → MatchBool x (b ≡ 3) (IsTrueWord c m b) → a ≡ b
@@ -67,7 +71,7 @@ word_once c pairs others m t a b same h k = go (is_given_up others m t) (subst (
 not_ended : (asked : Ask) (t : ℕ) → asked ≡ Need t → ¬ (is_ended asked ≡ true)
 not_ended asked t needs ended = let is : is_ended (Need t) ≡ true = subst (λ (x : Ask). is_ended x ≡ true) needs ended in cc
 
-answers_once : (c : Campaign) (pairs others : List Pair) (m : ℕ) (earlier xs ys : List Answer) → SamePairs pairs others m → AreAnswers c pairs m earlier xs → AreAnswers c others m earlier ys → xs ≡ ys
+answers_once : (c : Prepared) (pairs others : List Pair) (m : ℕ) (earlier xs ys : List Answer) → SamePairs pairs others m → AreAnswers c pairs m earlier xs → AreAnswers c others m earlier ys → xs ≡ ys
 answers_once c pairs others m earlier [] [] same h k = refl
 answers_once c pairs others m earlier [] (b ∷ ys) same h k = absurd (not_ended (ask earlier) b.test k.0 h)
 answers_once c pairs others m earlier (a ∷ xs) [] same h k = absurd (not_ended (ask earlier) a.test h.0 k)
@@ -79,33 +83,33 @@ answers_once c pairs others m earlier (a ∷ xs) (b ∷ ys) same h k =
     let rest : xs ≡ ys = answers_once c pairs others m (earlier ++ a ∷ []) xs ys same h.2 (subst (λ (x : Answer). AreAnswers c others m (earlier ++ x ∷ []) ys) (sym first) k.2) in
     cc
 
-count_all : (c : Campaign) (pairs : List Pair) (m : ℕ) (all : List (List Answer)) → AreAllAnswers c pairs m all → m + length all ≡ length c.sites
-count_all c pairs m [] h = let is : m ≡ length c.sites = h in omega arith
+count_all : (c : Prepared) (pairs : List Pair) (m : ℕ) (all : List (List Answer)) → AreAllAnswers c pairs m all → m + length all ≡ length c.campaign.mutations
+count_all c pairs m [] h = let is : m ≡ length c.campaign.mutations = h in omega arith
 count_all c pairs m (answers ∷ more) h = omega (arith, count_all c pairs (m + 1) more h.1)
 
-all_once : (c : Campaign) (pairs others : List Pair) (m : ℕ) (xs ys : List (List Answer)) → ((k : ℕ) → SamePairs pairs others k) → AreAllAnswers c pairs m xs → AreAllAnswers c others m ys → xs ≡ ys
+all_once : (c : Prepared) (pairs others : List Pair) (m : ℕ) (xs ys : List (List Answer)) → ((k : ℕ) → SamePairs pairs others k) → AreAllAnswers c pairs m xs → AreAllAnswers c others m ys → xs ≡ ys
 all_once c pairs others m [] [] same h k = refl
-all_once c pairs others m [] (b ∷ ys) same h k = let is : m ≡ length c.sites = h in absurd (omega (arith, count_all c others m (b ∷ ys) k))
-all_once c pairs others m (a ∷ xs) [] same h k = let is : m ≡ length c.sites = k in absurd (omega (arith, count_all c pairs m (a ∷ xs) h))
+all_once c pairs others m [] (b ∷ ys) same h k = let is : m ≡ length c.campaign.mutations = h in absurd (omega (arith, count_all c others m (b ∷ ys) k))
+all_once c pairs others m (a ∷ xs) [] same h k = let is : m ≡ length c.campaign.mutations = k in absurd (omega (arith, count_all c pairs m (a ∷ xs) h))
 all_once c pairs others m (a ∷ xs) (b ∷ ys) same h k =
     let first : a ≡ b = answers_once c pairs others m [] a b (same m) h.0 k.0 in
     let rest : xs ≡ ys = all_once c pairs others (m + 1) xs ys same h.1 k.1 in
     cc
 
-pub all_answers_once : (c : Campaign) (pairs : List Pair) (all others : List (List Answer)) → AreAllAnswers c pairs 0 all → AreAllAnswers c pairs 0 others → all ≡ others
+pub all_answers_once : (c : Prepared) (pairs : List Pair) (all others : List (List Answer)) → AreAllAnswers c pairs 0 all → AreAllAnswers c pairs 0 others → all ≡ others
 all_answers_once c pairs all others h k = all_once c pairs pairs 0 all others (λ m t. refl) h k
 
 -- the text depends on which pairs are given up alone
-final_text_by_pairs : (c : Campaign) (pairs others : List Pair) (text other : List ℕ) → ((m t : ℕ) → is_given_up pairs m t ≡ is_given_up others m t) → IsFinalText c pairs text → IsFinalText c others other → text ≡ other
-final_text_by_pairs c pairs others text other same h k = h.is ∙ ap status_text (all_once c pairs others 0 h.all k.all same h.defined k.defined) ∙ sym k.is
+final_text_by_pairs : (c : Prepared) (pairs others : List Pair) (text other : List ℕ) → ((m t : ℕ) → is_given_up pairs m t ≡ is_given_up others m t) → IsFinalText c pairs text → IsFinalText c others other → text ≡ other
+final_text_by_pairs c pairs others text other same h k = h.is ∙ ap (lines c.campaign) (all_once c pairs others 0 h.all k.all same h.defined k.defined) ∙ sym k.is
 
-pub final_text_once : (c : Campaign) (pairs : List Pair) (text other : List ℕ) → IsFinalText c pairs text → IsFinalText c pairs other → text ≡ other
+pub final_text_once : (c : Prepared) (pairs : List Pair) (text other : List ℕ) → IsFinalText c pairs text → IsFinalText c pairs other → text ≡ other
 final_text_once c pairs text other h k = final_text_by_pairs c pairs pairs text other (λ m t. refl) h k
 
 -- the text that the campaign defines for a finished book
-ended_text : (c : Campaign) (book : Book) → IsPlan c → IsEnded c book → IsFinalText c (given_up book.journal) (status_text (groups c book))
+ended_text : (c : Prepared) (book : Book) → IsPlan c → IsEnded c book → IsFinalText c (given_up book.journal) (status_text c.campaign book.journal)
 ended_text c book plan ended = final_is c book ended.form (true_of c book plan ended.form (inr ended.good)) ended.finished
 
-pub finished_text_once : (c : Campaign) (book other : Book) → IsPlan c → IsEnded c book → IsEnded c other → GaveUpSame book other → status_text (groups c book) ≡ status_text (groups c other)
+pub finished_text_once : (c : Prepared) (book other : Book) → IsPlan c → IsEnded c book → IsEnded c other → GaveUpSame book other → status_text c.campaign book.journal ≡ status_text c.campaign other.journal
 finished_text_once c book other plan ended done same =
-    final_text_by_pairs c (given_up book.journal) (given_up other.journal) (status_text (groups c book)) (status_text (groups c other)) same (ended_text c book plan ended) (ended_text c other plan done)
+    final_text_by_pairs c (given_up book.journal) (given_up other.journal) (status_text c.campaign book.journal) (status_text c.campaign other.journal) same (ended_text c book plan ended) (ended_text c other plan done)

@@ -1,38 +1,61 @@
 -- The work of a command, put together.
-use Rattle.std.proofs.Common.{◌≡◌, ◌≢◌, ◌⊎◌, inl, inr, arith, ℕ, ◌+◌, List, [], length, refl, sym, subst, ◌∙◌, Option}
+use Rattle.std.proofs.Common.{◌≡◌, ◌≢◌, ◌⊎◌, inl, inr, arith, ℕ, ◌+◌, ◌-◌, ◌<◌, ◌≤◌, ◌==◌, Bool, true, false, List, [], ◌∷◌, ◌++◌, length, refl, sym, ap, subst, ◌∙◌, Option, None, Some, Result, Ok, Err, OnErr, IsErrOf, if◌then◌else◌}
+use Rattle.std.proofs.lemmas.Bool.Decides.{eqb_tells}
 use Rattle.mcy_base.specs.Causes.{Rose}
+use Rattle.mcy_keeper.specs.declared.book.Entry.{Entry}
 use Rattle.mcy_keeper.specs.declared.book.Book.{Book}
 use Rattle.mcy_keeper.specs.declared.keeper.KeepError.{KeepError}
 use Rattle.mcy_keeper.specs.declared.keeper.KeepError.TheVariants.{Fault as KeepFault, Memory as KeepMemory}
-use Rattle.mcy_keeper.specs.Books.{blank, IsBlank, Keeps, LeavesOnly}
+use Rattle.mcy_keeper.specs.Books.{blank, IsBlank, Keeps, LeavesEither, LeavesNothingNew, LeavesOnly, with_entry}
+use Rattle.result_book.specs.declared.check.BookError.{BookError}
+use Rattle.result_book.specs.declared.check.BookError.TheVariants.{Meta, Mutation, Row, Stray, Memory as NoBookMemory}
+use Rattle.result_book.specs.Scripts.{is_ended}
+use Rattle.result_book.specs.Rows.{ask_on, IsFinished, IsWellFormed}
+use Rattle.result_book.specs.BookFaults.{IsRefused}
+use Rattle.result_book.specs.BookLaws.{RefusedBooksAreIllFormed}
+use Rattle.source_report.specs.Texts.{status_text}
 use Rattle.mcy_top.specs.declared.command.Command.{Command}
-use Rattle.mcy_top.specs.declared.command.Command.TheVariants.{Run}
-use Rattle.mcy_top.specs.declared.campaign.Campaign.{Campaign}
+use Rattle.mcy_top.specs.declared.command.Command.TheVariants.{Init, Run, Status}
+use Rattle.mcy_top.specs.declared.prepared.Prepared.{Prepared}
 use Rattle.mcy_top.specs.declared.work.Ending.{Ending}
 use Rattle.mcy_top.specs.declared.work.Ending.TheVariants.{Written, Refused, NoMemory}
+use Rattle.mcy_top.specs.declared.outcome.BookRefusal.{BookRefusal}
+use Rattle.mcy_top.specs.declared.outcome.BookRefusal.TheVariants.{NoCampaign as RefusedNone, AlreadyBegun as RefusedBegun, BookBad as RefusedBook, Memory as RefusedMemory}
 use Rattle.mcy_top.specs.declared.outcome.Outcome.{Outcome}
-use Rattle.mcy_top.specs.declared.outcome.Outcome.TheVariants.{AlreadyBegun, KeeperFault, Memory}
+use Rattle.mcy_top.specs.declared.outcome.Outcome.TheVariants.{Done, Unfinished, NoCampaign, AlreadyBegun, BookBad, KeeperFault, WriteFault, Memory}
+use Rattle.mcy_top.specs.Commands.{slots_of, OnlyReads, Runs}
 use Rattle.mcy_top.specs.Campaigns.{IsPlan}
-use Rattle.mcy_top.specs.Rows.{IsBlankOrGood, IsFinished, IsGood, IsPrefix, IsWellFormed, IsWithinOne}
-use Rattle.mcy_top.specs.Changes.{Course}
-use Rattle.mcy_top.specs.Running.{Advanced, Stopped}
-use Rattle.mcy_top.specs.Texts.{groups, status_text}
-use Rattle.mcy_top.specs.Endings.{ended_outcome, failed_outcome, Delivers, Ends}
-use Rattle.mcy_top.specs.Life.{Answers, Carried, Grew, Work, Wrote}
-use Rattle.mcy_top.proofs.Advancing.{within_itself}
+use Rattle.mcy_top.specs.Rows.{AreTrue, IsBlankOrGood, IsGood, IsNextRow, IsPrefix, IsWithinOne}
+use Rattle.mcy_top.specs.Changes.{Course, IsNear, opened}
+use Rattle.mcy_top.specs.Running.{book_of, Broke, LeavesNext, Ran, Reached}
+use Rattle.mcy_top.specs.Texts.{init_text, text_of}
+use Rattle.mcy_top.specs.Outcomes.{book_outcome}
+use Rattle.mcy_top.specs.BookRefusals.{IsBookBad, RefusesBook}
+use Rattle.mcy_top.specs.Endings.{ended_outcome, failed_outcome, run_outcome, Delivers, Ends}
+use Rattle.mcy_top.specs.Life.{finished_count, Answers, Carried, Grew, IsStopped, Takes, Work, Wrote}
+use Rattle.mcy_top.proofs.Advancing.{good_of, opened_form, within_itself, within_more}
+use Rattle.mcy_top.proofs.Counting.{all_counted, counted_all, counted_few}
 use Rattle.mcy_top.proofs.Finishing.{final_is}
+use Rattle.mcy_top.proofs.Growing.{form_more, true_more}
+use Rattle.mcy_top.proofs.Once.{true_of}
+use Rattle.mcy_top.proofs.Plans.{plan_meta}
 
 -- a begun book has meta
-pub form_meta : (c : Campaign) (book : Book) → IsPlan c → IsWellFormed c book → book.meta ≢ []
-form_meta c book plan form none = let made = form.meta ∙ plan.made.meta in cc
+pub plan_begun : (c : Prepared) → IsPlan c → c.campaign.meta ≢ []
+plan_begun c plan none = let made = sym none ∙ plan_meta c plan in cc
+
+pub form_meta : (c : Prepared) (book : Book) → IsPlan c → IsWellFormed c.campaign book → book.meta ≢ []
+form_meta c book plan form none = plan_begun c plan (sym form.meta ∙ none)
 
 -- a crash leaves the sure book and nothing else
-pub grew_exact : (leaves : Book → Type 0) (c : Campaign) (loaded sure : Book) (changes : List Book) (outcome : Outcome) → Course c loaded changes sure → LeavesOnly leaves sure → IsPrefix loaded sure
-    → (IsBlankOrGood loaded → IsGood sure ⊎ (IsBlank sure × IsBlank loaded)) → (Carried outcome → sure.meta ≢ []) → Grew leaves c loaded sure outcome
-grew_exact leaves c loaded sure changes outcome course only grown good meta = record {
+grew_exact : (leaves : Book → Type 0) (command : Command) (c : Prepared) (loaded sure : Book) (changes : List Book) (outcome : Outcome) → Course c loaded changes sure → LeavesOnly leaves sure → IsPrefix loaded sure
+    → (IsBlankOrGood loaded → IsGood sure ⊎ (IsBlank sure × IsBlank loaded)) → (OnlyReads command → sure ≡ loaded) → (¬ Runs command → sure.journal ≡ loaded.journal) → (Carried outcome → sure.meta ≢ []) → Grew leaves command c loaded sure outcome
+grew_exact leaves command c loaded sure changes outcome course only grown good reads idle meta = record {
   grown = grown;
   within_one = λ other is. subst (λ (b : Book). IsWithinOne sure b) (sym (only.nothing_else other is)) (within_itself sure);
   good = λ was other is. subst (λ (b : Book). IsGood b ⊎ (IsBlank b × IsBlank loaded)) (sym (only.nothing_else other is)) (good was);
+  reads = λ h. subst (λ (b : Book). LeavesOnly leaves b) (reads h) only;
+  no_entry = λ h other is. ap (λ (b : Book). b.journal) (only.nothing_else other is) ∙ idle h;
   exact = λ h. only;
   is_begun = meta;
   changes = changes;
@@ -40,76 +63,313 @@ grew_exact leaves c loaded sure changes outcome course only grown good meta = re
   near = λ other is. inl (only.nothing_else other is);
 }
 
--- a run that want of memory or an error of the keeper ended
-grew_stopped : (leaves : Book → Type 0) (c : Campaign) (loaded : Book) (before now : ℕ) (outcome : Outcome) (s : Stopped leaves c loaded before now) → ¬ Carried outcome → Grew leaves c loaded s.sure outcome
-grew_stopped leaves c loaded before now outcome s not = record {
-  grown = s.grown;
-  within_one = s.within_one;
-  good = s.good;
-  exact = λ h. absurd (not h);
-  is_begun = λ h. absurd (not h);
-  changes = s.changes;
-  course = s.course;
-  near = s.near;
-}
-
-pub work_stopped : (leaves : Book → Type 0) (written written' : Option (List ℕ)) (before now : ℕ) (c : Campaign) (e : KeepError) → Stopped leaves c blank before now → written' ≡ written → Work leaves written written' before now Run c blank (failed_outcome e)
-work_stopped leaves written written' before now c KeepFault s same = record {
-  sure = s.sure;
-  book = grew_stopped leaves c blank before now KeeperFault s (λ h. h);
-  steps = record { bound = s.steps; equal = λ is. cc };
-  text = same;
-  answer = refl;
-}
-work_stopped leaves written written' before now c KeepMemory s same = record {
-  sure = s.sure;
-  book = grew_stopped leaves c blank before now Memory s (λ h. h);
-  steps = record { bound = s.steps; equal = λ is. cc };
-  text = same;
-  answer = tt;
-}
-
-pub work_ran : (holds leaves : Book → Type 0) (written written' : Option (List ℕ)) (before now : ℕ) (c : Campaign) (book : Book) (ending : Ending)
-    → IsPlan c → Advanced c blank book → IsFinished c book → Keeps holds leaves book → now ≡ before + length book.journal
-    → Delivers written written' (status_text (groups c book)) ending → Work leaves written written' before now Run c blank (ended_outcome ending)
-work_ran holds leaves written written' before now c book ending plan went finished kept steps wrote = record {
-  sure = book;
-  book = grew_exact leaves c blank book went.changes (ended_outcome ending) went.course kept.crash went.grown (λ was. inl (went.good was)) (λ h. form_meta c book plan went.form);
-  steps = record { bound = omega (arith, steps); equal = λ is. omega (arith, steps) };
-  text = text ending wrote;
-  answer = answer ending;
-}
-  where
-    text : (e : Ending) → Delivers written written' (status_text (groups c book)) e → Wrote written written' (status_text (groups c book)) (ended_outcome e)
-    text Written w = w
-    text Refused w = w
-    text NoMemory w = w
-
-    answer : (e : Ending) → Answers Run c blank book (ended_outcome e)
-    answer Written = (refl, went.form, record { finished = finished; final = λ was. final_is c book went.form (went.words_true was) finished })
-    answer Refused = refl
-    answer NoMemory = tt
-
--- a book that is begun already
-pub work_refused : (holds leaves : Book → Type 0) (written : Option (List ℕ)) (n : ℕ) (command : Command) (c : Campaign) (loaded : Book) → Keeps holds leaves loaded → ¬ IsBlank loaded → Work leaves written written n n command c loaded AlreadyBegun
-work_refused holds leaves written n command c loaded kept not = record {
+-- the loaded book stays
+pub work_kept : (holds leaves : Book → Type 0) (written written' : Option (List ℕ)) (n : ℕ) (command : Command) (c : Prepared) (loaded : Book) (outcome : Outcome) → Keeps holds leaves loaded
+    → Wrote written written' (text_of command c loaded) outcome → Answers command c loaded loaded outcome → (Carried outcome → loaded.meta ≢ []) → Work leaves written written' n n command c loaded outcome
+work_kept holds leaves written written' n command c loaded outcome kept wrote answer meta = record {
   sure = loaded;
-  book = grew_exact leaves c loaded loaded [] AlreadyBegun refl kept.crash (within_itself loaded).prefix stays (λ h. absurd h);
-  steps = record { bound = omega arith; equal = λ is. refl };
-  text = refl;
-  answer = not;
+  book = grew_exact leaves command c loaded loaded [] outcome refl kept.crash (within_itself loaded).prefix stays (λ h. refl) (λ h. refl) meta;
+  steps = record { bound = omega arith; equal = λ is. refl; idle = λ h. refl };
+  text = wrote;
+  answer = answer;
 }
   where
     stays : IsBlankOrGood loaded → IsGood loaded ⊎ (IsBlank loaded × IsBlank loaded)
     stays (inl is) = inr (is, is)
     stays (inr good) = inl good
 
--- what holds whatever the keeper tells
-pub ending_ends : (written written' : Option (List ℕ)) (k k' s s' : ℕ) (text : List ℕ) (ending : Ending) → Delivers written written' text ending → (ending ≡ Refused → Rose s s') → Ends written written' k k' s s' (ended_outcome ending)
-ending_ends written written' k k' s s' text Written wrote rose = record { quiet = tt; cause = tt }
-ending_ends written written' k k' s s' text Refused wrote rose = record { quiet = tt; cause = rose refl }
-ending_ends written written' k k' s s' text NoMemory wrote rose = record { quiet = wrote; cause = tt }
+-- the loaded book is refused
+pub work_refused : (holds leaves : Book → Type 0) (written : Option (List ℕ)) (n : ℕ) (command : Command) (c : Prepared) (loaded : Book) (refusal : BookRefusal) → Keeps holds leaves loaded → RefusesBook command c loaded refusal → Work leaves written written n n command c loaded (book_outcome refusal)
+work_refused holds leaves written n command c loaded RefusedNone kept why = work_kept holds leaves written written n command c loaded NoCampaign kept refl why (λ h. absurd h)
+work_refused holds leaves written n command c loaded RefusedBegun kept why = work_kept holds leaves written written n command c loaded AlreadyBegun kept refl why (λ h. absurd h)
+work_refused holds leaves written n command c loaded (RefusedBook error) kept why = work_kept holds leaves written written n command c loaded (BookBad error) kept refl why (λ h. absurd h)
+work_refused holds leaves written n command c loaded RefusedMemory kept why = work_kept holds leaves written written n command c loaded Memory kept refl tt (λ h. absurd h)
+
+-- the status of a book
+pub work_status : (holds leaves : Book → Type 0) (written written' : Option (List ℕ)) (n : ℕ) (c : Prepared) (loaded : Book) (ending : Ending) → IsPlan c → IsWellFormed c.campaign loaded → Keeps holds leaves loaded
+    → Delivers written written' (status_text c.campaign loaded.journal) ending → Work leaves written written' n n Status c loaded (ended_outcome Done ending)
+work_status holds leaves written written' n c loaded Written plan form kept wrote = work_kept holds leaves written written' n Status c loaded Done kept wrote (form, form, λ h. absurd h) (λ h. form_meta c loaded plan form)
+work_status holds leaves written written' n c loaded Refused plan form kept wrote = work_kept holds leaves written written' n Status c loaded WriteFault kept wrote form (λ h. absurd h)
+work_status holds leaves written written' n c loaded NoMemory plan form kept wrote = work_kept holds leaves written written' n Status c loaded Memory kept wrote tt (λ h. absurd h)
+
+-- the book was begun, and nothing more
+opened_good : (c : Prepared) → IsPlan c → IsGood (opened c)
+opened_good c plan = good_of c (opened c) plan (opened_form c) tt
+
+work_begun : (holds leaves : Book → Type 0) (written written' : Option (List ℕ)) (n : ℕ) (c : Prepared) (outcome : Outcome) → IsPlan c → Keeps holds leaves (opened c)
+    → Wrote written written' (init_text c) outcome → Answers Init c blank (opened c) outcome → Work leaves written written' n n Init c blank outcome
+work_begun holds leaves written written' n c outcome plan kept wrote answer = record {
+  sure = opened c;
+  book = grew_exact leaves Init c blank (opened c) (opened c ∷ []) outcome (inl (refl, refl), refl) kept.crash (inl refl) (λ was. inl (opened_good c plan)) (λ h. absurd h) (λ h. refl) (λ h. plan_begun c plan);
+  steps = record { bound = omega arith; equal = λ is. refl; idle = λ h. refl };
+  text = wrote;
+  answer = answer;
+}
+
+pub work_init : (holds leaves : Book → Type 0) (written written' : Option (List ℕ)) (n : ℕ) (c : Prepared) (ending : Ending) → IsPlan c → Keeps holds leaves (opened c)
+    → Delivers written written' (init_text c) ending → Work leaves written written' n n Init c blank (ended_outcome Done ending)
+work_init holds leaves written written' n c Written plan kept wrote = work_begun holds leaves written written' n c Done plan kept wrote (refl, opened_form c, λ h. absurd h)
+work_init holds leaves written written' n c Refused plan kept wrote = work_begun holds leaves written written' n c WriteFault plan kept wrote refl
+work_init holds leaves written written' n c NoMemory plan kept wrote = work_begun holds leaves written written' n c Memory plan kept wrote tt
+
+-- what a begin leaves that failed
+pub begin_left : (holds leaves leaves' : Book → Type 0) (result : Result (Unit {0}) KeepError) (c : Prepared) → Keeps holds leaves blank
+    → (IsErrOf result KeepFault → (was : Book) → holds was → LeavesEither leaves' was (opened c)) → (IsErrOf result KeepMemory → LeavesNothingNew leaves leaves') → OnErr result (LeavesEither leaves' blank (opened c))
+begin_left holds leaves leaves' (Ok done) c kept either refused = tt
+begin_left holds leaves leaves' (Err KeepFault) c kept either refused = either refl blank kept.told
+begin_left holds leaves leaves' (Err KeepMemory) c kept either refused = λ other is. inl (kept.crash.nothing_else other (refused refl other is))
+
+fault_not_done : KeeperFault ≢ Done
+fault_not_done is = cc
+
+memory_not_done : Memory ≢ Done
+memory_not_done is = cc
+
+-- the begin was cut short
+grew_unopened : (leaves : Book → Type 0) (command : Command) (c : Prepared) (outcome : Outcome) → IsPlan c → ¬ OnlyReads command → ¬ Carried outcome → LeavesEither leaves blank (opened c) → Grew leaves command c blank blank outcome
+grew_unopened leaves command c outcome plan writes not either = record {
+  grown = inl refl;
+  within_one = λ other is. within other (either other is);
+  good = λ was other is. good other (either other is);
+  reads = λ h. absurd (writes h);
+  no_entry = λ h other is. rows other (either other is);
+  exact = λ h. absurd (not h);
+  is_begun = λ h. absurd (not h);
+  changes = [];
+  course = refl;
+  near = λ other is. near other (either other is);
+}
+  where
+    within : (other : Book) → (other ≡ blank) ⊎ (other ≡ opened c) → IsWithinOne blank other
+    within other (inl same) = subst (λ (b : Book). IsWithinOne blank b) (sym same) (within_itself blank)
+    within other (inr made) = record { prefix = inl refl; one = let none : length other.journal ≡ 0 = ap (λ (b : Book). length b.journal) made in omega arith }
+
+    good : (other : Book) → (other ≡ blank) ⊎ (other ≡ opened c) → IsGood other ⊎ (IsBlank other × IsBlank blank)
+    good other (inl same) = inr (same, refl)
+    good other (inr made) = inl (subst IsGood (sym made) (opened_good c plan))
+
+    rows : (other : Book) → (other ≡ blank) ⊎ (other ≡ opened c) → other.journal ≡ []
+    rows other (inl same) = ap (λ (b : Book). b.journal) same
+    rows other (inr made) = ap (λ (b : Book). b.journal) made
+
+    near : (other : Book) → (other ≡ blank) ⊎ (other ≡ opened c) → IsNear c blank other
+    near other (inl same) = inl same
+    near other (inr made) = inr (inl (refl, made))
+
+pub work_unopened : (leaves : Book → Type 0) (written : Option (List ℕ)) (n : ℕ) (command : Command) (c : Prepared) (e : KeepError) → IsPlan c → ¬ OnlyReads command → Takes command c blank → LeavesEither leaves blank (opened c) → Work leaves written written n n command c blank (failed_outcome e)
+work_unopened leaves written n command c KeepFault plan writes takes either = record {
+  sure = blank;
+  book = grew_unopened leaves command c KeeperFault plan writes (λ h. h) either;
+  steps = record { bound = omega arith; equal = λ is. absurd (fault_not_done is); idle = λ h. refl };
+  text = refl;
+  answer = takes;
+}
+work_unopened leaves written n command c KeepMemory plan writes takes either = record {
+  sure = blank;
+  book = grew_unopened leaves command c Memory plan writes (λ h. h) either;
+  steps = record { bound = omega arith; equal = λ is. absurd (memory_not_done is); idle = λ h. refl };
+  text = refl;
+  answer = tt;
+}
+
+-- a run that want of memory or an error of the keeper ended
+grew_broke : (leaves : Book → Type 0) (stop : Option ℕ) (c : Prepared) (start : List Entry) (before now : ℕ) (outcome : Outcome) → IsPlan c → IsWellFormed c.campaign (book_of c start) → (b : Broke leaves c start before now) → ¬ Carried outcome → Grew leaves (Run stop) c (book_of c start) (book_of c b.rows) outcome
+grew_broke leaves stop c start before now outcome plan form b not = record {
+  grown = inr b.ran.goes_on;
+  within_one = λ other is. within other (b.left other is);
+  good = λ was other is. inl (good (b.ran.words_true (true_of c (book_of c start) plan form was)) other (b.left other is));
+  reads = λ h. absurd h;
+  no_entry = λ h. absurd (h tt);
+  exact = λ h. absurd (not h);
+  is_begun = λ h. absurd (not h);
+  changes = b.ran.changes;
+  course = b.ran.course;
+  near = λ other is. near other (b.left other is);
+}
+  where
+    Next : Book → Type 0
+    Next other = (other ≡ book_of c b.rows) ⊎ ((e : Entry) × IsNextRow c (book_of c b.rows) e × (other ≡ with_entry (book_of c b.rows) e))
+
+    within : (other : Book) → Next other → IsWithinOne (book_of c b.rows) other
+    within other (inl same) = subst (λ (x : Book). IsWithinOne (book_of c b.rows) x) (sym same) (within_itself (book_of c b.rows))
+    within other (inr (e, next, more)) = subst (λ (x : Book). IsWithinOne (book_of c b.rows) x) (sym more) (within_more (book_of c b.rows) e)
+
+    good : AreTrue c b.rows → (other : Book) → Next other → IsGood other
+    good right other (inl same) = subst IsGood (sym same) (good_of c (book_of c b.rows) plan b.ran.form right)
+    good right other (inr (e, next, more)) =
+        subst IsGood (sym more) (good_of c (with_entry (book_of c b.rows) e) plan (form_more c (book_of c b.rows) e b.ran.form next) (true_more c b.rows e right next.word_true))
+
+    near : (other : Book) → Next other → IsNear c (book_of c b.rows) other
+    near other (inl same) = inl same
+    near other (inr (e, next, more)) = inr (inr (b.ran.form, (e, next, more)))
+
+pub work_broke : (leaves : Book → Type 0) (written written' : Option (List ℕ)) (before now : ℕ) (stop : Option ℕ) (c : Prepared) (start : List Entry) (e : KeepError) → IsPlan c → IsWellFormed c.campaign (book_of c start)
+    → Broke leaves c start before now → written' ≡ written → Work leaves written written' before now (Run stop) c (book_of c start) (failed_outcome e)
+work_broke leaves written written' before now stop c start KeepFault plan form b same = record {
+  sure = book_of c b.rows;
+  book = grew_broke leaves stop c start before now KeeperFault plan form b (λ h. h);
+  steps = record { bound = b.steps; equal = λ is. absurd (fault_not_done is); idle = λ h. absurd (h tt) };
+  text = same;
+  answer = inr form;
+}
+work_broke leaves written written' before now stop c start KeepMemory plan form b same = record {
+  sure = book_of c b.rows;
+  book = grew_broke leaves stop c start before now Memory plan form b (λ h. h);
+  steps = record { bound = b.steps; equal = λ is. absurd (memory_not_done is); idle = λ h. absurd (h tt) };
+  text = same;
+  answer = tt;
+}
+
+-- the run went on until it was to end
+pub record Went (c : Prepared) (stop : Option ℕ) (start rows : List Entry) : Type 0 where
+  pub plan : IsPlan c
+  pub form : IsWellFormed c.campaign (book_of c start)
+  pub ran : Ran c start rows
+  pub ends : IsFinished c.campaign (book_of c rows) ⊎ Reached stop start rows
+
+abbrev pub count : Prepared → List Entry → ℕ
+count c rows = finished_count c (book_of c rows)
+
+finished_of : (c : Prepared) (rows : List Entry) → length c.campaign.mutations ≡ count c rows → IsFinished c.campaign (book_of c rows)
+finished_of c rows all m below = let place : 0 + m ≡ m = omega arith in subst (λ (j : ℕ). is_ended (ask_on j rows) ≡ true) place (all_counted 0 (length c.campaign.mutations) m rows (sym all) below)
+
+count_of : (c : Prepared) (rows : List Entry) → IsFinished c.campaign (book_of c rows) → count c rows ≡ length c.campaign.mutations
+count_of c rows finished = counted_all 0 (length c.campaign.mutations) rows (λ k below. let place : k ≡ 0 + k = omega arith in subst (λ (j : ℕ). is_ended (ask_on j rows) ≡ true) place (finished k below))
+
+whole : (c : Prepared) (stop : Option ℕ) (start rows : List Entry) → Went c stop start rows → IsFinished c.campaign (book_of c rows) → Answers (Run stop) c (book_of c start) (book_of c rows) Done
+whole c stop start rows went finished = (
+  inr went.form,
+  went.ran.form,
+  λ runs. record {
+    finished = finished;
+    final = λ was. final_is c (book_of c rows) went.ran.form (went.ran.words_true (true_of c (book_of c start) went.plan went.form was)) finished;
+  },
+)
+
+stopped : (c : Prepared) (stop : Option ℕ) (start rows : List Entry) → Went c stop start rows → (length c.campaign.mutations ≢ count c rows) → Reached stop start rows → Answers (Run stop) c (book_of c start) (book_of c rows) (Unfinished (length c.campaign.mutations - count c rows))
+stopped c None start rows went some reached = absurd reached
+stopped c (Some k) start rows went some reached =
+    let few : count c rows ≤ length c.campaign.mutations = counted_few (length c.campaign.mutations) rows in (
+      inr went.form,
+      went.ran.form,
+      record {
+        stop = k;
+        asked = refl;
+        gained = reached;
+        left_is = omega (arith, few);
+        some = omega (arith, few, some);
+      },
+    )
+
+ran_answer : (c : Prepared) (stop : Option ℕ) (start rows : List Entry) → Went c stop start rows → Answers (Run stop) c (book_of c start) (book_of c rows) (run_outcome c rows)
+ran_answer c stop start rows went = elim (eqb_tells (length c.campaign.mutations) (count c rows)) [
+  | inl h ↦ rw h.0 (whole c stop start rows went (finished_of c rows h.1))
+  | inr h ↦ rw h.0 (elim went.ends [ inl finished ↦ absurd (h.1 (sym (count_of c rows finished))) | inr reached ↦ stopped c stop start rows went h.1 reached ])
+]
+
+ran_wrote : (written written' : Option (List ℕ)) (c : Prepared) (rows : List Entry) → Delivers written written' (status_text c.campaign rows) Written → Wrote written written' (status_text c.campaign rows) (run_outcome c rows)
+ran_wrote written written' c rows wrote = elim (eqb_tells (length c.campaign.mutations) (count c rows)) [ inl h ↦ rw h.0 wrote | inr h ↦ rw h.0 wrote ]
+
+pub work_ran : (holds leaves : Book → Type 0) (written written' : Option (List ℕ)) (before now : ℕ) (stop : Option ℕ) (c : Prepared) (start rows : List Entry) (ending : Ending) → Went c stop start rows → Keeps holds leaves (book_of c rows)
+    → now + length start ≡ before + length rows → Delivers written written' (status_text c.campaign rows) ending → Work leaves written written' before now (Run stop) c (book_of c start) (ended_outcome (run_outcome c rows) ending)
+work_ran holds leaves written written' before now stop c start rows ending went kept steps wrote = record {
+  sure = book_of c rows;
+  book = grew_exact leaves (Run stop) c (book_of c start) (book_of c rows) went.ran.changes (ended_outcome (run_outcome c rows) ending) went.ran.course kept.crash (inr went.ran.goes_on)
+      (λ was. inl (good_of c (book_of c rows) went.plan went.ran.form (went.ran.words_true (true_of c (book_of c start) went.plan went.form was)))) (λ h. absurd h) (λ h. absurd (h tt)) (λ h. plan_begun c went.plan);
+  steps = record { bound = omega (arith, steps); equal = λ is. steps; idle = λ h. absurd (h tt) };
+  text = text ending wrote;
+  answer = answer ending;
+}
+  where
+    text : (e : Ending) → Delivers written written' (status_text c.campaign rows) e → Wrote written written' (status_text c.campaign rows) (ended_outcome (run_outcome c rows) e)
+    text Written w = ran_wrote written written' c rows w
+    text Refused w = w
+    text NoMemory w = w
+
+    answer : (e : Ending) → Answers (Run stop) c (book_of c start) (book_of c rows) (ended_outcome (run_outcome c rows) e)
+    answer Written = ran_answer c stop start rows went
+    answer Refused = inr went.form
+    answer NoMemory = tt
+
+-- a run from the book that it has just begun is one from the empty book
+opened_not_bad : (c : Prepared) (error : BookError) → IsPlan c → ¬ IsBookBad c (opened c) error
+opened_not_bad c (Stray mutations rows) plan bad = plan_begun c plan bad.0
+opened_not_bad c NoBookMemory plan bad = bad
+opened_not_bad c (Meta place old new) plan bad = bad.1 (opened_form c)
+opened_not_bad c (Mutation place old new) plan bad = bad.1 (opened_form c)
+opened_not_bad c (Row e fault) plan bad = bad.1 (opened_form c)
+
+opened_answer : (stop : Option ℕ) (c : Prepared) (sure : Book) (outcome : Outcome) → IsPlan c → Answers (Run stop) c (opened c) sure outcome → Answers (Run stop) c blank sure outcome
+opened_answer stop c sure Done plan (takes, form, whole) = (inl refl, form, λ runs. record { finished = (whole runs).finished; final = λ was. (whole runs).final (inr (opened_good c plan)) })
+opened_answer stop c sure (Unfinished left) plan (takes, form, s) = (inl refl, form, record { stop = s.stop; asked = s.asked; gained = s.gained; left_is = s.left_is; some = s.some })
+opened_answer stop c sure NoCampaign plan answer = absurd answer.1
+opened_answer stop c sure AlreadyBegun plan answer = absurd (let is : Run stop ≡ Init = answer.1 in cc)
+opened_answer stop c sure (BookBad error) plan answer = absurd (opened_not_bad c error plan answer.0)
+opened_answer stop c sure KeeperFault plan answer = inl refl
+opened_answer stop c sure WriteFault plan answer = inl refl
+opened_answer stop c sure Memory plan answer = tt
+opened_answer stop c sure outcome plan answer = absurd answer
+
+pub work_opened : (leaves : Book → Type 0) (written written' : Option (List ℕ)) (before now : ℕ) (stop : Option ℕ) (c : Prepared) (outcome : Outcome) → IsPlan c
+    → Work leaves written written' before now (Run stop) c (opened c) outcome → Work leaves written written' before now (Run stop) c blank outcome
+work_opened leaves written written' before now stop c outcome plan w = record {
+  sure = w.sure;
+  book = record {
+    grown = inl refl;
+    within_one = w.book.within_one;
+    good = λ was other is. good other (w.book.good (inr (opened_good c plan)) other is);
+    reads = λ h. absurd h;
+    no_entry = λ h. absurd (h tt);
+    exact = w.book.exact;
+    is_begun = w.book.is_begun;
+    changes = opened c ∷ w.book.changes;
+    course = (inl (refl, refl), w.book.course);
+    near = w.book.near;
+  };
+  steps = record { bound = w.steps.bound; equal = w.steps.equal; idle = λ h. absurd (h tt) };
+  text = w.text;
+  answer = opened_answer stop c w.sure outcome plan w.answer;
+}
+  where
+    good : (other : Book) → IsGood other ⊎ (IsBlank other × IsBlank (opened c)) → IsGood other ⊎ (IsBlank other × IsBlank blank)
+    good other (inl is) = inl is
+    good other (inr is) = absurd (plan_begun c plan (ap (λ (b : Book). b.meta) is.1))
+
+-- What holds whatever the keeper tells.
+pub ending_ends : (written written' : Option (List ℕ)) (k k' s s' : ℕ) (text : List ℕ) (o : Outcome) (ending : Ending) → Carried o → Delivers written written' text ending → (ending ≡ Refused → Rose s s') → Ends written written' k k' s s' (ended_outcome o ending)
+ending_ends written written' k k' s s' text Done Written carried wrote rose = record { quiet = tt; cause = tt }
+ending_ends written written' k k' s s' text (Unfinished left) Written carried wrote rose = record { quiet = tt; cause = tt }
+ending_ends written written' k k' s s' text o Written carried wrote rose = absurd carried
+ending_ends written written' k k' s s' text o Refused carried wrote rose = record { quiet = tt; cause = rose refl }
+ending_ends written written' k k' s s' text o NoMemory carried wrote rose = record { quiet = wrote; cause = tt }
+
+pub run_carried : (c : Prepared) (rows : List Entry) → Carried (run_outcome c rows)
+run_carried c rows = elim (eqb_tells (length c.campaign.mutations) (count c rows)) [ inl h ↦ rw h.0 tt | inr h ↦ rw h.0 tt ]
 
 pub failed_ends : (written : Option (List ℕ)) (k k' s s' : ℕ) (e : KeepError) → (e ≡ KeepFault → Rose k k') → Ends written written k k' s s' (failed_outcome e)
 failed_ends written k k' s s' KeepFault rose = record { quiet = refl; cause = rose refl }
 failed_ends written k k' s s' KeepMemory rose = record { quiet = refl; cause = tt }
+
+pub refused_ends : (written : Option (List ℕ)) (k k' s s' : ℕ) (refusal : BookRefusal) → Ends written written k k' s s' (book_outcome refusal)
+refused_ends written k k' s s' RefusedNone = record { quiet = refl; cause = tt }
+refused_ends written k k' s s' RefusedBegun = record { quiet = refl; cause = tt }
+refused_ends written k k' s s' (RefusedBook error) = record { quiet = refl; cause = tt }
+refused_ends written k k' s s' RefusedMemory = record { quiet = refl; cause = tt }
+
+-- why a begun book is refused
+pub book_bad : (c : Prepared) (loaded : Book) (error : BookError) → loaded.meta ≢ [] → RefusedBooksAreIllFormed → IsRefused c.campaign loaded error → error ≢ NoBookMemory → (command : Command) → command ≢ Init → RefusesBook command c loaded (RefusedBook error)
+book_bad c loaded (Meta place old new) begun law why not command other = ((begun, law c.campaign loaded (Meta place old new) why not, why), other)
+book_bad c loaded (Mutation place old new) begun law why not command other = ((begun, law c.campaign loaded (Mutation place old new) why not, why), other)
+book_bad c loaded (Row e fault) begun law why not command other = ((begun, law c.campaign loaded (Row e fault) why not, why), other)
+book_bad c loaded (Stray mutations rows) begun law why not command other = absurd why
+book_bad c loaded NoBookMemory begun law why not command other = absurd (not refl)
+
+-- where no mutation is left the run is done
+pub outcome_done : (c : Prepared) (rows : List Entry) → length c.campaign.mutations ≡ count c rows → Done ≡ run_outcome c rows
+outcome_done c rows all = elim (eqb_tells (length c.campaign.mutations) (count c rows)) [ inl h ↦ rw h.0 refl | inr h ↦ absurd (h.1 all) ]
+
+pub status_not_init : Status ≢ Init
+status_not_init is = cc
+
+pub run_not_init : (stop : Option ℕ) → Run stop ≢ Init
+run_not_init stop is = cc

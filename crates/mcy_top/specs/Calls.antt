@@ -3,7 +3,7 @@ use Rattle.std.specs.Prelude.{ℕ, ◌+◌, ◌≤◌, List, length, Option}
 use Rattle.mcy_keeper.specs.declared.book.Book.{Book}
 use Rattle.mcy_keeper.specs.Books.{LeavesNothingNew}
 use Rattle.mcy_outside.specs.Files.{Held}
-use Rattle.mcy_top.specs.declared.campaign.Campaign.{Campaign}
+use Rattle.mcy_top.specs.declared.prepared.Prepared.{Prepared}
 use Rattle.mcy_top.specs.declared.outcome.Outcome.{Outcome}
 use Rattle.mcy_top.specs.Rows.{IsPrefix, IsWithinOne}
 use Rattle.mcy_top.specs.Changes.{IsNear}
@@ -26,16 +26,16 @@ SureBookHasAll leaves = (sure book : Book) → ((other : Book) → leaves other 
 
 -- A life from one book to another: a crash could leave the first before, and may now leave the last, or that book
 -- with one change more.
-pub record IsLived (leaves leaves' : Book → Type 0) (c : Campaign) (start sure : Book) : Type 0 where
+pub record IsLived (leaves leaves' : Book → Type 0) (c : Prepared) (start sure : Book) : Type 0 where
   pub changes : List Book
-  pub life : IsLife (record { campaign = c; start = start; changes = changes; sure = sure })
+  pub life : IsLife (record { prepared = c; start = start; changes = changes; sure = sure })
   pub started : leaves start
   pub near : (other : Book) → leaves' other → IsNear c sure other
 
 -- A call that has loaded a book is a life from that book to the one that it is sure of,
 abbrev pub CallIsALife : (holds leaves leaves' : Book → Type 0) → Type 0
 CallIsALife holds leaves leaves' = (words : List (List ℕ)) (held : Option Held) (written written' : Option (List ℕ)) (taken taken' : ℕ) (outcome : Outcome)
-    → (life : Life words held holds leaves leaves' written written' taken taken' outcome) → IsLived leaves leaves' life.campaign life.loaded life.work.sure
+    → (life : Life words held holds leaves leaves' written written' taken taken' outcome) → IsLived leaves leaves' life.prepared life.loaded life.work.sure
 
 -- and a call that has loaded none leaves nothing new.
 abbrev pub EarlyCallLeavesNothingNew : (leaves leaves' : Book → Type 0) → Type 0

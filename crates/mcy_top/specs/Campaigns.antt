@@ -2,15 +2,18 @@
 use Rattle.std.specs.Prelude.{◌≡◌, ℕ, ◌≤◌, List, [], ◌∷◌, ◌++◌, length, map, codes, ⊤, Option, None, Some}
 use Rattle.mcy_outside.specs.Files.{Held, Gives, IsLarge}
 use Rattle.mcy_top.specs.declared.equal.TheConstants.{MAX_FREE_BITS}
-use Rattle.mcy_top.specs.declared.campaign.TheConstants.{CONFIG_NAME, MAX_BYTES, SOURCE_NAME}
+use Rattle.mcy_top.specs.declared.prepared.TheConstants.{CONFIG_NAME, MAX_BYTES, SOURCE_NAME}
 use Rattle.mcy_top.specs.declared.thin.ThinModule.{ThinModule}
-use Rattle.mcy_top.specs.declared.campaign.Campaign.{Campaign}
+use Rattle.result_book.specs.declared.campaign.TheConstants.{EQ_KIND}
+use Rattle.result_book.specs.declared.campaign.Campaign.{Campaign}
+use Rattle.mcy_top.specs.declared.prepared.Prepared.{Prepared}
 use Rattle.mcy_top.specs.Projects.{IsProject}
 use Rattle.mcy_top.specs.ThinModules.{IsSource, input_names}
 use Rattle.mcy_top.specs.ThinNetlists.{netlist_of, net_names}
 use Rattle.mcy_top.specs.Sound.{Plan}
 use Rattle.mcy_top.specs.Sites.{sites}
 use Rattle.mcy_top.specs.SiteTexts.{site_text}
+use Rattle.mcy_top.specs.SiteLines.{site_line}
 
 -- The files of the and-gate project: the project file, and the source that it names.
 
@@ -28,22 +31,34 @@ meta_of config source = codes "1" ∷ config ∷ (source_name ++ (codes "\n" ++ 
 abbrev pub plan_of : ThinModule → Plan
 plan_of m = record { raw = netlist_of m; nets = length (net_names m) }
 
--- The campaign of a project and its source: the sites of the netlist are its mutations.
-pub record IsCampaign (config source : List ℕ) (c : Campaign) : Type 0 where
+-- The campaign of a project and its source. The sites of the netlist are its mutations. It has the one test `same`, of
+-- which PASS and FAIL are expected.
+abbrev pub campaign_of : List ℕ → List ℕ → ThinModule → Campaign
+campaign_of config source m = record {
+  meta = meta_of config source;
+  mutations = map (site_text (netlist_of m) source_name) (sites (netlist_of m));
+  lines = map (site_line (netlist_of m)) (sites (netlist_of m));
+  test_names = codes "same" ∷ [];
+  kinds = EQ_KIND ∷ [];
+  expect = 3 ∷ [];
+  tags = codes "CHANGED" ∷ codes "NOCHANGE" ∷ [];
+}
+
+-- a campaign, with the netlist and the sites of its source
+pub record IsPrepared (config source : List ℕ) (c : Prepared) : Type 0 where
   pub project : IsProject config
   pub parsed : ThinModule
   pub text : IsSource source parsed
   pub few : length (input_names parsed.ports) ≤ MAX_FREE_BITS
-  pub meta : c.meta ≡ meta_of config source
+  pub campaign : c.campaign ≡ campaign_of config source parsed
   pub netlist : c.netlist ≡ plan_of parsed
   pub places : c.sites ≡ sites (netlist_of parsed)
-  pub mutations : c.mutations ≡ map (site_text (netlist_of parsed) source_name) (sites (netlist_of parsed))
 
--- the campaign of some project and source
-pub record IsPlan (c : Campaign) : Type 0 where
+-- that of some project and source
+pub record IsPlan (c : Prepared) : Type 0 where
   pub config : List ℕ
   pub bytes : List ℕ
-  pub made : IsCampaign config bytes c
+  pub made : IsPrepared config bytes c
 
 -- What the files hold, where they tell it.
 
@@ -61,9 +76,9 @@ Exceeds None name = ⊤
 Exceeds (Some held) name = IsLarge (held name) MAX_BYTES
 
 -- the campaign of what the files hold
-pub record IsMade (held : Option Held) (c : Campaign) : Type 0 where
+pub record IsMade (held : Option Held) (c : Prepared) : Type 0 where
   pub config : List ℕ
   pub bytes : List ℕ
   pub got_config : Got held config_name config
   pub got_source : Got held source_name bytes
-  pub made : IsCampaign config bytes c
+  pub made : IsPrepared config bytes c

@@ -1,16 +1,16 @@
 -- When a call must succeed.
-use Rattle.std.specs.Prelude.{◌≡◌, ℕ, ◌≤◌, List, length, Option, Some, ⊤}
+use Rattle.std.specs.Prelude.{◌≡◌, ◌≢◌, ℕ, ◌≤◌, List, length, Option, None, Some, ⊤}
 use Rattle.mcy_base.specs.Causes.{Rose}
 use Rattle.mcy_keeper.specs.declared.book.Book.{Book}
 use Rattle.mcy_outside.specs.Files.{Held, Gives}
 use Rattle.mcy_top.specs.declared.equal.TheConstants.{MAX_FREE_BITS}
-use Rattle.mcy_top.specs.declared.campaign.TheConstants.{MAX_BYTES}
+use Rattle.mcy_top.specs.declared.prepared.TheConstants.{MAX_BYTES}
 use Rattle.mcy_top.specs.declared.command.Command.{Command}
-use Rattle.mcy_top.specs.declared.campaign.Campaign.{Campaign}
+use Rattle.mcy_top.specs.declared.prepared.Prepared.{Prepared}
 use Rattle.mcy_top.specs.declared.thin.ThinModule.{ThinModule}
 use Rattle.mcy_top.specs.declared.outcome.Outcome.{Outcome}
-use Rattle.mcy_top.specs.declared.outcome.Outcome.TheVariants.{Done, Memory}
-use Rattle.mcy_top.specs.Commands.{command_of}
+use Rattle.mcy_top.specs.declared.outcome.Outcome.TheVariants.{Done, Unfinished, Memory}
+use Rattle.mcy_top.specs.Commands.{command_of, stop_of}
 use Rattle.mcy_top.specs.Projects.{IsProject}
 use Rattle.mcy_top.specs.ThinModules.{IsSource, input_names}
 use Rattle.mcy_top.specs.Campaigns.{config_name, source_name, IsMade}
@@ -33,7 +33,7 @@ pub record IsReadable (held : Option Held) : Type 0 where
 pub record IsReady (words : List (List ℕ)) (held : Option Held) (holds leaves : Book → Type 0) (command : Command) : Type 0 where
   pub asked : command_of words ≡ Some command
   pub readable : IsReadable held
-  pub takes : (c : Campaign) (book : Book) → IsMade held c → leaves book → ((was : Book) → holds was → book ≡ was) → Takes command c book
+  pub takes : (c : Prepared) (book : Book) → IsMade held c → leaves book → ((was : Book) → holds was → book ≡ was) → Takes command c book
 
 -- no count of faults rose
 pub record NoneRose (files files' keeper keeper' sink sink' : ℕ) : Type 0 where
@@ -41,8 +41,9 @@ pub record NoneRose (files files' keeper keeper' sink sink' : ℕ) : Type 0 wher
   pub keeps : ¬ Rose keeper keeper'
   pub writes : ¬ Rose sink sink'
 
--- the command was carried out, or there was no memory
-abbrev pub Completes : Outcome → Type 0
-Completes Done = ⊤
-Completes Memory = ⊤
-Completes outcome = ⊥
+-- the command was carried out, as far as was asked for, or there was no memory
+abbrev pub Completes : Command → Outcome → Type 0
+Completes command Done = ⊤
+Completes command (Unfinished left) = stop_of command ≢ None
+Completes command Memory = ⊤
+Completes command outcome = ⊥

@@ -1,14 +1,15 @@
 -- What a campaign defines: a function of the project and of the pairs that were given up. There is no order of tests,
 -- no slot and no stop in it.
-use Rattle.std.specs.Prelude.{◌≡◌, ℕ, ◌+◌, Bool, true, ◌==◌, ◌&&◌, ◌||◌, false, List, [], ◌∷◌, ◌++◌, length, if◌then◌else◌}
+use Rattle.std.specs.Prelude.{◌≡◌, ℕ, ◌+◌, Bool, true, ◌==◌, ◌&&◌, ◌||◌, false, List, [], ◌∷◌, ◌++◌, length, slice_get, Some, if◌then◌else◌}
 use Rattle.std.specs.Bool.{MatchBool}
 use Rattle.mcy_keeper.specs.declared.book.Entry.{Entry}
-use Rattle.mcy_top.specs.declared.script.TestWord.TheVariants.{Unknown}
-use Rattle.mcy_top.specs.declared.script.Ask.TheVariants.{Need}
-use Rattle.mcy_top.specs.declared.campaign.Campaign.{Campaign}
-use Rattle.mcy_top.specs.Scripts.{Answer, word_code, ask, is_ended}
+use Rattle.mcy_keeper.specs.declared.book.Book.{Book}
+use Rattle.result_book.specs.declared.script.TestWord.TheVariants.{Unknown}
+use Rattle.result_book.specs.declared.script.Ask.TheVariants.{Need}
+use Rattle.mcy_top.specs.declared.prepared.Prepared.{Prepared}
+use Rattle.result_book.specs.Scripts.{Answer, word_code, ask, is_ended}
 use Rattle.mcy_top.specs.Rows.{IsTrueWord}
-use Rattle.mcy_top.specs.Texts.{status_text}
+use Rattle.source_report.specs.Texts.{lines}
 
 -- a pair of a mutation and a test that was given up
 pub record Pair : Type 0 where
@@ -25,21 +26,21 @@ is_given_up [] m t = false
 is_given_up (p ∷ more) m t = (p.mutation == m && p.test == t) || is_given_up more m t
 
 -- the word of a pair: UNKNOWN where it was given up, else the true word
-abbrev pub IsWordOf : Campaign → List Pair → ℕ → ℕ → ℕ → Type 0
+abbrev pub IsWordOf : Prepared → List Pair → ℕ → ℕ → ℕ → Type 0
 IsWordOf c pairs m t word = MatchBool (is_given_up pairs m t) (word ≡ word_code Unknown) (IsTrueWord c m word)
 
 -- the script asks for each test on the answers before it, and each has its word; then it needs no test
-abbrev pub AreAnswers : Campaign → List Pair → ℕ → List Answer → List Answer → Type 0
+abbrev pub AreAnswers : Prepared → List Pair → ℕ → List Answer → List Answer → Type 0
 AreAnswers c pairs m earlier [] = is_ended (ask earlier) ≡ true
 AreAnswers c pairs m earlier (a ∷ more) = (ask earlier ≡ Need a.test) × IsWordOf c pairs m a.test a.word × AreAnswers c pairs m (earlier ++ a ∷ []) more
 
 -- the answers of each mutation, from mutation m on
-abbrev pub AreAllAnswers : Campaign → List Pair → ℕ → List (List Answer) → Type 0
-AreAllAnswers c pairs m [] = m ≡ length c.sites
+abbrev pub AreAllAnswers : Prepared → List Pair → ℕ → List (List Answer) → Type 0
+AreAllAnswers c pairs m [] = m ≡ length c.campaign.mutations
 AreAllAnswers c pairs m (answers ∷ more) = AreAnswers c pairs m [] answers × AreAllAnswers c pairs (m + 1) more
 
 -- the status text that a campaign and its given-up pairs define
-pub record IsFinalText (c : Campaign) (pairs : List Pair) (text : List ℕ) : Type 0 where
+pub record IsFinalText (c : Prepared) (pairs : List Pair) (text : List ℕ) : Type 0 where
   pub all : List (List Answer)
   pub defined : AreAllAnswers c pairs 0 all
-  pub is : text ≡ status_text all
+  pub is : text ≡ lines c.campaign all

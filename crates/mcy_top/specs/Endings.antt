@@ -1,20 +1,23 @@
 -- How the work of a command ends.
-use Rattle.std.specs.Prelude.{◌≡◌, ℕ, List, Option, ⊤}
+use Rattle.std.specs.Prelude.{◌≡◌, ℕ, ◌-◌, ◌==◌, List, length, Option, ⊤, if◌then◌else◌}
 use Rattle.mcy_base.specs.Causes.{Rose}
+use Rattle.mcy_keeper.specs.declared.book.Entry.{Entry}
 use Rattle.mcy_keeper.specs.declared.keeper.KeepError.{KeepError}
 use Rattle.mcy_keeper.specs.declared.keeper.KeepError.TheVariants.{Fault as KeepFault, Memory as KeepMemory}
 use Rattle.mcy_outside.specs.Written.{Appends, AppendsPart}
 use Rattle.mcy_top.specs.declared.work.Ending.{Ending}
 use Rattle.mcy_top.specs.declared.work.Ending.TheVariants.{Written, Refused, NoMemory}
 use Rattle.mcy_top.specs.declared.outcome.Outcome.{Outcome}
-use Rattle.mcy_top.specs.declared.outcome.Outcome.TheVariants.{Done, AlreadyBegun, KeeperFault, WriteFault, Memory}
-use Rattle.mcy_top.specs.Life.{IsQuiet}
+use Rattle.mcy_top.specs.declared.outcome.Outcome.TheVariants.{Done, Unfinished, NoCampaign, AlreadyBegun, BookBad, KeeperFault, WriteFault, Memory}
+use Rattle.mcy_top.specs.declared.prepared.Prepared.{Prepared}
+use Rattle.mcy_top.specs.Running.{book_of}
+use Rattle.mcy_top.specs.Life.{finished_count, IsQuiet}
 
--- the outcome of a command whose text was made
-abbrev pub ended_outcome : Ending → Outcome
-ended_outcome Written = Done
-ended_outcome Refused = WriteFault
-ended_outcome NoMemory = Memory
+-- the outcome of a command, from its outcome where the text is written
+abbrev pub ended_outcome : Outcome → Ending → Outcome
+ended_outcome outcome Written = outcome
+ended_outcome outcome Refused = WriteFault
+ended_outcome outcome NoMemory = Memory
 
 -- the outcome of a command that an error of the keeper ended
 abbrev pub failed_outcome : KeepError → Outcome
@@ -32,7 +35,10 @@ abbrev pub HasLateCause : (keeper keeper' sink sink' : ℕ) → Outcome → Type
 HasLateCause keeper keeper' sink sink' KeeperFault = Rose keeper keeper'
 HasLateCause keeper keeper' sink sink' WriteFault = Rose sink sink'
 HasLateCause keeper keeper' sink sink' Done = ⊤
+HasLateCause keeper keeper' sink sink' (Unfinished left) = ⊤
+HasLateCause keeper keeper' sink sink' NoCampaign = ⊤
 HasLateCause keeper keeper' sink sink' AlreadyBegun = ⊤
+HasLateCause keeper keeper' sink sink' (BookBad error) = ⊤
 HasLateCause keeper keeper' sink sink' Memory = ⊤
 HasLateCause keeper keeper' sink sink' outcome = ⊥
 
@@ -40,3 +46,9 @@ HasLateCause keeper keeper' sink sink' outcome = ⊥
 pub record Ends (written written' : Option (List ℕ)) (keeper keeper' sink sink' : ℕ) (outcome : Outcome) : Type 0 where
   pub quiet : IsQuiet written written' outcome
   pub cause : HasLateCause keeper keeper' sink sink' outcome
+
+-- the outcome of a run whose text is written
+abbrev pub run_outcome : Prepared → List Entry → Outcome
+run_outcome c rows =
+    if length c.campaign.mutations == finished_count c (book_of c rows) then Done
+    else Unfinished (length c.campaign.mutations - finished_count c (book_of c rows))

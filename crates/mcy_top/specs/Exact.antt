@@ -1,18 +1,19 @@
 -- Laws of refusals: each comes exactly where its cause holds.
-use Rattle.std.specs.Prelude.{◌≡◌, ◌⊎◌, ℕ, List, Option, None, Some, ⊤}
+use Rattle.std.specs.Prelude.{◌≡◌, ◌≢◌, ◌⊎◌, ℕ, List, Option, None, Some, ⊤}
 use Rattle.mcy_keeper.specs.declared.book.Book.{Book}
-use Rattle.mcy_keeper.specs.Books.{IsBlank}
 use Rattle.mcy_outside.specs.Files.{Held}
 use Rattle.mcy_top.specs.declared.command.Command.{Command}
-use Rattle.mcy_top.specs.declared.command.Command.TheVariants.{Run}
-use Rattle.mcy_top.specs.declared.campaign.Campaign.{Campaign}
+use Rattle.mcy_top.specs.declared.prepared.Prepared.{Prepared}
 use Rattle.mcy_top.specs.declared.outcome.Refusal.{Refusal}
+use Rattle.mcy_top.specs.declared.outcome.BookRefusal.{BookRefusal}
+use Rattle.mcy_top.specs.declared.outcome.BookRefusal.TheVariants.{Memory as NoMemory}
 use Rattle.mcy_top.specs.declared.outcome.Outcome.{Outcome}
-use Rattle.mcy_top.specs.declared.outcome.Outcome.TheVariants.{Usage, AlreadyBegun, ReadFault, Memory}
+use Rattle.mcy_top.specs.declared.outcome.Outcome.TheVariants.{Usage, ReadFault, Memory}
 use Rattle.mcy_top.specs.Commands.{command_of}
-use Rattle.mcy_top.specs.Campaigns.{IsMade}
+use Rattle.mcy_top.specs.Campaigns.{IsMade, IsPlan}
 use Rattle.mcy_top.specs.Reads.{IsUnmade}
-use Rattle.mcy_top.specs.Outcomes.{outcome_of}
+use Rattle.mcy_top.specs.Outcomes.{book_outcome, outcome_of}
+use Rattle.mcy_top.specs.BookRefusals.{RefusesBook}
 use Rattle.mcy_top.specs.Life.{Answered, Answers, Commands}
 
 -- Reading failed, or there was no memory: that may come whatever the files hold.
@@ -26,10 +27,10 @@ pub record RefusesFiles (map : Held) (refusal : Refusal) : Type 0 where
   pub cause : IsUnmade (Some map) refusal
   pub by_files : ¬ IsCutShort (outcome_of refusal)
 
--- why a command refuses the book that was loaded
-abbrev pub RefusesBook : Command → Campaign → Book → Outcome → Type 0
-RefusesBook Run c loaded AlreadyBegun = ¬ IsBlank loaded
-RefusesBook Run c loaded outcome = ⊥
+-- the book is refused, and not for want of memory
+pub record RefusesFor (command : Command) (c : Prepared) (loaded : Book) (refusal : BookRefusal) : Type 0 where
+  pub cause : RefusesBook command c loaded refusal
+  pub by_book : refusal ≢ NoMemory
 
 -- Where the words give no command, the call ends with that, or there is no memory.
 abbrev pub UsageIsExact : Type 0
@@ -41,7 +42,7 @@ FileRefusalsAreExact = (words : List (List ℕ)) (map : Held) (refusal : Refusal
 
 -- Where the command refuses the loaded book, the call ends with that, or there is no memory.
 abbrev pub BookRefusalsAreExact : Type 0
-BookRefusalsAreExact = (command : Command) (c : Campaign) (loaded sure : Book) (refusal outcome : Outcome) → RefusesBook command c loaded refusal → Answers command c loaded sure outcome → (outcome ≡ refusal) ⊎ (outcome ≡ Memory)
+BookRefusalsAreExact = (command : Command) (c : Prepared) (loaded sure : Book) (refusal : BookRefusal) (outcome : Outcome) → IsPlan c → RefusesFor command c loaded refusal → Answers command c loaded sure outcome → (outcome ≡ book_outcome refusal) ⊎ (outcome ≡ Memory)
 
 -- Files are refused for one cause,
 abbrev pub FilesHaveOneCause : Type 0
@@ -49,4 +50,4 @@ FilesHaveOneCause = (map : Held) (refusal other : Refusal) → RefusesFiles map 
 
 -- and where they are refused they make no campaign.
 abbrev pub RefusedFilesMakeNone : Type 0
-RefusedFilesMakeNone = (map : Held) (refusal : Refusal) (c : Campaign) → RefusesFiles map refusal → ¬ IsMade (Some map) c
+RefusedFilesMakeNone = (map : Held) (refusal : Refusal) (c : Prepared) → RefusesFiles map refusal → ¬ IsMade (Some map) c

@@ -19,9 +19,9 @@ pub mod Ports
 pub mod ShortNames
 pub mod Places
 pub mod SiteTexts
+pub mod SiteLines
 pub mod Commands
 pub mod Projects
-pub mod Scripts
 pub mod Campaigns
 pub mod Rows
 pub mod Texts
@@ -29,6 +29,7 @@ pub mod Defined
 pub mod Outcomes
 pub mod Reads
 pub mod Changes
+pub mod BookRefusals
 pub mod Life
 pub mod Complete
 pub mod Running

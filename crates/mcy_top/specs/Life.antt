@@ -1,20 +1,24 @@
 -- One call of the program, from end to end.
-use Rattle.std.specs.Prelude.{◌≡◌, ◌≢◌, ◌⊎◌, ℕ, ◌+◌, ◌≤◌, List, [], length, ⊤, Option, None, Some}
+use Rattle.std.specs.Prelude.{◌≡◌, ◌≢◌, ◌⊎◌, ℕ, ◌+◌, ◌<◌, ◌≤◌, List, [], length, count_by, ⊤, Option, None, Some}
 use Rattle.mcy_base.specs.Causes.{Rose}
 use Rattle.mcy_keeper.specs.declared.book.Book.{Book}
 use Rattle.mcy_keeper.specs.Books.{IsBlank, LeavesNothingNew, LeavesOnly}
 use Rattle.mcy_outside.specs.Files.{Held}
+use Rattle.result_book.specs.Scripts.{ask, is_ended}
+use Rattle.result_book.specs.Rows.{groups, IsFinished, IsWellFormed}
 use Rattle.mcy_outside.specs.Written.{Appends, AppendsPart}
 use Rattle.mcy_top.specs.declared.command.Command.{Command}
-use Rattle.mcy_top.specs.declared.command.Command.TheVariants.{Run}
-use Rattle.mcy_top.specs.declared.campaign.Campaign.{Campaign}
+use Rattle.mcy_top.specs.declared.command.Command.TheVariants.{Init, Run, Status}
+use Rattle.mcy_top.specs.declared.prepared.Prepared.{Prepared}
 use Rattle.mcy_top.specs.declared.outcome.Refusal.TheVariants.{SourceBad as RefusedSource, Missing as RefusedMissing, TooLarge as RefusedTooLarge, ReadFault as RefusedRead, Unbuilt as RefusedUnbuilt}
+use Rattle.mcy_top.specs.declared.outcome.BookRefusal.TheVariants.{NoCampaign as RefusedNone, AlreadyBegun as RefusedBegun, BookBad as RefusedBook}
 use Rattle.mcy_top.specs.declared.outcome.Outcome.{Outcome}
-use Rattle.mcy_top.specs.declared.outcome.Outcome.TheVariants.{Done, Usage, SourceBad, Missing, TooLarge, AlreadyBegun, ReadFault, KeeperFault, WriteFault, Memory, Unbuilt}
-use Rattle.mcy_top.specs.Commands.{command_of, slots_of}
+use Rattle.mcy_top.specs.declared.outcome.Outcome.TheVariants.{Done, Unfinished, Usage, SourceBad, Missing, TooLarge, NoCampaign, AlreadyBegun, BookBad, ReadFault, KeeperFault, WriteFault, Memory, Unbuilt}
+use Rattle.mcy_top.specs.Commands.{command_of, slots_of, stop_of, OnlyReads, Runs}
 use Rattle.mcy_top.specs.Campaigns.{IsMade}
 use Rattle.mcy_top.specs.Reads.{IsUnmade}
-use Rattle.mcy_top.specs.Rows.{IsWellFormed, IsGood, IsBlankOrGood, IsFinished, IsPrefix, IsWithinOne}
+use Rattle.mcy_top.specs.BookRefusals.{RefusesBook}
+use Rattle.mcy_top.specs.Rows.{IsGood, IsBlankOrGood, IsPrefix, IsWithinOne}
 use Rattle.mcy_top.specs.Changes.{Course, IsNear}
 use Rattle.mcy_top.specs.Texts.{text_of}
 use Rattle.mcy_top.specs.Defined.{given_up, IsFinalText}
@@ -26,8 +30,8 @@ Commands words = command_of words ≢ None
 -- the words give a command, and the files a campaign
 pub record IsAccepted (words : List (List ℕ)) (held : Option Held) : Type 0 where
   pub asked : Commands words
-  pub campaign : Campaign
-  pub made : IsMade held campaign
+  pub prepared : Prepared
+  pub made : IsMade held prepared
 
 -- What each outcome says of the words and the files.
 abbrev pub Answered : List (List ℕ) → Option Held → Outcome → Type 0
@@ -62,28 +66,47 @@ HasCause files files' keeper keeper' sink sink' outcome = ⊤
 -- what was written at each outcome
 abbrev pub Wrote : Option (List ℕ) → Option (List ℕ) → List ℕ → Outcome → Type 0
 Wrote before now text Done = Appends before now text
+Wrote before now text (Unfinished left) = Appends before now text
 Wrote before now text WriteFault = AppendsPart before now text
 Wrote before now text outcome = now ≡ before
 
 -- Nothing is written at a refusal.
 abbrev pub IsQuiet : Option (List ℕ) → Option (List ℕ) → Outcome → Type 0
 IsQuiet before now Done = ⊤
+IsQuiet before now (Unfinished left) = ⊤
 IsQuiet before now WriteFault = ⊤
 IsQuiet before now outcome = now ≡ before
 
 -- the command takes this book
-abbrev pub Takes : Command → Campaign → Book → Type 0
-Takes Run c book = IsBlank book
+abbrev pub Takes : Command → Prepared → Book → Type 0
+Takes Init c book = IsBlank book
+Takes (Run stop) c book = IsBlank book ⊎ IsWellFormed c.campaign book
+Takes Status c book = IsWellFormed c.campaign book
 
 -- Every mutation is finished, and the text is the one that the campaign defines with the pairs that the book gave up.
-pub record IsWhole (c : Campaign) (loaded book : Book) (text : List ℕ) : Type 0 where
-  pub finished : IsFinished c book
+pub record IsWhole (c : Prepared) (loaded book : Book) (text : List ℕ) : Type 0 where
+  pub finished : IsFinished c.campaign book
   pub final : IsBlankOrGood loaded → IsFinalText c (given_up book.journal) text
 
+-- how many mutations are finished
+abbrev pub finished_count : Prepared → Book → ℕ
+finished_count c book = count_by (λ answers. is_ended (ask answers)) (groups c.campaign book.journal)
+
+-- as many entries as were asked for were acknowledged, and so many mutations are left
+pub record IsStopped (command : Command) (c : Prepared) (loaded book : Book) (left : ℕ) : Type 0 where
+  pub stop : ℕ
+  pub asked : stop_of command ≡ Some stop
+  pub gained : length book.journal ≡ length loaded.journal + stop
+  pub left_is : left + finished_count c book ≡ length c.campaign.mutations
+  pub some : 0 < left
+
 -- How a call ends that has loaded a book.
-abbrev pub Answers : Command → Campaign → Book → Book → Outcome → Type 0
-Answers command c loaded sure Done = Takes command c loaded × IsWellFormed c sure × IsWhole c loaded sure (text_of command c sure)
-Answers command c loaded sure AlreadyBegun = ¬ IsBlank loaded
+abbrev pub Answers : Command → Prepared → Book → Book → Outcome → Type 0
+Answers command c loaded sure Done = Takes command c loaded × IsWellFormed c.campaign sure × (Runs command → IsWhole c loaded sure (text_of command c sure))
+Answers command c loaded sure (Unfinished left) = Takes command c loaded × IsWellFormed c.campaign sure × IsStopped command c loaded sure left
+Answers command c loaded sure NoCampaign = RefusesBook command c loaded RefusedNone
+Answers command c loaded sure AlreadyBegun = RefusesBook command c loaded RefusedBegun
+Answers command c loaded sure (BookBad error) = RefusesBook command c loaded (RefusedBook error)
 Answers command c loaded sure KeeperFault = Takes command c loaded
 Answers command c loaded sure WriteFault = Takes command c loaded
 Answers command c loaded sure Memory = ⊤
@@ -92,29 +115,34 @@ Answers command c loaded sure outcome = ⊥
 -- the text was made and written
 abbrev pub Carried : Outcome → Type 0
 Carried Done = ⊤
+Carried (Unfinished left) = ⊤
 Carried outcome = ⊥
 
 -- The sure book has the loaded one as its first part, and every crash leaves the sure book with one entry more at
 -- most. It was reached by changes, and every crash leaves it or the book after one change more.
-pub record Grew (leaves : Book → Type 0) (c : Campaign) (loaded sure : Book) (outcome : Outcome) : Type 0 where
+pub record Grew (leaves : Book → Type 0) (command : Command) (c : Prepared) (loaded sure : Book) (outcome : Outcome) : Type 0 where
   pub grown : IsPrefix loaded sure
   pub within_one : (other : Book) → leaves other → IsWithinOne sure other
   pub good : IsBlankOrGood loaded → (other : Book) → leaves other → IsGood other ⊎ (IsBlank other × IsBlank loaded)
+  pub reads : OnlyReads command → LeavesOnly leaves loaded
+  pub no_entry : ¬ Runs command → (other : Book) → leaves other → other.journal ≡ loaded.journal
   pub exact : Carried outcome → LeavesOnly leaves sure
   pub is_begun : Carried outcome → sure.meta ≢ []
   pub changes : List Book
   pub course : Course c loaded changes sure
   pub near : (other : Book) → leaves other → IsNear c sure other
 
--- The steps are at most the entries that the sure book gained and the slots, and at Done exactly the entries.
+-- The steps are at most the entries that the sure book gained and the slots, and at Done exactly the entries. A command
+-- that runs no tests takes none.
 pub record Stepped (command : Command) (loaded sure : Book) (before now : ℕ) (outcome : Outcome) : Type 0 where
   pub bound : now + length loaded.journal ≤ before + length sure.journal + slots_of command
   pub equal : outcome ≡ Done → now + length loaded.journal ≡ before + length sure.journal
+  pub idle : ¬ Runs command → now ≡ before
 
 -- what a call does after it has loaded a book
-pub record Work (leaves : Book → Type 0) (written written' : Option (List ℕ)) (taken taken' : ℕ) (command : Command) (c : Campaign) (loaded : Book) (outcome : Outcome) : Type 0 where
+pub record Work (leaves : Book → Type 0) (written written' : Option (List ℕ)) (taken taken' : ℕ) (command : Command) (c : Prepared) (loaded : Book) (outcome : Outcome) : Type 0 where
   pub sure : Book
-  pub book : Grew leaves c loaded sure outcome
+  pub book : Grew leaves command c loaded sure outcome
   pub steps : Stepped command loaded sure taken taken' outcome
   pub text : Wrote written written' (text_of command c sure) outcome
   pub answer : Answers command c loaded sure outcome
@@ -122,13 +150,13 @@ pub record Work (leaves : Book → Type 0) (written written' : Option (List ℕ)
 -- A call that has loaded a book: the one that was told at entry, else one that a crash could have left then.
 pub record Life (words : List (List ℕ)) (held : Option Held) (holds leaves leaves' : Book → Type 0) (written written' : Option (List ℕ)) (taken taken' : ℕ) (outcome : Outcome) : Type 0 where
   pub command : Command
-  pub campaign : Campaign
+  pub prepared : Prepared
   pub loaded : Book
   pub asked : command_of words ≡ Some command
-  pub made : IsMade held campaign
+  pub made : IsMade held prepared
   pub found : (was : Book) → holds was → loaded ≡ was
   pub allowed : leaves loaded
-  pub work : Work leaves' written written' taken taken' command campaign loaded outcome
+  pub work : Work leaves' written written' taken taken' command prepared loaded outcome
 
 -- A call that has loaded no book.
 pub record Early (leaves leaves' : Book → Type 0) (taken taken' : ℕ) (outcome : Outcome) : Type 0 where

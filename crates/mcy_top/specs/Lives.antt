@@ -3,30 +3,31 @@ use Rattle.std.specs.Prelude.{◌≡◌, List, [], ◌∷◌, ◌++◌, ⊤}
 use Rattle.std.specs.List.{All, AllPairs}
 use Rattle.mcy_keeper.specs.declared.book.Book.{Book}
 use Rattle.mcy_keeper.specs.Books.{blank}
-use Rattle.mcy_top.specs.declared.campaign.Campaign.{Campaign}
+use Rattle.mcy_top.specs.declared.prepared.Prepared.{Prepared}
 use Rattle.mcy_top.specs.Campaigns.{IsPlan}
-use Rattle.mcy_top.specs.Rows.{GoesOn, IsBlankOrGood, IsFinished, IsGood, IsOther, IsPrefix, IsWellFormed}
+use Rattle.result_book.specs.Rows.{IsFinished, IsPair, IsWellFormed}
+use Rattle.mcy_top.specs.Rows.{GoesOn, IsBlankOrGood, IsGood, IsPrefix}
 use Rattle.mcy_top.specs.Changes.{Course, IsNear}
-use Rattle.mcy_top.specs.Texts.{groups, status_text}
+use Rattle.source_report.specs.Texts.{status_text}
 use Rattle.mcy_top.specs.Defined.{given_up, IsFinalText}
 
 -- a life: its campaign, the book that it starts from, the books after each acknowledged change, and the last of them
 pub record Lived : Type 0 where
-  pub campaign : Campaign
+  pub prepared : Prepared
   pub start : Book
   pub changes : List Book
   pub sure : Book
 
 -- the changes lead from the start to the last book
 pub record IsLife (l : Lived) : Type 0 where
-  pub plan : IsPlan l.campaign
-  pub course : Course l.campaign l.start l.changes l.sure
+  pub plan : IsPlan l.prepared
+  pub course : Course l.prepared l.start l.changes l.sure
 
 -- The first life starts from this book. Each next one starts from the book that the one before was sure of, or from
 -- that book with the one change that was under way.
 abbrev pub IsHistory : Book → List Lived → Type 0
 IsHistory book [] = ⊤
-IsHistory book (l ∷ more) = (l.start ≡ book) × IsLife l × ((next : Book) × IsNear l.campaign l.sure next × IsHistory next more)
+IsHistory book (l ∷ more) = (l.start ≡ book) × IsLife l × ((next : Book) × IsNear l.prepared l.sure next × IsHistory next more)
 
 -- the books of lives in their order: of each life the start, the books after its changes, and the last
 abbrev pub books_of : List Lived → List Book
@@ -35,11 +36,11 @@ books_of (l ∷ more) = (l.start ∷ l.changes ++ l.sure ∷ []) ++ books_of mor
 
 -- no pair of mutation and test stands twice in the book
 abbrev pub HasPairsOnce : Book → Type 0
-HasPairsOnce book = AllPairs (λ row e. IsOther e row) book.journal
+HasPairsOnce book = AllPairs (λ row e. ¬ IsPair e.mutation e.test row) book.journal
 
 -- a finished book has the status text that the campaign defines with the pairs that were given up
-abbrev pub HasFinalText : Campaign → Book → Type 0
-HasFinalText c book = IsWellFormed c book → IsFinished c book → IsFinalText c (given_up book.journal) (status_text (groups c book))
+abbrev pub HasFinalText : Prepared → Book → Type 0
+HasFinalText c book = IsWellFormed c.campaign book → IsFinished c.campaign book → IsFinalText c (given_up book.journal) (status_text c.campaign book.journal)
 
 -- Each book is empty or good and has each pair once, each is a first part of all that follow, and each life's last
 -- book has its text where it is finished.
@@ -47,7 +48,7 @@ pub record AreSafe (lives : List Lived) : Type 0 where
   pub good : All IsBlankOrGood (books_of lives)
   pub once : All HasPairsOnce (books_of lives)
   pub kept : AllPairs IsPrefix (books_of lives)
-  pub final : All (λ l. HasFinalText l.campaign l.sure) lives
+  pub final : All (λ l. HasFinalText l.prepared l.sure) lives
 
 -- Lives that begin with the empty book are safe.
 abbrev pub LivesAreSafe : Type 0

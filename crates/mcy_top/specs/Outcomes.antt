@@ -2,17 +2,22 @@
 use Rattle.std.specs.Prelude.{ℕ}
 use Rattle.mcy_top.specs.declared.outcome.Refusal.{Refusal}
 use Rattle.mcy_top.specs.declared.outcome.Refusal.TheVariants.{SourceBad as RefusedSource, Missing as RefusedMissing, TooLarge as RefusedTooLarge, ReadFault as RefusedRead, Memory as RefusedMemory, Unbuilt as RefusedUnbuilt}
+use Rattle.mcy_top.specs.declared.outcome.BookRefusal.{BookRefusal}
+use Rattle.mcy_top.specs.declared.outcome.BookRefusal.TheVariants.{NoCampaign as RefusedNone, AlreadyBegun as RefusedBegun, BookBad as RefusedBook, Memory as NoMemory}
 use Rattle.mcy_top.specs.declared.outcome.Outcome.{Outcome}
-use Rattle.mcy_top.specs.declared.outcome.Outcome.TheVariants.{Done, Usage, SourceBad, Missing, TooLarge, AlreadyBegun, ReadFault, KeeperFault, WriteFault, Memory, Unbuilt}
+use Rattle.mcy_top.specs.declared.outcome.Outcome.TheVariants.{Done, Unfinished, Usage, SourceBad, Missing, TooLarge, NoCampaign, AlreadyBegun, BookBad, ReadFault, KeeperFault, WriteFault, Memory, Unbuilt}
 
 -- the exit status (README.md)
 abbrev pub status_of : Outcome → ℕ
 status_of Done = 0
+status_of (Unfinished left) = 1
 status_of Usage = 2
 status_of (SourceBad error) = 5
 status_of (Missing name) = 6
 status_of (TooLarge name) = 7
+status_of NoCampaign = 8
 status_of AlreadyBegun = 9
+status_of (BookBad error) = 10
 status_of (ReadFault name) = 11
 status_of KeeperFault = 12
 status_of WriteFault = 13
@@ -27,3 +32,10 @@ outcome_of (RefusedTooLarge name) = TooLarge name
 outcome_of (RefusedRead name) = ReadFault name
 outcome_of RefusedMemory = Memory
 outcome_of (RefusedUnbuilt part) = Unbuilt part
+
+-- the outcome of a call that refuses the loaded book
+abbrev pub book_outcome : BookRefusal → Outcome
+book_outcome RefusedNone = NoCampaign
+book_outcome RefusedBegun = AlreadyBegun
+book_outcome (RefusedBook error) = BookBad error
+book_outcome NoMemory = Memory

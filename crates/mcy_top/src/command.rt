@@ -1,20 +1,182 @@
-//! The words after the program's name.
+//! The words after the program's name: `init`, `run` or `status`, alone, or `run` with its one option,
+//! `run --stop-after N` or `run --stop-after=N`.
 ghost use Rattle.std.specs.Prelude.{◌≡◌, map, string_bytes};
-ghost use Rattle.mcy_top.specs.Commands.{command_of};
+ghost use Rattle.std.specs.Char.{is_ascii_digit};
+ghost use Rattle.std.specs.List.{list_all};
+ghost use Rattle.mcy_top.specs.Commands.{command_of, one_word, run_until, three_words, two_words};
+
+use std::alloc::AllocError;
+
+/// The most tests after which a run may be told to stop.
+const MAX_STOP: u32 = 1_000_000;
+
+/// The most digits in which that number may be written, leading zeros among them.
+const MAX_DIGITS: usize = 10;
 
 /// What the words ask for.
 #[derive(Clone, Copy, Debug, PartialEq, Eq)]
 pub enum Command {
-    /// Run every test that is not run yet, and write the status.
-    Run,
+    /// Begin a campaign.
+    Init,
+    /// Run the tests that are not run yet, and write the status.
+    Run {
+        /// The most tests that this call runs, from 1 to 1,000,000; without a number, all.
+        stop_after: Option<u32>,
+    },
+    /// Write the status.
+    Status,
 }
 
-/// The command that the words give, if they give one.
-pub fn read_words(words: &[String]) -> Option<Command>
-    ensures { result ≡ command_of (map string_bytes words.now) }
+/// The command that the words give, if they give one. The answer is always `Ok`, as reading takes no memory.
+pub fn read_words(words: &[String]) -> Result<Option<Command>, AllocError>
+    ensures { result ≡ Ok (command_of (map string_bytes words.now)) }
 {
-    match words {
-        [word] if word.as_str() == "run" => Some(Command::Run),
+    Ok(match words {
+        [word] => one_word(word.as_str()),
+        [word, option] => two_words(word.as_str(), option.as_str()),
+        [word, option, number] => three_words(word.as_str(), option.as_str(), number.as_str()),
         _ => None,
+    })
+}
+
+fn one_word(word: &str) -> Option<Command>
+    ensures { result ≡ one_word word.now }
+{
+    match word {
+        "init" => Some(Command::Init),
+        "run" => Some(Command::Run { stop_after: None }),
+        "status" => Some(Command::Status),
+        _ => None,
+    }
+}
+
+fn two_words(word: &str, option: &str) -> Option<Command>
+    ensures { result ≡ two_words word.now option.now }
+{
+    if word != "run" {
+        return None;
+    }
+    match option.strip_prefix("--stop-after=") {
+        Some(number) => run_until(number),
+        None => None,
+    }
+}
+
+fn three_words(word: &str, option: &str, number: &str) -> Option<Command>
+    ensures { result ≡ three_words word.now option.now number.now }
+{
+    if word == "run" && option == "--stop-after" {
+        run_until(number)
+    } else {
+        None
+    }
+}
+
+/// `run` that stops after the number of tests that the word says, if it says one.
+fn run_until(word: &str) -> Option<Command>
+    ensures { result ≡ run_until word.now }
+{
+    // `parse` alone would take a sign and any number of zeros.
+    if word.len() > MAX_DIGITS || !are_digits(word) {
+        return None;
+    }
+    match word.parse::<u32>() {
+        Ok(number @ 1..=MAX_STOP) => Some(Command::Run {
+            stop_after: Some(number),
+        }),
+        _ => None,
+    }
+}
+
+fn are_digits(word: &str) -> bool
+    ensures { result ≡ list_all is_ascii_digit word.now }
+{
+    word.as_bytes().iter().all(|byte| byte.is_ascii_digit())
+}
+
+#[cfg(test)]
+mod tests {
+    use super::*;
+    use std::alloc::Global;
+    use std::test::Fail;
+
+    fn read(alloc: Global, words: &[&str]) -> Result<Option<Command>, AllocError> {
+        let mut list = Vec::new(alloc);
+        for word in words {
+            list.push(String::from_str(alloc, word)?)?;
+        }
+        read_words(&list)
+    }
+
+    fn run(count: u32) -> Command {
+        Command::Run {
+            stop_after: Some(count),
+        }
+    }
+
+    #[test]
+    fn each_form_of_a_command_is_read(rt: HostRuntime) -> Result<(), Fail> {
+        let table: [(&[&str], Command); 12] = [
+            (&["init"], Command::Init),
+            (&["status"], Command::Status),
+            (&["run"], Command::Run { stop_after: None }),
+            (&["run", "--stop-after", "1"], run(1)),
+            (&["run", "--stop-after=1"], run(1)),
+            (&["run", "--stop-after", "120"], run(120)),
+            (&["run", "--stop-after=120"], run(120)),
+            (&["run", "--stop-after", "007"], run(7)),
+            (&["run", "--stop-after=007"], run(7)),
+            (&["run", "--stop-after", "1000000"], run(1_000_000)),
+            (&["run", "--stop-after=1000000"], run(1_000_000)),
+            (&["run", "--stop-after", "0000000001"], run(1)),
+        ];
+        for (words, command) in table {
+            assert_eq!(rt; read(rt.alloc(), words)?, Some(command), "at {words:?}");
+        }
+        Ok(())
+    }
+
+    #[test]
+    fn other_words_give_no_command(rt: HostRuntime) -> Result<(), Fail> {
+        let table: [&[&str]; 34] = [
+            &[],
+            &[""],
+            &["Run"],
+            &["help"],
+            &["-h"],
+            &["--help"],
+            &["--"],
+            &["init", "x"],
+            &["init", "--"],
+            &["status", "x"],
+            &["status", "--stop-after", "1"],
+            &["status", "--stop-after=1"],
+            &["run", "run"],
+            &["run", "--"],
+            &["run", "--", "--stop-after=1"],
+            &["run", "--help"],
+            &["run", "-j", "2"],
+            &["--stop-after", "1"],
+            &["--stop-after=1", "run"],
+            &["run", "--stop-after"],
+            &["run", "--stop-after="],
+            &["run", "--stop-after", ""],
+            &["run", "--stop-after=", "1"],
+            &["run", "--stop-after", "=1"],
+            &["run", "--stop-after", "0"],
+            &["run", "--stop-after=0"],
+            &["run", "--stop-after", "1000001"],
+            &["run", "--stop-after", "4294967297"],
+            &["run", "--stop-after=+1"],
+            &["run", "--stop-after", "-1"],
+            &["run", "--stop-after", "1x"],
+            &["run", "--stop-after", "00000000001"],
+            &["run", "--stop-after=00000000001"],
+            &["run", "--stop-after", "1", "--stop-after", "1"],
+        ];
+        for words in table {
+            assert_eq!(rt; read(rt.alloc(), words)?, None, "at {words:?}");
+        }
+        Ok(())
     }
 }

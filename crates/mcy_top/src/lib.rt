@@ -2,7 +2,6 @@
 #![tactic(auto)]
 
 mod bits;
-mod campaign;
 mod cell;
 mod command;
 mod equal;
@@ -14,18 +13,19 @@ mod names;
 mod netlist;
 pub mod netlist_laws;
 mod outcome;
+mod prepared;
 mod project;
 mod reading;
+#[cfg(test)]
+mod restart_tests;
 mod running;
-mod script;
 mod settle;
 mod site;
+mod site_line;
 mod site_text;
 mod sites;
 #[cfg(test)]
 mod sound;
-mod state;
-mod status;
 #[cfg(test)]
 mod tests;
 mod thin;

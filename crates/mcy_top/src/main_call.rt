@@ -42,7 +42,7 @@ pub fn mcy_main<F: SourceFiles, K: Keeper, O: Sink, L: Ledger>(
 
     // Where all is there and nothing fails, the command is carried out, or there is no memory.
     ensures complete { K.tells keeper.new → (command : Asked) → IsReady (map string_bytes words.now) (F.held files.old) (K.holds keeper.old) (K.leaves keeper.old) command
-        → NoneRose (F.faults files.old) (F.faults files.new) (K.faults keeper.old) (K.faults keeper.new) (O.faults out.old) (O.faults out.new) → Completes result }
+        → NoneRose (F.faults files.old) (F.faults files.new) (K.faults keeper.old) (K.faults keeper.new) (O.faults out.old) (O.faults out.new) → Completes command result }
 {
     carry_out_words(alloc, words, files, keeper, out, steps)
 }
@@ -63,15 +63,17 @@ fn carry_out_words<F: SourceFiles, K: Keeper, O: Sink, L: Ledger>(
     ensures life { K.tells keeper.new → Early (K.leaves keeper.old) (K.leaves keeper.new) steps.old steps.new result
         ⊎ Life (map string_bytes words.now) (F.held files.old) (K.holds keeper.old) (K.leaves keeper.old) (K.leaves keeper.new) (O.written out.old) (O.written out.new) steps.old steps.new result }
 {
-    let Some(command) = read_words(words) else {
-        return Outcome::Usage;
+    let command = match read_words(words) {
+        Ok(Some(command)) => command,
+        Ok(None) => return Outcome::Usage,
+        Err(_) => return Outcome::Memory,
     };
-    let campaign = match read_campaign(alloc, files) {
-        Ok(campaign) => campaign,
+    let prepared = match read_campaign(alloc, files) {
+        Ok(prepared) => prepared,
         Err(refusal) => return refusal.into_outcome(),
     };
     match keeper.load() {
-        Ok(loaded) => carry_out(alloc, command, &campaign, &loaded, keeper, out, steps),
+        Ok(loaded) => carry_out(alloc, command, &prepared, &loaded, keeper, out, steps),
         Err(error) => failed(error),
     }
 }

@@ -1,8 +1,9 @@
 //! How a call ends.
 ghost use Rattle.std.specs.Prelude.{◌≡◌};
-ghost use Rattle.mcy_top.specs.Outcomes.{outcome_of, status_of};
+ghost use Rattle.mcy_top.specs.Outcomes.{book_outcome, outcome_of, status_of};
 
 use mcy_base::{Kind, Text};
+use result_book::BookError;
 
 /// A form of input that is not built yet.
 #[derive(Clone, Copy, Debug, PartialEq, Eq)]
@@ -33,6 +34,8 @@ pub struct SourceError {
 pub enum Outcome {
     /// The command was carried out, and its whole text was written.
     Done,
+    /// As many tests were run as were asked for, the text was written, and so many mutations are not finished.
+    Unfinished(u32),
     /// The words give no command.
     Usage,
     /// The sources are refused.
@@ -41,8 +44,12 @@ pub enum Outcome {
     Missing(Text),
     /// The file of this name has more than 1,048,576 bytes.
     TooLarge(Text),
-    /// The database holds a campaign already.
+    /// The database holds no campaign, and the command would show one.
+    NoCampaign,
+    /// The database holds a campaign already, and the command would begin one.
     AlreadyBegun,
+    /// What the database holds is not the campaign of the project and its source.
+    BookBad(BookError),
     /// The file of this name could not be read.
     ReadFault(Text),
     /// The database failed.
@@ -61,11 +68,14 @@ pub fn exit_status(outcome: &Outcome) -> u8
 {
     match outcome {
         Outcome::Done => 0,
+        Outcome::Unfinished(_) => 1,
         Outcome::Usage => 2,
         Outcome::SourceBad(_) => 5,
         Outcome::Missing(_) => 6,
         Outcome::TooLarge(_) => 7,
+        Outcome::NoCampaign => 8,
         Outcome::AlreadyBegun => 9,
+        Outcome::BookBad(_) => 10,
         Outcome::ReadFault(_) => 11,
         Outcome::KeeperFault => 12,
         Outcome::WriteFault => 13,
@@ -97,6 +107,29 @@ impl Refusal {
             Refusal::ReadFault(name) => Outcome::ReadFault(name),
             Refusal::Memory => Outcome::Memory,
             Refusal::Unbuilt(part) => Outcome::Unbuilt(part),
+        }
+    }
+}
+
+/// Why a command refuses the loaded book.
+#[derive(Drop)]
+pub(crate) enum BookRefusal {
+    NoCampaign,
+    AlreadyBegun,
+    BookBad(BookError),
+    Memory,
+}
+
+impl BookRefusal {
+    /// How a call ends that is refused so.
+    pub(crate) fn into_outcome(self) -> Outcome
+        ensures { result ≡ book_outcome self }
+    {
+        match self {
+            BookRefusal::NoCampaign => Outcome::NoCampaign,
+            BookRefusal::AlreadyBegun => Outcome::AlreadyBegun,
+            BookRefusal::BookBad(error) => Outcome::BookBad(error),
+            BookRefusal::Memory => Outcome::Memory,
         }
     }
 }

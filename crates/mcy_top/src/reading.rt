@@ -8,10 +8,10 @@ ghost use Rattle.mcy_top.specs.ThinModules.{IsSource, input_names};
 ghost use Rattle.mcy_top.specs.Campaigns.{config_name, Got, IsMade};
 ghost use Rattle.mcy_top.specs.Reads.{IsUnmade, IsUnread, HasReadCause, HasProject, GotSource};
 
-use crate::campaign::{CONFIG_NAME, Campaign, MAX_BYTES, SOURCE_NAME, make_campaign};
 use crate::equal::MAX_FREE_BITS;
 use crate::lower::input_count;
 use crate::outcome::{Part, Refusal, SourceError, SourceFault};
+use crate::prepared::{CONFIG_NAME, MAX_BYTES, Prepared, SOURCE_NAME, prepare};
 use crate::project::is_project;
 use crate::thin::{ThinModule, read_source};
 use mcy_base::{Kind, Text};
@@ -100,7 +100,7 @@ fn too_many_free_bits(alloc: Global) -> Result<SourceError, AllocError>
 pub(crate) fn read_campaign<F: SourceFiles>(
     alloc: Global,
     files: &mut F,
-) -> Result<Campaign, Refusal>
+) -> Result<Prepared, Refusal>
     ensures same { F.held files.new ≡ F.held files.old }
     ensures made { IfOk result (IsMade (F.held files.old)) }
     ensures refused { IfErr result (IsUnmade (F.held files.old)) }
@@ -109,5 +109,5 @@ pub(crate) fn read_campaign<F: SourceFiles>(
 {
     let config = read_project(alloc, files)?;
     let (source, parsed) = read_module(alloc, files)?;
-    Ok(make_campaign(alloc, &config, &source, &parsed)?)
+    Ok(prepare(alloc, &config, &source, &parsed)?)
 }

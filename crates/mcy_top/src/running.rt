@@ -1,153 +1,111 @@
 //! The run of a campaign over its keeper: a test, its row in the book, and the next test.
-ghost use Rattle.std.specs.Prelude.{◌≡◌, ◌≢◌, ◌+◌, ◌<◌, ◌≤◌, ◌++◌, ◌∷◌, ℕ, [], None, Some, true, IsTrue, IfOk, OnOk, OnErr, IsErrOf, length, slice_get, slice_set, vec_len};
+ghost use Rattle.std.specs.Prelude.{◌≡◌, ◌⊎◌, ◌+◌, ◌<◌, ◌≤◌, IsTrue, IfOk, OnOk, OnErr, IsErrOf, length};
 ghost use Rattle.mcy_base.specs.Causes.{Rose};
-ghost use Rattle.mcy_keeper.specs.Books.{blank, IsNext, Keeps, LeavesEither, with_entry};
-ghost use Rattle.mcy_top.specs.Scripts.{ask, is_ended, word_code};
+ghost use Rattle.mcy_keeper.specs.Books.{Keeps};
+ghost use Rattle.result_book.specs.declared.script.Ask.TheVariants.{Need};
+ghost use Rattle.result_book.specs.Scripts.{word_code};
+ghost use Rattle.result_book.specs.Rows.{ask_on, IsFinished};
+ghost use Rattle.result_book.specs.States.{IsStateOf};
 ghost use Rattle.mcy_top.specs.Campaigns.{IsPlan};
-ghost use Rattle.mcy_top.specs.Rows.{answers_of, IsFinished, IsNextRow, IsTrueWord, IsWellFormed};
-ghost use Rattle.mcy_top.specs.Changes.{opened};
-ghost use Rattle.mcy_top.specs.Running.{book_of, next_row, Advanced, AddsRow, Broke, LeavesNext, Ran, Stopped, Tracks};
+ghost use Rattle.mcy_top.specs.Rows.{IsTrueWord};
+ghost use Rattle.mcy_top.specs.Running.{book_of, AddsRow, Broke, LeavesNext, Ran, Reached};
 
-use crate::campaign::Campaign;
 use crate::equal::one_step_equal;
-use crate::script::TestWord;
-use crate::state::State;
+use crate::prepared::Prepared;
 use mcy_base::Steps;
 use mcy_keeper::{KeepError, Keeper};
+use result_book::{Ask, State, TestWord};
 use std::alloc::{AllocError, Global};
 use std::sync::ledger::Ledger;
 
 /// The word of the equivalence test on a mutation.
-fn run_test(alloc: Global, campaign: &Campaign, mutation: u32) -> Result<TestWord, AllocError>
-    requires plan { IsPlan campaign.now }
-    requires mutation { mutation < length campaign.now.sites }
-    ensures { IfOk result (λ word. IsTrueWord campaign.now mutation (word_code word)) }
+fn run_test(alloc: Global, prepared: &Prepared, mutation: u32) -> Result<TestWord, AllocError>
+    requires plan { IsPlan prepared.now }
+    requires mutation { mutation < length prepared.now.campaign.mutations }
+    ensures { IfOk result (λ word. IsTrueWord prepared.now mutation (word_code word)) }
 {
-    let site = &campaign.sites.as_slice()[mutation as usize];
-    if one_step_equal(alloc, &campaign.netlist, site)? {
+    let site = &prepared.sites.as_slice()[mutation as usize];
+    if one_step_equal(alloc, &prepared.netlist, site)? {
         Ok(TestWord::Pass)
     } else {
         Ok(TestWord::Fail)
     }
 }
 
-/// Runs the test of a mutation that has no word yet, and adds its row to the state and to the kept book.
+/// Runs the test that the script needs on a mutation, and adds its row to the kept book and to the state.
 fn test_mutation<K: Keeper, L: Ledger>(
     alloc: Global,
-    campaign: &Campaign,
+    prepared: &Prepared,
     mutation: u32,
+    test: u32,
     state: &mut State,
     keeper: &mut K,
     steps: &mut Steps<L>,
 ) -> Result<(), KeepError>
     requires settled { IsTrue (K.is_settled keeper.old) }
-    requires plan { IsPlan campaign.now }
-    requires mutation { mutation < length campaign.now.sites }
-    requires form { IsWellFormed campaign.now (book_of campaign.now state.old.rows) }
-    requires tracks { Tracks campaign.now state.old.rows state.old.words.items }
-    requires open { slice_get state.old.words.items mutation ≡ Some None }
-    requires kept { K.tells keeper.old → Keeps (K.holds keeper.old) (K.leaves keeper.old) (book_of campaign.now state.old.rows) }
+    requires plan { IsPlan prepared.now }
+    requires mutation { mutation < length prepared.now.campaign.mutations }
+    requires state { IsStateOf prepared.now.campaign state.old.rows state.old }
+    requires asked { ask_on mutation state.old.rows ≡ Need test }
+    requires kept { K.tells keeper.old → Keeps (K.holds keeper.old) (K.leaves keeper.old) (book_of prepared.now state.old.rows) }
     ensures tells { K.tells keeper.new → K.tells keeper.old }
     ensures settled { OnOk result (IsTrue (K.is_settled keeper.new)) }
-    ensures added { OnOk result (AddsRow campaign.now state.old.rows state.new.rows mutation) }
-    ensures tracks { OnOk result (Tracks campaign.now state.new.rows state.new.words.items) }
-    ensures kept { K.tells keeper.new → OnOk result (Keeps (K.holds keeper.new) (K.leaves keeper.new) (book_of campaign.now state.new.rows)) }
-    ensures left { K.tells keeper.new → OnErr result (LeavesNext (K.leaves keeper.new) campaign.now (book_of campaign.now state.old.rows)) }
+    ensures added { OnOk result (AddsRow prepared.now state.old.rows state.new.rows mutation) }
+    ensures state { OnOk result (IsStateOf prepared.now.campaign state.new.rows state.new) }
+    ensures kept { K.tells keeper.new → OnOk result (Keeps (K.holds keeper.new) (K.leaves keeper.new) (book_of prepared.now state.new.rows)) }
+    ensures left { K.tells keeper.new → OnErr result (LeavesNext (K.leaves keeper.new) prepared.now (book_of prepared.now state.old.rows)) }
     ensures step { steps.new ≡ steps.old + 1 }
     ensures later { K.faults keeper.old ≤ K.faults keeper.new }
     ensures cause { IsErrOf result KeepError.Fault → Rose (K.faults keeper.old) (K.faults keeper.new) }
 {
     steps.tick();
-    let word = run_test(alloc, campaign, mutation)?;
-    let entry = state.entry_for(mutation, word);
-    state.add(&entry, word)?;
-    keeper.append(&entry)
+    let word = run_test(alloc, prepared, mutation)?.code();
+    state.reserve(1)?;
+    let entry = state.entry_for(&prepared.campaign, mutation, test, word);
+    match keeper.append(&entry) {
+        Ok(()) => {}
+        Err(error) => return Err(error),
+    }
+    state.add(&prepared.campaign, &entry);
+    Ok(())
 }
 
-/// Runs the test of each mutation that has no word yet, in the order of the mutations.
-fn run_tests<K: Keeper, L: Ledger>(
+/// Runs tests in the order of the mutations, until every mutation is finished or as many rows were added as were
+/// asked for.
+pub(crate) fn run_tests<K: Keeper, L: Ledger>(
     alloc: Global,
-    campaign: &Campaign,
+    prepared: &Prepared,
+    stop_after: Option<u32>,
     state: &mut State,
     keeper: &mut K,
     steps: &mut Steps<L>,
 ) -> Result<(), KeepError>
     requires settled { IsTrue (K.is_settled keeper.old) }
-    requires plan { IsPlan campaign.now }
-    requires form { IsWellFormed campaign.now (book_of campaign.now state.old.rows) }
-    requires tracks { Tracks campaign.now state.old.rows state.old.words.items }
-    requires kept { K.tells keeper.old → Keeps (K.holds keeper.old) (K.leaves keeper.old) (book_of campaign.now state.old.rows) }
+    requires plan { IsPlan prepared.now }
+    requires state { IsStateOf prepared.now.campaign state.old.rows state.old }
+    requires kept { K.tells keeper.old → Keeps (K.holds keeper.old) (K.leaves keeper.old) (book_of prepared.now state.old.rows) }
     ensures tells { K.tells keeper.new → K.tells keeper.old }
-    ensures ran { OnOk result (Ran campaign.now state.old.rows state.new.rows) }
-    ensures tracks { OnOk result (Tracks campaign.now state.new.rows state.new.words.items) }
-    ensures kept { K.tells keeper.new → OnOk result (Keeps (K.holds keeper.new) (K.leaves keeper.new) (book_of campaign.now state.new.rows)) }
-    ensures broke { K.tells keeper.new → OnErr result (Broke (K.leaves keeper.new) campaign.now state.old.rows steps.old steps.new) }
+    ensures ran { OnOk result (Ran prepared.now state.old.rows state.new.rows) }
+    ensures state { OnOk result (IsStateOf prepared.now.campaign state.new.rows state.new) }
+    ensures kept { K.tells keeper.new → OnOk result (Keeps (K.holds keeper.new) (K.leaves keeper.new) (book_of prepared.now state.new.rows)) }
+    ensures broke { K.tells keeper.new → OnErr result (Broke (K.leaves keeper.new) prepared.now state.old.rows steps.old steps.new) }
     ensures steps { OnOk result (steps.new + length state.old.rows ≡ steps.old + length state.new.rows) }
-    ensures finished { OnOk result (IsFinished campaign.now (book_of campaign.now state.new.rows)) }
+    ensures ends { OnOk result (IsFinished prepared.now.campaign (book_of prepared.now state.new.rows) ⊎ Reached stop_after state.old.rows state.new.rows) }
     ensures later { K.faults keeper.old ≤ K.faults keeper.new }
     ensures cause { IsErrOf result KeepError.Fault → Rose (K.faults keeper.old) (K.faults keeper.new) }
 {
-    let count = campaign.sites.as_slice().len() as u32;
+    let count = prepared.campaign.mutations.as_slice().len() as u32;
+    let mut gained: u32 = 0;
     'tests: for mutation in 0..count {
-        if state.needs_test(mutation) {
-            match test_mutation(alloc, campaign, mutation, state, keeper, steps) {
-                Ok(()) => {}
+        if stop_after == Some(gained) {
+            return Ok(());
+        }
+        if let Ask::Need(test) = state.ask_of(mutation) {
+            match test_mutation(alloc, prepared, mutation, test, state, keeper, steps) {
+                Ok(()) => gained += 1,
                 Err(error) => return Err(error),
             }
         }
     }
     Ok(())
-}
-
-/// Begins the book of the campaign, which is empty.
-fn open_book<K: Keeper>(
-    alloc: Global,
-    campaign: &Campaign,
-    keeper: &mut K,
-) -> Result<State, KeepError>
-    requires settled { IsTrue (K.is_settled keeper.old) }
-    requires plan { IsPlan campaign.now }
-    requires kept { K.tells keeper.old → Keeps (K.holds keeper.old) (K.leaves keeper.old) blank }
-    ensures tells { K.tells keeper.new → K.tells keeper.old }
-    ensures settled { OnOk result (IsTrue (K.is_settled keeper.new)) }
-    ensures rows { IfOk result (λ state. state.rows ≡ []) }
-    ensures tracks { IfOk result (λ state. Tracks campaign.now [] state.words.items) }
-    ensures kept { K.tells keeper.new → OnOk result (Keeps (K.holds keeper.new) (K.leaves keeper.new) (opened campaign.now)) }
-    ensures either { K.tells keeper.new → OnErr result (LeavesEither (K.leaves keeper.new) blank (opened campaign.now)) }
-    ensures later { K.faults keeper.old ≤ K.faults keeper.new }
-    ensures cause { IsErrOf result KeepError.Fault → Rose (K.faults keeper.old) (K.faults keeper.new) }
-{
-    let state = State::begun(alloc, campaign.sites.as_slice().len())?;
-    keeper.begin(&campaign.meta, &campaign.mutations)?;
-    Ok(state)
-}
-
-/// Begins the book of the campaign, which is empty, and runs every test.
-pub(crate) fn advance<K: Keeper, L: Ledger>(
-    alloc: Global,
-    campaign: &Campaign,
-    keeper: &mut K,
-    steps: &mut Steps<L>,
-) -> Result<State, KeepError>
-    requires settled { IsTrue (K.is_settled keeper.old) }
-    requires plan { IsPlan campaign.now }
-    requires kept { K.tells keeper.old → Keeps (K.holds keeper.old) (K.leaves keeper.old) blank }
-    ensures tells { K.tells keeper.new → K.tells keeper.old }
-    ensures advanced { IfOk result (λ state. Advanced campaign.now blank (book_of campaign.now state.rows)) }
-    ensures tracks { IfOk result (λ state. Tracks campaign.now state.rows state.words.items) }
-    ensures finished { IfOk result (λ state. IsFinished campaign.now (book_of campaign.now state.rows)) }
-    ensures kept { K.tells keeper.new → IfOk result (λ state. Keeps (K.holds keeper.new) (K.leaves keeper.new) (book_of campaign.now state.rows)) }
-    ensures stopped { K.tells keeper.new → OnErr result (Stopped (K.leaves keeper.new) campaign.now blank steps.old steps.new) }
-    ensures steps { IfOk result (λ state. steps.new ≡ steps.old + length state.rows) }
-    ensures later { K.faults keeper.old ≤ K.faults keeper.new }
-    ensures cause { IsErrOf result KeepError.Fault → Rose (K.faults keeper.old) (K.faults keeper.new) }
-{
-    let mut state = match open_book(alloc, campaign, keeper) {
-        Ok(state) => state,
-        Err(error) => return Err(error),
-    };
-    match run_tests(alloc, campaign, &mut state, keeper, steps) {
-        Ok(()) => Ok(state),
-        Err(error) => Err(error),
-    }
 }

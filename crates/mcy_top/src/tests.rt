@@ -5,18 +5,20 @@ use crate::{AND_GATE_PROJECT, Outcome, Part, SourceFault, exit_status, mcy_main}
 use mcy_base::{Bytes, FileList, Kind, SourceFile, Steps, Text};
 use mcy_keeper::{Book, Entry, Keeper, MemoryKeeper};
 use mcy_outside::{MemoryFiles, MemorySink, Sink, SourceFiles};
+use result_book::{BookError, RowFault};
 use std::alloc::{AllocError, Global};
 use std::marker::Brand;
 use std::process::Abort;
 use std::sync::ledger::{Blank, Ledger};
 use std::test::Fail;
 
-const AND_GATE: &str = "module g(input a, input b, output y);\n  assign y = a & b;\nendmodule\n";
+pub(crate) const AND_GATE: &str =
+    "module g(input a, input b, output y);\n  assign y = a & b;\nendmodule\n";
 
 const REDUNDANT_OR: &str =
     "module g(input a, input b, output y);\n  wire u = a & b;\n  assign y = a | b;\nendmodule\n";
 
-const AND_GATE_STATUS: &str =
+pub(crate) const AND_GATE_STATUS: &str =
     "Mutations: 3\nFinished: 3\nTest same: PASS 0 FAIL 3 UNKNOWN 0\nTag CHANGED: 3\nTag NOCHANGE: 0\nAsserts: 0\nUnexpected: 0\n";
 
 const REDUNDANT_OR_STATUS: &str =
@@ -40,7 +42,7 @@ fn call_with<F: SourceFiles, K: Keeper, O: Sink, L: Ledger>(
 }
 
 /// A call whose steps nobody reads.
-fn call<F: SourceFiles, K: Keeper, O: Sink>(
+pub(crate) fn call<F: SourceFiles, K: Keeper, O: Sink>(
     alloc: Global,
     words: &[String],
     files: &mut F,
@@ -51,7 +53,7 @@ fn call<F: SourceFiles, K: Keeper, O: Sink>(
 }
 
 /// The words of a line.
-fn words_of(alloc: Global, line: &str) -> Result<Vec<String>, AllocError> {
+pub(crate) fn words_of(alloc: Global, line: &str) -> Result<Vec<String>, AllocError> {
     let mut words = Vec::new(alloc);
     for word in line.split_whitespace() {
         words.push(word.to_owned(alloc)?)?;
@@ -85,7 +87,7 @@ fn files_of(
 }
 
 /// The project and a source.
-fn campaign_of(alloc: Global, source: &str) -> Result<MemoryFiles, AllocError> {
+pub(crate) fn campaign_of(alloc: Global, source: &str) -> Result<MemoryFiles, AllocError> {
     files_of(
         alloc,
         Some(AND_GATE_PROJECT.as_bytes()),
@@ -95,14 +97,19 @@ fn campaign_of(alloc: Global, source: &str) -> Result<MemoryFiles, AllocError> {
 }
 
 /// A sink with room for each text here, whose calls of these numbers fail after so many bytes.
-fn sink_of(alloc: Global, failing: &[(u64, u32)]) -> Result<MemorySink, AllocError> {
+pub(crate) fn sink_of(alloc: Global, failing: &[(u64, u32)]) -> Result<MemorySink, AllocError> {
     Ok(MemorySink::new(failing.to_vec(alloc)?, Vec::with_capacity(alloc, 1000)?))
 }
 
 /// An outcome by its name, with what it carries.
-fn shown(outcome: &Outcome) -> (&str, &str) {
+pub(crate) fn shown(outcome: &Outcome) -> (&str, &str) {
     match outcome {
         Outcome::Done => ("Done", ""),
+        Outcome::Unfinished(1) => ("Unfinished", "1"),
+        Outcome::Unfinished(2) => ("Unfinished", "2"),
+        Outcome::Unfinished(_) => ("Unfinished", "more"),
+        Outcome::NoCampaign => ("NoCampaign", ""),
+        Outcome::BookBad(error) => ("BookBad", book_error(error)),
         Outcome::Usage => ("Usage", ""),
         Outcome::SourceBad(error) => match error.fault {
             SourceFault::TooMany(Kind::FreeBits) => ("SourceBad FreeBits", error.file.as_str()),
@@ -117,6 +124,31 @@ fn shown(outcome: &Outcome) -> (&str, &str) {
         Outcome::Memory => ("Memory", ""),
         Outcome::Unbuilt(Part::Project) => ("Unbuilt", "Project"),
         Outcome::Unbuilt(Part::Source) => ("Unbuilt", "Source"),
+    }
+}
+
+/// An error of a book by its name.
+fn book_error(error: &BookError) -> &str {
+    match error {
+        BookError::Meta(..) => "Meta",
+        BookError::Mutation(..) => "Mutation",
+        BookError::Row(_, fault) => row_fault(*fault),
+        BookError::Stray(..) => "Stray",
+        BookError::Memory => "Memory",
+    }
+}
+
+/// A fault of a row by its name.
+fn row_fault(fault: RowFault) -> &'static str {
+    match fault {
+        RowFault::Seq(_) => "Seq",
+        RowFault::NoMutation => "NoMutation",
+        RowFault::NoTest => "NoTest",
+        RowFault::Twice => "Twice",
+        RowFault::NotAsked => "NotAsked",
+        RowFault::BadWord => "BadWord",
+        RowFault::Mark(_) => "Mark",
+        RowFault::Tags(_) => "Tags",
     }
 }
 
@@ -140,7 +172,7 @@ fn expect_run(
 }
 
 /// Asserts rows in the order of their mutations, with these words, all done.
-fn expect_rows(rt: &impl Abort, rows: &[Entry], words: &[u32]) {
+pub(crate) fn expect_rows(rt: &impl Abort, rows: &[Entry], words: &[u32]) {
     assert!(rt; rows.len() == words.len());
     for (row, word) in rows.iter().zip(words) {
         let tags = if *word == 0 { 2 } else { 1 };
@@ -351,12 +383,12 @@ fn a_keeper_that_fails_keeps_what_was_acknowledged(rt: HostRuntime) -> Result<()
         );
         expect_rows(&rt, keeper.held().journal.as_slice(), words);
         let again = run_on(alloc, &mut keeper, &mut out)?;
-        let wanted = if mutations == 0 {
-            "Done"
-        } else {
-            "AlreadyBegun"
-        };
-        assert!(rt; shown(&again).0 == wanted, "after call {number}");
+        assert!(rt; shown(&again) == ("Done", ""), "after call {number}");
+        assert!(rt;
+            out.seen() == AND_GATE_STATUS.as_bytes(),
+            "after call {number}"
+        );
+        expect_rows(&rt, keeper.held().journal.as_slice(), &[1, 1, 1]);
     }
     Ok(())
 }
@@ -372,7 +404,8 @@ fn a_sink_that_fails_has_a_first_part_of_the_text(rt: HostRuntime) -> Result<(),
         assert!(rt; Some(out.seen()) == AND_GATE_STATUS.as_bytes().get(..part));
         expect_rows(&rt, keeper.held().journal.as_slice(), &[1, 1, 1]);
         let again = run_on(alloc, &mut keeper, &mut out)?;
-        assert!(rt; shown(&again) == ("AlreadyBegun", ""));
+        assert!(rt; shown(&again) == ("Done", ""), "after {part} bytes");
+        expect_rows(&rt, keeper.held().journal.as_slice(), &[1, 1, 1]);
     }
     Ok(())
 }

@@ -1,23 +1,30 @@
 //! The work of the commands over a loaded book.
-ghost use Rattle.std.specs.Prelude.{◌≡◌, ◌≤◌, IsTrue, map};
+ghost use Rattle.std.specs.Prelude.{◌≡◌, ◌≢◌, ℕ, ◌≤◌, ◌++◌, [], IfOk, IfErr, IsTrue, OnOk, length, string_bytes};
 ghost use Rattle.mcy_base.specs.Causes.{Rose};
-ghost use Rattle.mcy_keeper.specs.Books.{blank, Keeps};
+ghost use Rattle.mcy_keeper.specs.Books.{blank, IsBlank, Keeps};
+ghost use Rattle.result_book.specs.Rows.{IsWellFormed};
+ghost use Rattle.result_book.specs.States.{IsStateOf};
+ghost use Rattle.source_report.specs.Texts.{number_line, status_text};
+ghost use Rattle.mcy_top.specs.Texts.{init_text};
 ghost use Rattle.mcy_top.specs.Campaigns.{IsPlan};
-ghost use Rattle.mcy_top.specs.Endings.{ended_outcome, failed_outcome, Delivers, Ends};
-ghost use Rattle.mcy_top.specs.Texts.{status_text};
-ghost use Rattle.mcy_top.specs.Scripts.{answers_in};
+ghost use Rattle.mcy_top.specs.BookRefusals.{told, RefusesBook};
+ghost use Rattle.mcy_top.specs.Endings.{ended_outcome, failed_outcome, run_outcome, Delivers, Ends};
+ghost use Rattle.mcy_top.specs.Running.{book_of};
 ghost use Rattle.mcy_top.specs.Life.{Work};
+ghost use Rattle.mcy_top.specs.declared.command.Command.{Command as Asked};
+ghost use Rattle.mcy_top.specs.declared.prepared.Prepared.{Prepared as Planned};
 
-use crate::campaign::Campaign;
 use crate::command::Command;
-use crate::outcome::Outcome;
-use crate::running::advance;
-use crate::state::State;
-use crate::status::status_text;
+use crate::outcome::{BookRefusal, Outcome};
+use crate::prepared::Prepared;
+use crate::running::run_tests;
 use mcy_base::Steps;
 use mcy_keeper::{Book, KeepError, Keeper};
 use mcy_outside::Sink;
-use std::alloc::Global;
+use result_book::book_laws::refused_books_are_ill_formed;
+use result_book::{BookError, State, check_book};
+use source_report::status_text;
+use std::alloc::{AllocError, Global};
 use std::sync::ledger::Ledger;
 
 /// How the writing of a text ended.
@@ -32,11 +39,12 @@ pub(crate) enum Ending {
 }
 
 impl Ending {
-    fn outcome(self) -> Outcome
-        ensures { result ≡ ended_outcome self }
+    /// How the call ends, from how it ends where the text is written.
+    fn outcome(self, written: Outcome) -> Outcome
+        ensures { result ≡ ended_outcome written self }
     {
         match self {
-            Ending::Written => Outcome::Done,
+            Ending::Written => written,
             Ending::Refused => Outcome::WriteFault,
             Ending::NoMemory => Outcome::Memory,
         }
@@ -66,59 +74,276 @@ fn deliver<O: Sink>(text: &[u8], out: &mut O) -> Ending
 }
 
 /// Makes the status text whole, and writes it.
-fn report<O: Sink>(alloc: Global, state: &State, out: &mut O) -> Ending
-    ensures wrote { Delivers (O.written out.old) (O.written out.new) (status_text (map answers_in state.now.words.items)) result }
+fn report<O: Sink>(alloc: Global, prepared: &Prepared, state: &State, out: &mut O) -> Ending
+    requires plan { IsPlan prepared.now }
+    requires state { IsStateOf prepared.now.campaign state.now.rows state.now }
+    ensures wrote { Delivers (O.written out.old) (O.written out.new) (status_text prepared.now.campaign state.now.rows) result }
     ensures later { O.faults out.old ≤ O.faults out.new }
     ensures cause { result ≡ Ending.Refused → Rose (O.faults out.old) (O.faults out.new) }
 {
-    match status_text(alloc, &state.words) {
-        Ok(text) => deliver(text.as_bytes(), out),
+    match status_text(alloc, &prepared.campaign, state) {
+        Ok(text) => deliver(text.as_slice(), out),
         Err(_) => Ending::NoMemory,
     }
 }
 
-/// Begins the campaign in an empty book, runs every test, and writes the status.
+/// Adds a line of a name and a number.
+fn add_number(text: &mut String, name: &str, number: usize) -> Result<(), AllocError>
+    ensures { OnOk result (string_bytes text.new ≡ string_bytes text.old ++ number_line name.now number) }
+{
+    writeln!(text, "{name}: {number}")
+}
+
+/// The text of `init`.
+fn begun_text(alloc: Global, prepared: &Prepared) -> Result<String, AllocError>
+    ensures { IfOk result (λ text. string_bytes text ≡ init_text prepared.now) }
+{
+    let mut text = String::new(alloc);
+    add_number(&mut text, "Sites", prepared.sites.as_slice().len())?;
+    let mutations = prepared.campaign.mutations.as_slice().len();
+    add_number(&mut text, "Mutations", mutations)?;
+    Ok(text)
+}
+
+/// Begins the campaign in an empty book, and writes how many mutations it has.
+fn init<K: Keeper, O: Sink>(
+    alloc: Global,
+    prepared: &Prepared,
+    keeper: &mut K,
+    out: &mut O,
+) -> Outcome
+    requires settled { IsTrue (K.is_settled keeper.old) }
+    requires plan { IsPlan prepared.now }
+    requires kept { K.tells keeper.old → Keeps (K.holds keeper.old) (K.leaves keeper.old) blank }
+    ensures tells { K.tells keeper.new → K.tells keeper.old }
+    ensures work { K.tells keeper.new → (n : ℕ) → Work (K.leaves keeper.new) (O.written out.old) (O.written out.new) n n Command.Init prepared.now blank result }
+    ensures ends { Ends (O.written out.old) (O.written out.new) (K.faults keeper.old) (K.faults keeper.new) (O.faults out.old) (O.faults out.new) result }
+{
+    match keeper.begin(&prepared.campaign.meta, &prepared.campaign.mutations) {
+        Ok(()) => {}
+        Err(error) => return failed(error),
+    }
+    match begun_text(alloc, prepared) {
+        Ok(text) => deliver(text.as_bytes(), out).outcome(Outcome::Done),
+        Err(_) => Outcome::Memory,
+    }
+}
+
+/// How a run ends whose text is written: with so many mutations left, or none.
+fn run_outcome(prepared: &Prepared, state: &State) -> Outcome
+    requires plan { IsPlan prepared.now }
+    requires state { IsStateOf prepared.now.campaign state.now.rows state.now }
+    ensures { result ≡ run_outcome prepared.now state.now.rows }
+{
+    let mutations = prepared.campaign.mutations.as_slice().len() as u32;
+    match mutations - state.finished() {
+        0 => Outcome::Done,
+        left => Outcome::Unfinished(left),
+    }
+}
+
+/// Runs tests from this state of the begun book, and writes the status.
 fn run<K: Keeper, O: Sink, L: Ledger>(
     alloc: Global,
-    campaign: &Campaign,
+    prepared: &Prepared,
+    stop_after: Option<u32>,
+    state: State,
     keeper: &mut K,
     out: &mut O,
     steps: &mut Steps<L>,
 ) -> Outcome
     requires settled { IsTrue (K.is_settled keeper.old) }
-    requires plan { IsPlan campaign.now }
-    requires kept { K.tells keeper.old → Keeps (K.holds keeper.old) (K.leaves keeper.old) blank }
+    requires plan { IsPlan prepared.now }
+    requires state { IsStateOf prepared.now.campaign state.rows state }
+    requires kept { K.tells keeper.old → Keeps (K.holds keeper.old) (K.leaves keeper.old) (book_of prepared.now state.rows) }
     ensures tells { K.tells keeper.new → K.tells keeper.old }
-    ensures work { K.tells keeper.new → Work (K.leaves keeper.new) (O.written out.old) (O.written out.new) steps.old steps.new Command.Run campaign.now blank result }
+    ensures work { K.tells keeper.new → Work (K.leaves keeper.new) (O.written out.old) (O.written out.new) steps.old steps.new (Command.Run stop_after) prepared.now (book_of prepared.now state.rows) result }
     ensures ends { Ends (O.written out.old) (O.written out.new) (K.faults keeper.old) (K.faults keeper.new) (O.faults out.old) (O.faults out.new) result }
 {
-    match advance(alloc, campaign, keeper, steps) {
-        Ok(state) => report(alloc, &state, out).outcome(),
+    let mut state = state;
+    match run_tests(alloc, prepared, stop_after, &mut state, keeper, steps) {
+        Ok(()) => report(alloc, prepared, &state, out).outcome(run_outcome(prepared, &state)),
         Err(error) => failed(error),
     }
 }
 
-/// Carries out a command over a loaded book.
-pub(crate) fn carry_out<K: Keeper, O: Sink, L: Ledger>(
+/// Begins the campaign in an empty book, runs tests, and writes the status.
+fn begin_and_run<K: Keeper, O: Sink, L: Ledger>(
+    alloc: Global,
+    prepared: &Prepared,
+    stop_after: Option<u32>,
+    keeper: &mut K,
+    out: &mut O,
+    steps: &mut Steps<L>,
+) -> Outcome
+    requires settled { IsTrue (K.is_settled keeper.old) }
+    requires plan { IsPlan prepared.now }
+    requires kept { K.tells keeper.old → Keeps (K.holds keeper.old) (K.leaves keeper.old) blank }
+    ensures tells { K.tells keeper.new → K.tells keeper.old }
+    ensures work { K.tells keeper.new → Work (K.leaves keeper.new) (O.written out.old) (O.written out.new) steps.old steps.new (Command.Run stop_after) prepared.now blank result }
+    ensures ends { Ends (O.written out.old) (O.written out.new) (K.faults keeper.old) (K.faults keeper.new) (O.faults out.old) (O.faults out.new) result }
+{
+    let Ok(state) = State::new(alloc, &prepared.campaign) else {
+        return Outcome::Memory;
+    };
+    match keeper.begin(&prepared.campaign.meta, &prepared.campaign.mutations) {
+        Ok(()) => run(alloc, prepared, stop_after, state, keeper, out, steps),
+        Err(error) => failed(error),
+    }
+}
+
+/// The work of a command over an empty book.
+fn start<K: Keeper, O: Sink, L: Ledger>(
     alloc: Global,
     command: Command,
-    campaign: &Campaign,
+    prepared: &Prepared,
+    keeper: &mut K,
+    out: &mut O,
+    steps: &mut Steps<L>,
+) -> Outcome
+    requires settled { IsTrue (K.is_settled keeper.old) }
+    requires plan { IsPlan prepared.now }
+    requires kept { K.tells keeper.old → Keeps (K.holds keeper.old) (K.leaves keeper.old) blank }
+    ensures tells { K.tells keeper.new → K.tells keeper.old }
+    ensures work { K.tells keeper.new → Work (K.leaves keeper.new) (O.written out.old) (O.written out.new) steps.old steps.new command prepared.now blank result }
+    ensures ends { Ends (O.written out.old) (O.written out.new) (K.faults keeper.old) (K.faults keeper.new) (O.faults out.old) (O.faults out.new) result }
+{
+    match command {
+        Command::Init => init(alloc, prepared, keeper, out),
+        Command::Run { stop_after } => {
+            begin_and_run(alloc, prepared, stop_after, keeper, out, steps)
+        }
+        Command::Status => Outcome::NoCampaign,
+    }
+}
+
+/// The state of a begun book, where it is the campaign's.
+fn read_state(alloc: Global, prepared: &Prepared, loaded: &Book) -> Result<State, BookRefusal>
+    requires plan { IsPlan prepared.now }
+    requires begun { loaded.now.meta ≢ [] }
+    ensures form { OnOk result (IsWellFormed prepared.now.campaign loaded.now) }
+    ensures state { IfOk result (IsStateOf prepared.now.campaign loaded.now.journal) }
+    ensures refused { IfErr result (λ refusal. (command : Asked) → command ≢ Command.Init → RefusesBook command prepared.now loaded.now refusal) }
+{
+    refused_books_are_ill_formed();
+    match check_book(alloc, &prepared.campaign, loaded) {
+        Ok(state) => Ok(state),
+        Err(BookError::Memory) => Err(BookRefusal::Memory),
+        Err(error) => Err(BookRefusal::BookBad(error)),
+    }
+}
+
+/// Goes on with a begun book: runs tests, and writes the status.
+fn resume<K: Keeper, O: Sink, L: Ledger>(
+    alloc: Global,
+    prepared: &Prepared,
+    stop_after: Option<u32>,
     loaded: &Book,
     keeper: &mut K,
     out: &mut O,
     steps: &mut Steps<L>,
 ) -> Outcome
     requires settled { IsTrue (K.is_settled keeper.old) }
-    requires plan { IsPlan campaign.now }
+    requires plan { IsPlan prepared.now }
+    requires begun { loaded.now.meta ≢ [] }
     requires kept { K.tells keeper.old → Keeps (K.holds keeper.old) (K.leaves keeper.old) loaded.now }
     ensures tells { K.tells keeper.new → K.tells keeper.old }
-    ensures work { K.tells keeper.new → Work (K.leaves keeper.new) (O.written out.old) (O.written out.new) steps.old steps.new command campaign.now loaded.now result }
+    ensures work { K.tells keeper.new → Work (K.leaves keeper.new) (O.written out.old) (O.written out.new) steps.old steps.new (Command.Run stop_after) prepared.now loaded.now result }
     ensures ends { Ends (O.written out.old) (O.written out.new) (K.faults keeper.old) (K.faults keeper.new) (O.faults out.old) (O.faults out.new) result }
 {
-    if !loaded.is_blank() {
-        return Outcome::AlreadyBegun;
+    match read_state(alloc, prepared, loaded) {
+        Ok(state) => run(alloc, prepared, stop_after, state, keeper, out, steps),
+        Err(refusal) => refusal.into_outcome(),
     }
+}
+
+/// Writes the status of a begun book.
+fn status<K: Keeper, O: Sink>(
+    alloc: Global,
+    prepared: &Prepared,
+    loaded: &Book,
+    keeper: &K,
+    out: &mut O,
+) -> Outcome
+    requires plan { IsPlan prepared.now }
+    requires begun { loaded.now.meta ≢ [] }
+    requires kept { K.tells keeper.now → Keeps (K.holds keeper.now) (K.leaves keeper.now) loaded.now }
+    ensures work { K.tells keeper.now → (n : ℕ) → Work (K.leaves keeper.now) (O.written out.old) (O.written out.new) n n Command.Status prepared.now loaded.now result }
+    ensures ends { Ends (O.written out.old) (O.written out.new) (K.faults keeper.now) (K.faults keeper.now) (O.faults out.old) (O.faults out.new) result }
+{
+    match read_state(alloc, prepared, loaded) {
+        Ok(state) => report(alloc, prepared, &state, out).outcome(Outcome::Done),
+        Err(refusal) => refusal.into_outcome(),
+    }
+}
+
+/// The work of a command over a begun book.
+fn go_on<K: Keeper, O: Sink, L: Ledger>(
+    alloc: Global,
+    command: Command,
+    prepared: &Prepared,
+    loaded: &Book,
+    keeper: &mut K,
+    out: &mut O,
+    steps: &mut Steps<L>,
+) -> Outcome
+    requires settled { IsTrue (K.is_settled keeper.old) }
+    requires plan { IsPlan prepared.now }
+    requires begun { loaded.now.meta ≢ [] }
+    requires kept { K.tells keeper.old → Keeps (K.holds keeper.old) (K.leaves keeper.old) loaded.now }
+    ensures tells { K.tells keeper.new → K.tells keeper.old }
+    ensures work { K.tells keeper.new → Work (K.leaves keeper.new) (O.written out.old) (O.written out.new) steps.old steps.new command prepared.now loaded.now result }
+    ensures ends { Ends (O.written out.old) (O.written out.new) (K.faults keeper.old) (K.faults keeper.new) (O.faults out.old) (O.faults out.new) result }
+{
     match command {
-        Command::Run => run(alloc, campaign, keeper, out, steps),
+        Command::Init => Outcome::AlreadyBegun,
+        Command::Run { stop_after } => {
+            resume(alloc, prepared, stop_after, loaded, keeper, out, steps)
+        }
+        Command::Status => status(alloc, prepared, loaded, keeper, out),
     }
+}
+
+/// A count as it is told, at most 4,294,967,295.
+fn told(count: usize) -> u32
+    ensures { result ≡ told count }
+{
+    u32::try_from(count).unwrap_or(u32::MAX)
+}
+
+/// What is wrong with a book that is not empty and has no meta.
+fn stray(loaded: &Book) -> BookError
+    requires meta { loaded.now.meta ≡ [] }
+    requires some { ¬ IsBlank loaded.now }
+    ensures { (command : Asked) (prepared : Planned) → RefusesBook command prepared loaded.now (BookRefusal.BookBad result) }
+{
+    let mutations = told(loaded.mutations.as_slice().len());
+    let rows = told(loaded.journal.as_slice().len());
+    BookError::Stray(mutations, rows)
+}
+
+/// Carries out a command over a loaded book.
+pub(crate) fn carry_out<K: Keeper, O: Sink, L: Ledger>(
+    alloc: Global,
+    command: Command,
+    prepared: &Prepared,
+    loaded: &Book,
+    keeper: &mut K,
+    out: &mut O,
+    steps: &mut Steps<L>,
+) -> Outcome
+    requires settled { IsTrue (K.is_settled keeper.old) }
+    requires plan { IsPlan prepared.now }
+    requires kept { K.tells keeper.old → Keeps (K.holds keeper.old) (K.leaves keeper.old) loaded.now }
+    ensures tells { K.tells keeper.new → K.tells keeper.old }
+    ensures work { K.tells keeper.new → Work (K.leaves keeper.new) (O.written out.old) (O.written out.new) steps.old steps.new command prepared.now loaded.now result }
+    ensures ends { Ends (O.written out.old) (O.written out.new) (K.faults keeper.old) (K.faults keeper.new) (O.faults out.old) (O.faults out.new) result }
+{
+    if loaded.is_blank() {
+        return start(alloc, command, prepared, keeper, out, steps);
+    }
+    if loaded.meta.as_slice().is_empty() {
+        return Outcome::BookBad(stray(loaded));
+    }
+    go_on(alloc, command, prepared, loaded, keeper, out, steps)
 }

@@ -1,37 +1,50 @@
-use Rattle.std.proofs.Common.{length, ap, arith}
-use Rattle.mcy_top.proofs.Plans.{plan_few}
-use Rattle.mcy_top.proofs.Nexting.{ended_added, ended_known, length_added, nothing_yet, ran_added, tracks_length}
+use Rattle.std.proofs.Common.{◌≡◌, ◌≢◌, ◌+◌, ◌<◌, ℕ, length, ap, sym, ◌∙◌, arith}
+use Rattle.result_book.specs.declared.script.Ask.TheVariants.{Need}
+use Rattle.mcy_top.proofs.Asking.{asked_at, asks_length, ended_added, ended_known}
+use Rattle.mcy_top.proofs.Growing.{length_added, ran_added}
+use Rattle.mcy_top.proofs.Plans.{plan_fit}
 use Rattle.mcy_top.proofs.running.run_tests.Goals as goal
-use Rattle.mcy_top.proofs.running.run_tests.Goals.{then-needs_test+in-Ok, else-needs_test}
+use Rattle.mcy_top.proofs.running.run_tests.Goals.{in-Need+in-Ok, in_default}
 
 pub overflow_cast-count : goal.overflow_cast-count
-overflow_cast-count g c = omega (arith, ap length c.as_slice.ensures, plan_few c.args.campaign.now c.requires.plan)
+overflow_cast-count g c = omega (arith, ap length c.as_slice.ensures, (plan_fit c.args.prepared.now c.requires.plan).few_mutations)
 
-pub needs_test-requires : goal.needs_test-requires
-needs_test-requires g c = omega (arith, ap length c.as_slice.ensures, tracks_length c.args.campaign.now c.tests.state.rows c.tests.state.words.items c.tests.invariant.tracks)
+pub ask_of-requires : goal.ask_of-requires
+ask_of-requires g c = omega (arith, ap length c.as_slice.ensures, asks_length c.args.prepared.now.campaign c.tests.state.rows c.tests.state.asks c.tests.invariant.state.asks)
+
+pub test_mutation-requires-clause-asked : goal.test_mutation-requires-clause-asked
+test_mutation-requires-clause-asked g c =
+    let below : c.tests.mutation < length c.args.prepared.now.campaign.mutations = omega (arith, ap length c.as_slice.ensures) in
+    asked_at c.args.prepared.now.campaign c.tests.state.rows c.tests.state.asks c.tests.mutation c.ask_of.result c.tests.invariant.state.asks below c.ask_of.ensures ∙ c.in-Need.is
 
 pub tests-preserved : goal.tests-preserved
-tests-preserved g c = elim c.if-needs_test.branch [
-  | then-needs_test+in-Ok w ↦ (let added = w.in-Ok.ensures.added in
-      let none = nothing_yet c.args.campaign.now c.tests.state.rows c.tests.state.words.items c.tests.mutation c.tests.invariant.tracks w.if-needs_test.ensures in
-      rw (w.state-is, w.keeper-is, w.steps-is) (record {
+tests-preserved g c = elim c.match-ask_of.branch [
+  | in-Need+in-Ok w ↦ (let added = w.in-Ok.ensures.added in
+      let more = length_added c.args.prepared.now c.tests.state.rows w.test_mutation.new.state.rows c.tests.mutation added in
+      rw (w.state-is, w.keeper-is, w.steps-is, w.gained-is) (record {
         tells = λ tells. c.tests.invariant.tells (w.in-Ok.ensures.tells tells);
         settled = w.in-Ok.ensures.settled;
-        ran = ran_added c.args.campaign.now c.args.state.now.rows c.tests.state.rows w.test_mutation.new.state.rows c.tests.mutation c.tests.invariant.ran added;
-        tracks = w.in-Ok.ensures.tracks;
+        ran = ran_added c.args.prepared.now c.args.state.now.rows c.tests.state.rows w.test_mutation.new.state.rows c.tests.mutation c.tests.invariant.ran added;
+        state = w.in-Ok.ensures.state;
         kept = λ tells. w.in-Ok.ensures.kept tells;
-        steps = omega (arith, w.in-Ok.ensures.step, c.tests.invariant.steps, length_added c.args.campaign.now c.tests.state.rows w.test_mutation.new.state.rows c.tests.mutation added);
-        finished = ended_added c.args.campaign.now c.tests.state.rows w.test_mutation.new.state.rows c.tests.mutation added none c.tests.invariant.finished;
+        steps = omega (arith, w.in-Ok.ensures.step, c.tests.invariant.steps, more);
+        gained = omega (arith, c.tests.invariant.gained, more);
+        few = omega (arith, c.tests.invariant.few);
+        finished = ended_added c.args.prepared.now c.tests.state.rows w.test_mutation.new.state.rows c.tests.mutation added c.tests.invariant.finished;
         later = omega (arith, w.in-Ok.ensures.later, c.tests.invariant.later);
       }))
-  | else-needs_test w ↦ rw (w.state-is, w.keeper-is, w.steps-is) (record {
-    tells = c.tests.invariant.tells;
-    settled = c.tests.invariant.settled;
-    ran = c.tests.invariant.ran;
-    tracks = c.tests.invariant.tracks;
-    kept = c.tests.invariant.kept;
-    steps = c.tests.invariant.steps;
-    finished = ended_known c.args.campaign.now c.tests.state.rows c.tests.state.words.items c.tests.mutation c.tests.invariant.tracks w.if-needs_test.ensures c.tests.invariant.finished;
-    later = c.tests.invariant.later;
-  })
+  | in_default w ↦ (let below : c.tests.mutation < length c.args.prepared.now.campaign.mutations = omega (arith, ap length c.as_slice.ensures) in
+      let is = asked_at c.args.prepared.now.campaign c.tests.state.rows c.tests.state.asks c.tests.mutation c.ask_of.result c.tests.invariant.state.asks below c.ask_of.ensures in
+      rw (w.state-is, w.keeper-is, w.steps-is, w.gained-is) (record {
+        tells = c.tests.invariant.tells;
+        settled = c.tests.invariant.settled;
+        ran = c.tests.invariant.ran;
+        state = c.tests.invariant.state;
+        kept = c.tests.invariant.kept;
+        steps = c.tests.invariant.steps;
+        gained = c.tests.invariant.gained;
+        few = omega (arith, c.tests.invariant.few);
+        finished = ended_known c.tests.state.rows c.tests.mutation (λ t needs. w.in_default.not-Need t (sym is ∙ needs)) c.tests.invariant.finished;
+        later = c.tests.invariant.later;
+      }))
 ]

@@ -1,18 +1,21 @@
 use Rattle.std.proofs.Common.{◌≡◌, ◌+◌, ◌<◌, ◌≤◌, ℕ, true, IsTrue, length}
 use Rattle.mcy_keeper.specs.Books.{Keeps}
-use Rattle.mcy_top.specs.Scripts.{ask, is_ended}
-use Rattle.mcy_top.specs.Rows.{answers_of}
-use Rattle.mcy_top.specs.Running.{book_of, Ran, Tracks}
+use Rattle.result_book.specs.Scripts.{is_ended}
+use Rattle.result_book.specs.Rows.{ask_on}
+use Rattle.result_book.specs.States.{IsStateOf}
+use Rattle.mcy_top.specs.Running.{book_of, Ran}
 use Rattle.mcy_top.proofs.running.run_tests.Given as goal
 
 abbrev pub invariant-tests : goal.invariant-tests
 invariant-tests g l = record {
   tells : g.K.Keeper.tells l.keeper → g.K.Keeper.tells l.initial.keeper;
   settled : IsTrue (g.K.Keeper.is_settled l.keeper);
-  ran : Ran l.campaign l.initial.state.rows l.state.rows;
-  tracks : Tracks l.campaign l.state.rows l.state.words.items;
-  kept : g.K.Keeper.tells l.keeper → Keeps (g.K.Keeper.holds l.keeper) (g.K.Keeper.leaves l.keeper) (book_of l.campaign l.state.rows);
+  ran : Ran l.prepared l.initial.state.rows l.state.rows;
+  state : IsStateOf l.prepared.campaign l.state.rows l.state;
+  kept : g.K.Keeper.tells l.keeper → Keeps (g.K.Keeper.holds l.keeper) (g.K.Keeper.leaves l.keeper) (book_of l.prepared l.state.rows);
   steps : l.steps + length l.initial.state.rows ≡ l.initial.steps + length l.state.rows;
-  finished : (m : ℕ) → m < l.mutation → is_ended (ask (answers_of m l.state.rows)) ≡ true;
+  gained : length l.state.rows ≡ length l.initial.state.rows + l.gained;
+  few : l.gained ≤ l.mutation;
+  finished : (m : ℕ) → m < l.mutation → is_ended (ask_on m l.state.rows) ≡ true;
   later : g.K.Keeper.faults l.initial.keeper ≤ g.K.Keeper.faults l.keeper;
 }

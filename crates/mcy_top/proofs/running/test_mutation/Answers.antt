@@ -1,41 +1,34 @@
-use Rattle.std.proofs.Common.{◌≡◌, length, sym, subst, ap, arith}
+use Rattle.std.proofs.Common.{◌≡◌, List, refl, ap, sym, subst, Result, OnErr}
 use Rattle.mcy_keeper.specs.declared.book.Book.{Book}
 use Rattle.mcy_keeper.specs.declared.book.Entry.{Entry}
+use Rattle.mcy_keeper.specs.declared.keeper.KeepError.{KeepError}
 use Rattle.mcy_keeper.specs.Books.{IsNext}
+use Rattle.result_book.specs.Rows.{IsRow}
+use Rattle.result_book.specs.States.{Progress}
 use Rattle.mcy_top.specs.Rows.{IsNextRow}
-use Rattle.mcy_top.specs.Running.{book_of}
-use Rattle.mcy_top.proofs.Growing.{next_of, append_left, on_ok}
-use Rattle.mcy_top.proofs.Nexting.{next_row_is, tracks_few, tracks_length, tracks_more}
-use Rattle.mcy_top.proofs.Plans.{plan_few}
+use Rattle.mcy_top.specs.Running.{book_of, LeavesNext}
+use Rattle.mcy_top.proofs.Growing.{append_left, next_of, next_row_of}
+use Rattle.mcy_top.proofs.Plans.{plan_fit}
 use Rattle.mcy_top.proofs.running.test_mutation.Goals as goal
 
-pub entry_for-entry-requires : goal.entry_for-entry-requires
-entry_for-entry-requires g c = omega (arith, tracks_few c.args.campaign.now c.args.state.now.rows c.args.state.now.words.items c.requires.tracks, plan_few c.args.campaign.now c.requires.plan)
-
-pub add-requires : goal.add-requires
-add-requires g c =
-    let long : length c.args.state.now.words.items ≡ length c.args.campaign.now.sites = tracks_length c.args.campaign.now c.args.state.now.rows c.args.state.now.words.items c.requires.tracks in
-    let place : c.entry_for-entry.result.mutation ≡ c.args.mutation = ap (λ (e : Entry). e.mutation) c.entry_for-entry.ensures in
-    omega (arith, c.requires.mutation)
+pub entry_for-entry-requires-clause-fit : goal.entry_for-entry-requires-clause-fit
+entry_for-entry-requires-clause-fit g c = plan_fit c.args.prepared.now c.requires.plan
 
 pub append-requires-clause-next : goal.append-requires-clause-next
 append-requires-clause-next g c was held =
     let tells = g.met.K.Keeper.told c.args.keeper.now was held in
     let kept = c.requires.kept tells in
-    let same = g.met.K.Keeper.one c.args.keeper.now was (book_of c.args.campaign.now c.args.state.now.rows) held kept.told in
-    let next : IsNextRow c.args.campaign.now (book_of c.args.campaign.now c.args.state.now.rows) c.entry_for-entry.result = rw c.entry_for-entry.ensures (next_row_is c.args.campaign.now c.args.state.now.rows c.args.state.now.words.items c.args.mutation c.in_ok-word.word c.requires.tracks c.requires.mutation c.requires.open c.in_ok-word.ensures) in
-    subst (λ (b : Book). IsNext b c.entry_for-entry.result) (sym same) (next_of c.args.campaign.now (book_of c.args.campaign.now c.args.state.now.rows) c.entry_for-entry.result c.requires.form next)
+    let book : Book = book_of c.args.prepared.now c.args.state.now.rows in
+    let same = g.met.K.Keeper.one c.args.keeper.now was book held kept.told in
+    let next : IsNextRow c.args.prepared.now book c.entry_for-entry.result = next_row_of c.args.prepared.now c.args.state.now.rows c.entry_for-entry.result c.args.mutation c.args.test c.code-word.result (subst (λ (rows : List Entry). IsRow c.args.prepared.now.campaign rows c.entry_for-entry.result) (ap (λ (s : Progress). s.rows) c.in_ok-reserve.ensures.ok) c.entry_for-entry.ensures.row) c.entry_for-entry.ensures.pair c.entry_for-entry.ensures.word (rw c.code-word.ensures c.in_ok-run_test.ensures) in
+    subst (λ (b : Book). IsNext b c.entry_for-entry.result) (sym same) (next_of c.args.prepared.now book c.entry_for-entry.result (record { meta = refl; mutations = refl; rows = c.requires.state.form }) next)
 
-pub returns-clause-added : goal.returns-clause-added
-returns-clause-added g c =
-    let next : IsNextRow c.args.campaign.now (book_of c.args.campaign.now c.args.state.now.rows) c.entry_for-entry.result = rw c.entry_for-entry.ensures (next_row_is c.args.campaign.now c.args.state.now.rows c.args.state.now.words.items c.args.mutation c.in_ok-word.word c.requires.tracks c.requires.mutation c.requires.open c.in_ok-word.ensures) in
-    on_ok c.append.result _ (record { row = c.entry_for-entry.result; next = next; mutation = ap (λ (e : Entry). e.mutation) c.entry_for-entry.ensures; is = c.in_ok-add.ensures.rows })
+pub returns-in-Err-clause-left : goal.returns-in-Err-clause-left
+returns-in-Err-clause-left g c tells =
+    let book : Book = book_of c.args.prepared.now c.args.state.now.rows in
+    let next : IsNextRow c.args.prepared.now book c.entry_for-entry.result = next_row_of c.args.prepared.now c.args.state.now.rows c.entry_for-entry.result c.args.mutation c.args.test c.code-word.result (subst (λ (rows : List Entry). IsRow c.args.prepared.now.campaign rows c.entry_for-entry.result) (ap (λ (s : Progress). s.rows) c.in_ok-reserve.ensures.ok) c.entry_for-entry.ensures.row) c.entry_for-entry.ensures.pair c.entry_for-entry.ensures.word (rw c.code-word.ensures c.in_ok-run_test.ensures) in
+    subst (λ (r : Result (Unit {0}) KeepError). OnErr r (LeavesNext (g.K.Keeper.leaves c.append.new.self) c.args.prepared.now book)) c.in-Err.is
+    (append_left (g.K.Keeper.holds c.args.keeper.now) (g.K.Keeper.leaves c.args.keeper.now) (g.K.Keeper.leaves c.append.new.self) c.append.result c.args.prepared.now book c.entry_for-entry.result next (c.requires.kept (c.append.ensures.tells tells)) (c.append.ensures.either tells) (c.append.ensures.refused tells))
 
-pub returns-clause-tracks : goal.returns-clause-tracks
-returns-clause-tracks g c =
-    on_ok c.append.result _ (rw (c.in_ok-add.ensures.rows, c.in_ok-add.ensures.words, c.entry_for-entry.ensures) (tracks_more c.args.campaign.now c.args.state.now.rows c.args.state.now.words.items c.args.mutation c.in_ok-word.word c.requires.tracks c.requires.open))
-
-pub returns-clause-left : goal.returns-clause-left
-returns-clause-left g c tells =
-    let next : IsNextRow c.args.campaign.now (book_of c.args.campaign.now c.args.state.now.rows) c.entry_for-entry.result = rw c.entry_for-entry.ensures (next_row_is c.args.campaign.now c.args.state.now.rows c.args.state.now.words.items c.args.mutation c.in_ok-word.word c.requires.tracks c.requires.mutation c.requires.open c.in_ok-word.ensures) in
-    append_left (g.K.Keeper.holds c.args.keeper.now) (g.K.Keeper.leaves c.args.keeper.now) (g.K.Keeper.leaves c.append.new.self) c.append.result c.args.campaign.now (book_of c.args.campaign.now c.args.state.now.rows) c.entry_for-entry.result next (c.requires.kept (c.append.ensures.tells tells)) (c.append.ensures.either tells) (c.append.ensures.refused tells)
+pub add-requires-clause-fit : goal.add-requires-clause-fit
+add-requires-clause-fit g c = plan_fit c.args.prepared.now c.requires.plan

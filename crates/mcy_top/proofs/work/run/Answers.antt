@@ -1,15 +1,19 @@
-use Rattle.std.proofs.Common.{List, subst}
-use Rattle.mcy_top.specs.Scripts.{Answer}
-use Rattle.mcy_top.specs.Running.{book_of}
-use Rattle.mcy_top.specs.Texts.{groups, status_text}
-use Rattle.mcy_top.specs.Endings.{Delivers}
-use Rattle.mcy_top.proofs.Working.{work_ran}
+use Rattle.std.proofs.Common.{◌≡◌, refl}
+use Rattle.source_report.specs.Texts.{status_text}
+use Rattle.mcy_top.specs.Endings.{run_outcome}
+use Rattle.mcy_top.proofs.Working.{ending_ends, run_carried, work_broke, work_ran}
 use Rattle.mcy_top.proofs.work.run.Goals as goal
 
 pub returns-in-Ok-clause-work : goal.returns-in-Ok-clause-work
 returns-in-Ok-clause-work g c tells =
-    let campaign = c.args.campaign.now in
-    let rows = c.in-Ok.state.rows in
-    let wrote : Delivers (g.O.Sink.written c.args.out.now) (g.O.Sink.written c.report.new.out) (status_text (groups campaign (book_of campaign rows))) c.report.result =
-    subst (λ (all : List (List Answer)). Delivers (g.O.Sink.written c.args.out.now) (g.O.Sink.written c.report.new.out) (status_text all) c.report.result) c.in-Ok.ensures.tracks.answers c.report.ensures.wrote in
-    rw c.outcome.ensures (work_ran (g.K.Keeper.holds c.advance.new.keeper) (g.K.Keeper.leaves c.advance.new.keeper) (g.O.Sink.written c.args.out.now) (g.O.Sink.written c.report.new.out) c.args.steps.now c.advance.new.steps campaign (book_of campaign rows) c.report.result c.requires.plan c.in-Ok.ensures.advanced c.in-Ok.ensures.finished (c.in-Ok.ensures.kept tells) c.in-Ok.ensures.steps wrote)
+    rw (c.outcome.ensures, c.run_outcome.ensures) (work_ran (g.K.Keeper.holds c.run_tests.new.keeper) (g.K.Keeper.leaves c.run_tests.new.keeper) (g.O.Sink.written c.args.out.now) (g.O.Sink.written c.report.new.out) c.args.steps.now c.run_tests.new.steps c.args.stop_after c.args.prepared.now c.args.state.rows c.run_tests.new.state.rows c.report.result
+    (record { plan = c.requires.plan; form = record { meta = refl; mutations = refl; rows = c.requires.state.form }; ran = c.in-Ok.ensures.ran; ends = c.in-Ok.ensures.ends }) (c.in-Ok.ensures.kept tells) c.in-Ok.ensures.steps c.report.ensures.wrote)
+
+pub returns-in-Ok-clause-ends : goal.returns-in-Ok-clause-ends
+returns-in-Ok-clause-ends g c =
+    rw (c.outcome.ensures, c.run_outcome.ensures) (ending_ends (g.O.Sink.written c.args.out.now) (g.O.Sink.written c.report.new.out) (g.K.Keeper.faults c.args.keeper.now) (g.K.Keeper.faults c.run_tests.new.keeper) (g.O.Sink.faults c.args.out.now) (g.O.Sink.faults c.report.new.out)
+    (status_text c.args.prepared.now.campaign c.run_tests.new.state.rows) (run_outcome c.args.prepared.now c.run_tests.new.state.rows) c.report.result (run_carried c.args.prepared.now c.run_tests.new.state.rows) c.report.ensures.wrote c.report.ensures.cause)
+
+pub returns-clause-work : goal.returns-clause-work
+returns-clause-work g c tells =
+    rw c.failed.ensures (work_broke (g.K.Keeper.leaves c.run_tests.new.keeper) (g.O.Sink.written c.args.out.now) (g.O.Sink.written c.args.out.now) c.args.steps.now c.run_tests.new.steps c.args.stop_after c.args.prepared.now c.args.state.rows c.in-Err.error c.requires.plan (record { meta = refl; mutations = refl; rows = c.requires.state.form }) (c.in-Err.ensures.broke tells) refl)

@@ -1,0 +1,36 @@
+-- Why a command refuses the book that was loaded.
+use Rattle.std.specs.Prelude.{◌≡◌, ◌≢◌, ℕ, [], length, ⊤, if◌then◌else◌, nat_le}
+use Rattle.mcy_keeper.specs.declared.book.Book.{Book}
+use Rattle.mcy_keeper.specs.Books.{IsBlank}
+use Rattle.result_book.specs.declared.check.BookError.{BookError}
+use Rattle.result_book.specs.declared.check.BookError.TheVariants.{Stray, Memory as NoMemory}
+use Rattle.result_book.specs.Rows.{IsWellFormed}
+use Rattle.result_book.specs.BookFaults.{IsRefused}
+use Rattle.mcy_top.specs.declared.command.Command.{Command}
+use Rattle.mcy_top.specs.declared.command.Command.TheVariants.{Init}
+use Rattle.mcy_top.specs.declared.prepared.Prepared.{Prepared}
+use Rattle.mcy_top.specs.declared.outcome.BookRefusal.{BookRefusal}
+use Rattle.mcy_top.specs.declared.outcome.BookRefusal.TheVariants.{NoCampaign, AlreadyBegun, BookBad, Memory}
+use Rattle.mcy_top.specs.Commands.{OnlyReads}
+
+-- a count as it is told, at most 4,294,967,295
+abbrev pub told : ℕ → ℕ
+told n = if nat_le n 4294967295 then n else 4294967295
+
+-- The book has no meta, but mutations or rows; or it is begun, and is not the campaign's.
+abbrev pub IsBookBad : Prepared → Book → BookError → Type 0
+IsBookBad c book (Stray mutations rows) = (book.meta ≡ []) × (¬ IsBlank book) × (mutations ≡ told (length book.mutations)) × (rows ≡ told (length book.journal))
+IsBookBad c book NoMemory = ⊥
+IsBookBad c book error = (book.meta ≢ []) × (¬ IsWellFormed c.campaign book) × IsRefused c.campaign book error
+
+-- whether the book is looked at row by row
+abbrev pub IsChecked : Command → BookError → Type 0
+IsChecked command (Stray mutations rows) = ⊤
+IsChecked command error = command ≢ Init
+
+-- why a command refuses the book
+abbrev pub RefusesBook : Command → Prepared → Book → BookRefusal → Type 0
+RefusesBook command c loaded NoCampaign = IsBlank loaded × OnlyReads command
+RefusesBook command c loaded AlreadyBegun = (loaded.meta ≢ []) × (command ≡ Init)
+RefusesBook command c loaded (BookBad error) = IsBookBad c loaded error × IsChecked command error
+RefusesBook command c loaded Memory = ⊤

@@ -1,0 +1,11 @@
+pub mod Words
+pub mod Grouping
+pub mod Asking
+pub mod Pairs
+pub mod Growing
+pub mod Counting
+pub mod StateLemmas
+pub mod Differing
+pub mod FaultLemmas
+pub mod Refusals
+pub mod Finishing

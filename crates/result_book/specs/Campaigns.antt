@@ -1,0 +1,38 @@
+-- Campaigns, and the words of their tests.
+use Rattle.std.specs.Prelude.{◌≡◌, ◌≢◌, ◌⊎◌, ℕ, ◌≤◌, [], length, slice_get, IsSomeAnd}
+use Rattle.std.specs.List.{All}
+use Rattle.result_book.specs.declared.campaign.Campaign.{Campaign}
+use Rattle.result_book.specs.declared.campaign.TheConstants.{EQ_KIND, SIM_KIND}
+use Rattle.result_book.specs.declared.script.TestWord.TheVariants.{Pass, Fail, Hang, Unknown}
+use Rattle.result_book.specs.Scripts.{word_code}
+
+-- a kind of test
+abbrev pub IsKind : ℕ → Type 0
+IsKind kind = (kind ≡ EQ_KIND) ⊎ (kind ≡ SIM_KIND)
+
+-- The campaign is within the limits, and each list has one element for each mutation or test that it goes by.
+pub record IsFit (c : Campaign) : Type 0 where
+  pub few_mutations : length c.mutations ≤ 10000
+  pub lines : length c.lines ≡ length c.mutations
+  pub some_test : 1 ≤ length c.kinds
+  pub few_tests : length c.kinds ≤ 16
+  pub names : length c.test_names ≡ length c.kinds
+  pub expects : length c.expect ≡ length c.kinds
+  pub few_tags : length c.tags ≤ 32
+  pub meta : c.meta ≢ []
+  pub kinds : All IsKind c.kinds
+
+-- the words of an equivalence test, and those of a simulation
+abbrev pub IsEqWord : ℕ → Type 0
+IsEqWord word = (word ≡ word_code Pass) ⊎ (word ≡ word_code Fail) ⊎ (word ≡ word_code Unknown)
+
+abbrev pub IsSimWord : ℕ → Type 0
+IsSimWord word = (word ≡ word_code Pass) ⊎ (word ≡ word_code Fail) ⊎ (word ≡ word_code Hang)
+
+-- the word is one of this kind of test
+abbrev pub IsWordOfKind : ℕ → ℕ → Type 0
+IsWordOfKind kind word = ((kind ≡ EQ_KIND) × IsEqWord word) ⊎ ((kind ≡ SIM_KIND) × IsSimWord word)
+
+-- there is such a test, and the word is one of its kind
+abbrev pub IsWordOf : Campaign → ℕ → ℕ → Type 0
+IsWordOf c test word = IsSomeAnd (slice_get c.kinds test) (λ kind. IsWordOfKind kind word)

@@ -1,0 +1,61 @@
+//! A campaign: what a project and its sources define before any test is run.
+//!
+//! `meta` and `mutations` are what the book keeps of it. `lines` has an element for each mutation;
+//! `test_names`, `kinds` and `expect` have one for each test. Each number that names a mutation, a test
+//! or a tag counts from 0 in the order of its list.
+ghost use Rattle.std.specs.Prelude.{◌≡◌, ◌<◌, ◌↔◌, IsTrue, length};
+ghost use Rattle.result_book.specs.Campaigns.{IsWordOf, IsWordOfKind};
+
+use crate::script::TestWord;
+use mcy_base::{BytesList, Items, TextList};
+
+/// The code of an equivalence test among kinds.
+pub const EQ_KIND: u32 = 0;
+
+/// The code of a simulation among kinds.
+pub const SIM_KIND: u32 = 1;
+
+/// Places in the sources: the file, counted from 0 in the order of reading, and the line, counted from 1.
+pub type PlaceList = Items<(u16, u32)>;
+
+/// Numbers.
+pub type NumberList = Items<u32>;
+
+/// A campaign.
+#[derive(Drop)]
+pub struct Campaign {
+    /// What the book keeps of the project and its sources.
+    pub meta: BytesList,
+    /// The place of each mutation, as text.
+    pub mutations: BytesList,
+    pub lines: PlaceList,
+    pub test_names: TextList,
+    /// The kind of each test, `EQ_KIND` or `SIM_KIND`.
+    pub kinds: NumberList,
+    /// The words that the project expects of each test, the word with code w in bit w.
+    pub expect: NumberList,
+    /// The names of the tags.
+    pub tags: TextList,
+}
+
+/// Whether the word with this code is one of this kind of test.
+fn is_word_of_kind(kind: u32, word: u32) -> bool
+    ensures { IsTrue result ↔ IsWordOfKind kind word }
+{
+    let is_verdict = word == TestWord::Pass.code() || word == TestWord::Fail.code();
+    match kind {
+        EQ_KIND => is_verdict || word == TestWord::Unknown.code(),
+        SIM_KIND => is_verdict || word == TestWord::Hang.code(),
+        _ => false,
+    }
+}
+
+impl Campaign {
+    /// Whether the word with this code is one of the test's kind.
+    pub(crate) fn has_word(&self, test: u32, word: u32) -> bool
+        requires { test < length self.now.kinds }
+        ensures { IsTrue result ↔ IsWordOf self.now test word }
+    {
+        is_word_of_kind(self.kinds.as_slice()[test as usize], word)
+    }
+}

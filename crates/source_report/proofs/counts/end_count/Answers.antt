@@ -1,0 +1,23 @@
+use Rattle.std.proofs.Common.{count_by, ap, refl, sym, ◌∙◌, arith}
+use Rattle.std.proofs.lemmas.List.{take_all}
+use Rattle.result_book.specs.Scripts.{ask}
+use Rattle.result_book.specs.Rows.{groups}
+use Rattle.source_report.specs.Texts.{is_end}
+use Rattle.source_report.proofs.Counted.{count-map, count_no, count_yes}
+use Rattle.source_report.proofs.counts.end_count.Goals as goal
+use Rattle.source_report.proofs.counts.end_count.Goals.{then-is_of, else-is_of}
+
+pub loop-mutation-preserved : goal.loop-mutation-preserved
+loop-mutation-preserved c =
+    let passes = is_end c.args.end in
+    let asks = c.args.state.now.asks in
+    elim c.if-is_of.branch [
+      | then-is_of w ↦ (omega (arith, count_yes passes asks c.loop-mutation.mutation c.ask_of.result c.ask_of.ensures (sym c.is_of.ensures ∙ w.if-is_of.true)), omega arith)
+      | else-is_of w ↦ (omega (arith, count_no passes asks c.loop-mutation.mutation c.ask_of.result c.ask_of.ensures (sym c.is_of.ensures ∙ w.if-is_of.false)), omega arith)
+    ]
+
+pub returns : goal.returns
+returns c =
+    c.loop-mutation.invariant.0
+    ∙ ap (count_by (is_end c.args.end)) (take_all c.loop-mutation.mutation c.args.state.now.asks (omega arith) ∙ c.requires.state.asks)
+    ∙ count-map (is_end c.args.end) (λ answers. is_end c.args.end (ask answers)) ask (λ answers. refl) (groups c.args.campaign.now c.args.state.now.rows)

@@ -1,0 +1,6 @@
+use Rattle.std.proofs.Common.{◌≡◌, ◌≤◌, take, count_by}
+use Rattle.source_report.specs.Texts.{is_end}
+use Rattle.source_report.proofs.counts.end_count.Given as goal
+
+abbrev pub invariant-loop-mutation : goal.invariant-loop-mutation
+invariant-loop-mutation l = (l.count ≡ count_by (is_end l.end) (take l.mutation l.state.asks)) × (l.count ≤ l.mutation)

@@ -1,0 +1,10 @@
+use Rattle.std.proofs.Common.{◌≡◌, ◌++◌, drop, string_bytes}
+use Rattle.result_book.specs.Rows.{groups}
+use Rattle.source_report.specs.Texts.{tag_lines}
+use Rattle.source_report.proofs.status.add_tags.Given as goal
+
+-- the lines so far and those to come are all lines
+abbrev pub invariant-loop-tag : goal.invariant-loop-tag
+invariant-loop-tag l =
+    string_bytes l.text ++ tag_lines (groups l.campaign l.state.rows) l.tag (drop l.tag l.campaign.tags)
+    ≡ string_bytes l.initial.text ++ tag_lines (groups l.campaign l.state.rows) 0 l.campaign.tags

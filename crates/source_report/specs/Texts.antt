@@ -1,0 +1,85 @@
+-- The text of the status, from the answers of each mutation in the order of the mutations. The order of rows of
+-- different mutations plays no part.
+use Rattle.std.specs.Prelude.{ℕ, ◌+◌, ◌^◌, Bool, true, false, ◌==◌, List, [], ◌∷◌, ◌++◌, length, count_by, Option, None, Some, codes, decimal, if◌then◌else◌}
+use Rattle.mcy_keeper.specs.declared.book.Entry.{Entry}
+use Rattle.result_book.specs.declared.campaign.Campaign.{Campaign}
+use Rattle.result_book.specs.declared.campaign.TheConstants.{EQ_KIND}
+use Rattle.result_book.specs.declared.script.TestWord.{TestWord}
+use Rattle.result_book.specs.declared.script.TestWord.TheVariants.{Pass, Fail, Hang, Unknown}
+use Rattle.result_book.specs.declared.script.Ask.{Ask}
+use Rattle.result_book.specs.declared.script.Ask.TheVariants.{AssertFailed, Unexpected}
+use Rattle.result_book.specs.Scripts.{Answer, ask, has_tag, is_ended, word_code, word_in}
+use Rattle.result_book.specs.Rows.{groups}
+use Rattle.source_report.specs.declared.counts.End.{End}
+use Rattle.source_report.specs.declared.counts.End.TheVariants.{Tag, Assert, Word}
+
+abbrev pub word_name : TestWord → List ℕ
+word_name Pass = codes "PASS"
+word_name Fail = codes "FAIL"
+word_name Hang = codes "HANG"
+word_name Unknown = codes "UNKNOWN"
+
+-- the word that a kind of test has beside PASS and FAIL
+abbrev pub third_word : ℕ → TestWord
+third_word kind = if kind == EQ_KIND then Unknown else Hang
+
+-- a test answered with this word
+abbrev pub is_word : TestWord → Option ℕ → Bool
+is_word word None = false
+is_word word (Some code) = code == word_code word
+
+-- on how many mutations a test answered with this word
+abbrev pub word_count : List (List Answer) → ℕ → TestWord → ℕ
+word_count groups test word = count_by (λ answers. is_word word (word_in answers test)) groups
+
+-- how many mutations' scripts need no more test
+abbrev pub finished_count : List (List Answer) → ℕ
+finished_count groups = count_by (λ answers. is_ended (ask answers)) groups
+
+-- a script ended in this way
+abbrev pub is_end : End → Ask → Bool
+is_end (Tag bit) ask = has_tag bit ask
+is_end Assert (AssertFailed line) = true
+is_end Word (Unexpected test) = true
+is_end end ask = false
+
+-- how many mutations' scripts ended in this way
+abbrev pub end_count : List (List Answer) → End → ℕ
+end_count groups end = count_by (λ answers. is_end end (ask answers)) groups
+
+-- a line of a name and a number
+abbrev pub number_line : List ℕ → ℕ → List ℕ
+number_line name n = name ++ (codes ": " ++ (decimal n ++ codes "\n"))
+
+-- the line of a test: each word that it may give, and on how many mutations it did
+abbrev pub test_line : List (List Answer) → ℕ → List ℕ → ℕ → List ℕ
+test_line groups test name kind =
+    let count : TestWord → List ℕ = λ word. decimal (word_count groups test word) in
+    codes "Test " ++ (name ++ (codes ": PASS " ++ (count Pass ++ (codes " FAIL " ++ (count Fail
+    ++ (codes " " ++ (word_name (third_word kind) ++ (codes " " ++ (count (third_word kind) ++ codes "\n")))))))))
+
+-- the lines of tests with these names and kinds, numbered from this one on
+abbrev pub test_lines : List (List Answer) → ℕ → List (List ℕ) → List ℕ → List ℕ
+test_lines groups test (name ∷ names) (kind ∷ kinds) = test_line groups test name kind ++ test_lines groups (test + 1) names kinds
+test_lines groups test names kinds = []
+
+abbrev pub tag_line : List ℕ → ℕ → List ℕ
+tag_line name n = number_line (codes "Tag " ++ name) n
+
+-- the lines of tags with these names, numbered from this one on
+abbrev pub tag_lines : List (List Answer) → ℕ → List (List ℕ) → List ℕ
+tag_lines groups tag [] = []
+tag_lines groups tag (name ∷ names) = tag_line name (end_count groups (Tag (2 ^ tag))) ++ tag_lines groups (tag + 1) names
+
+unfoldable pub lines : Campaign → List (List Answer) → List ℕ
+lines c groups =
+    number_line (codes "Mutations") (length groups)
+    ++ (number_line (codes "Finished") (finished_count groups)
+    ++ (test_lines groups 0 c.test_names c.kinds
+    ++ (tag_lines groups 0 c.tags
+    ++ (number_line (codes "Asserts") (end_count groups Assert)
+    ++ number_line (codes "Unexpected") (end_count groups Word)))))
+
+-- the text of the status of a campaign whose journal has these rows
+abbrev pub status_text : Campaign → List Entry → List ℕ
+status_text c rows = lines c (groups c rows)

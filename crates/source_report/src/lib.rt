@@ -1,0 +1,10 @@
+//! The text that tells how a campaign stands.
+#![tactic(auto)]
+
+mod counts;
+mod status;
+
+pub use status::status_text;
+
+#[cfg(test)]
+mod tests;

@@ -1,0 +1,130 @@
+//! The text of the status, line by line.
+ghost use Rattle.std.specs.Prelude.{◌≡◌, ◌<◌, ◌^◌, ◌++◌, IfOk, OnOk, string_bytes};
+ghost use Rattle.result_book.specs.Campaigns.{IsFit};
+ghost use Rattle.result_book.specs.Rows.{groups};
+ghost use Rattle.result_book.specs.States.{IsStateOf};
+ghost use Rattle.source_report.specs.Texts as texts;
+
+use crate::counts::{End, end_count, finished_count, mutation_count, word_count};
+use mcy_base::Bytes;
+use result_book::{Campaign, EQ_KIND, State, TestWord};
+use std::alloc::{AllocError, Global};
+
+/// The status of a campaign, as a text of lines: how many mutations there are and are finished, how often each test
+/// gave each word, how many mutations ended with each tag, at an assertion and at a word that is not expected.
+pub fn status_text(alloc: Global, campaign: &Campaign, state: &State) -> Result<Bytes, AllocError>
+    requires fit { IsFit campaign.now }
+    requires state { IsStateOf campaign.now state.now.rows state.now }
+    ensures { IfOk result (λ text. text ≡ texts.status_text campaign.now state.now.rows) }
+{
+    let asserts = end_count(campaign, state, End::Assert);
+    let unexpected = end_count(campaign, state, End::Word);
+    let mut text = String::new(alloc);
+    add_number(&mut text, "Mutations", mutation_count(campaign, state))?;
+    add_number(&mut text, "Finished", finished_count(campaign, state))?;
+    add_tests(&mut text, campaign, state)?;
+    add_tags(&mut text, campaign, state)?;
+    add_number(&mut text, "Asserts", asserts)?;
+    add_number(&mut text, "Unexpected", unexpected)?;
+    Ok(Bytes::from_vec(text.into_bytes()))
+}
+
+/// Adds a line of a name and a number.
+fn add_number(text: &mut String, name: &str, number: u32) -> Result<(), AllocError>
+    ensures { OnOk result (string_bytes text.new ≡ string_bytes text.old ++ texts.number_line name.now number) }
+{
+    writeln!(text, "{name}: {number}")
+}
+
+/// The name of a word.
+fn word_name(word: TestWord) -> &'static str
+    ensures { result.now ≡ texts.word_name word }
+{
+    match word {
+        TestWord::Pass => "PASS",
+        TestWord::Fail => "FAIL",
+        TestWord::Hang => "HANG",
+        TestWord::Unknown => "UNKNOWN",
+    }
+}
+
+/// The word that a kind of test has beside PASS and FAIL.
+fn third_word(kind: u32) -> TestWord
+    ensures { result ≡ texts.third_word kind }
+{
+    if kind == EQ_KIND {
+        TestWord::Unknown
+    } else {
+        TestWord::Hang
+    }
+}
+
+/// Adds the lines of the tests.
+fn add_tests(text: &mut String, campaign: &Campaign, state: &State) -> Result<(), AllocError>
+    requires fit { IsFit campaign.now }
+    requires state { IsStateOf campaign.now state.now.rows state.now }
+    ensures { OnOk result (string_bytes text.new ≡ string_bytes text.old
+        ++ texts.test_lines (groups campaign.now state.now.rows) 0 campaign.now.test_names campaign.now.kinds) }
+{
+    for (test, name) in campaign.test_names.as_slice().iter().enumerate() {
+        let kind = campaign.kinds.as_slice()[test];
+        add_test(text, campaign, state, test as u32, name.as_str(), kind)?;
+    }
+    Ok(())
+}
+
+/// Adds the line of a test.
+fn add_test(
+    text: &mut String,
+    campaign: &Campaign,
+    state: &State,
+    test: u32,
+    name: &str,
+    kind: u32,
+) -> Result<(), AllocError>
+    requires fit { IsFit campaign.now }
+    requires state { IsStateOf campaign.now state.now.rows state.now }
+    requires test { test < 16 }
+    ensures { OnOk result (string_bytes text.new ≡ string_bytes text.old
+        ++ texts.test_line (groups campaign.now state.now.rows) test name.now kind) }
+{
+    let third = third_word(kind);
+    let passed = word_count(campaign, state, test, TestWord::Pass);
+    let failed = word_count(campaign, state, test, TestWord::Fail);
+    let others = word_count(campaign, state, test, third);
+    let third = word_name(third);
+    writeln!(
+        text,
+        "Test {name}: PASS {passed} FAIL {failed} {third} {others}"
+    )
+}
+
+/// The bit of a tag.
+#[tactic(auto, using(std::proofs::lemmas::Nat::one_shl))]
+fn tag_bit(tag: usize) -> u32
+    requires { tag < 32 }
+    ensures { result ≡ 2 ^ tag }
+{
+    1 << tag
+}
+
+/// Adds the lines of the tags.
+fn add_tags(text: &mut String, campaign: &Campaign, state: &State) -> Result<(), AllocError>
+    requires fit { IsFit campaign.now }
+    requires state { IsStateOf campaign.now state.now.rows state.now }
+    ensures { OnOk result (string_bytes text.new ≡ string_bytes text.old
+        ++ texts.tag_lines (groups campaign.now state.now.rows) 0 campaign.now.tags) }
+{
+    for (tag, name) in campaign.tags.as_slice().iter().enumerate() {
+        let count = end_count(campaign, state, End::Tag(tag_bit(tag)));
+        add_tag(text, name.as_str(), count)?;
+    }
+    Ok(())
+}
+
+/// Adds the line of a tag.
+fn add_tag(text: &mut String, name: &str, count: u32) -> Result<(), AllocError>
+    ensures { OnOk result (string_bytes text.new ≡ string_bytes text.old ++ texts.tag_line name.now count) }
+{
+    writeln!(text, "Tag {name}: {count}")
+}
