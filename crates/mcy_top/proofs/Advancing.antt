@@ -1,14 +1,14 @@
 -- A book that was begun and run.
-use Rattle.std.proofs.Common.{◌≡◌, ◌⊎◌, inl, inr, arith, ℕ, ◌+◌, ◌≤◌, List, [], ◌∷◌, ◌++◌, length, refl, sym, ap, subst, ◌∙◌}
+use Rattle.std.proofs.Common.{inr, arith, [], ◌∷◌, refl, sym}
 use Rattle.mcy_keeper.specs.declared.book.Entry.{Entry}
 use Rattle.mcy_keeper.specs.declared.book.Book.{Book}
-use Rattle.mcy_keeper.specs.Books.{blank, IsBlank, LeavesEither, with_entry}
+use Rattle.mcy_keeper.specs.Books.{with_entry}
 use Rattle.mcy_top.specs.declared.prepared.Prepared.{Prepared}
 use Rattle.mcy_top.specs.Campaigns.{IsPlan}
 use Rattle.result_book.specs.Rows.{IsWellFormed}
-use Rattle.mcy_top.specs.Rows.{AreTrue, GoesOn, IsBlankOrGood, IsGood, IsNextRow, IsPrefix, IsWithinOne}
-use Rattle.mcy_top.specs.Changes.{Course, IsNear, opened}
-use Rattle.mcy_top.proofs.Growing.{append-nil, form_more, length_more, true_more}
+use Rattle.mcy_top.specs.Rows.{AreTrue, IsGood, IsWithinOne}
+use Rattle.mcy_top.specs.Changes.{opened}
+use Rattle.mcy_top.proofs.Growing.{append-nil, length_more}
 
 pub good_of : (c : Prepared) (book : Book) → IsPlan c → IsWellFormed c.campaign book → AreTrue c book.journal → IsGood book
 good_of c book plan form all = record { prepared = c; plan = plan; form = form; words_true = all }

@@ -1,5 +1,5 @@
 -- The rows of a good book that is finished are what the campaign defines.
-use Rattle.std.proofs.Common.{◌≡◌, ◌≢◌, ◌⊎◌, inl, inr, arith, ℕ, zero, suc, ◌+◌, ◌<◌, Bool, true, false, ◌==◌, List, [], ◌∷◌, ◌++◌, length, slice_get, Option, None, Some, refl, sym, ap, subst, ◌∙◌, append_assoc, if◌then◌else◌}
+use Rattle.std.proofs.Common.{◌≡◌, ◌≢◌, inl, inr, arith, ℕ, zero, suc, ◌+◌, ◌<◌, true, List, [], ◌∷◌, ◌++◌, length, slice_get, Option, None, Some, refl, sym, subst, append_assoc}
 use Rattle.std.proofs.lemmas.Bool.Decides.{eqb_tells}
 use Rattle.mcy_keeper.specs.declared.book.Entry.{Entry}
 use Rattle.mcy_keeper.specs.declared.book.Book.{Book}
@@ -8,7 +8,7 @@ use Rattle.mcy_top.specs.declared.site.Site.{Site}
 use Rattle.mcy_top.specs.declared.prepared.Prepared.{Prepared}
 use Rattle.result_book.specs.declared.script.Ask.TheVariants.{Need}
 use Rattle.result_book.specs.Scripts.{Answer, ask, is_ended}
-use Rattle.result_book.specs.Rows.{answer_of, answers_of, AreRows, IsFinished, IsWellFormed}
+use Rattle.result_book.specs.Rows.{answers_of, AreRows, IsFinished, IsWellFormed}
 use Rattle.mcy_top.specs.Rows.{AreTrue, IsTrueWord, IsTrueWordAt}
 use Rattle.result_book.specs.Rows.{groups, groups_from}
 use Rattle.source_report.specs.Texts.{status_text}

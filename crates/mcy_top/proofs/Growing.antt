@@ -1,6 +1,5 @@
 -- Rows, one more at the end.
-use Rattle.std.proofs.Common.{◌≡◌, ◌≢◌, ◌⊎◌, inl, inr, arith, ℕ, ◌+◌, ◌<◌, ◌≤◌, List, [], ◌∷◌, ◌++◌, length, refl, sym, ap, subst, ◌∙◌, append_assoc, length-append, Result, Ok, Err, OnOk, OnErr, IsErrOf}
-use Rattle.std.proofs.lemmas.Grind.{common_steps}
+use Rattle.std.proofs.Common.{◌≡◌, ◌⊎◌, inl, inr, ℕ, ◌+◌, List, [], ◌∷◌, ◌++◌, length, refl, sym, ap, subst, ◌∙◌, append_assoc, length-append, Result, Ok, Err, OnOk, OnErr, IsErrOf}
 use Rattle.mcy_keeper.specs.declared.book.Entry.{Entry}
 use Rattle.mcy_keeper.specs.declared.book.Book.{Book}
 use Rattle.mcy_keeper.specs.declared.keeper.KeepError.{KeepError}
@@ -10,7 +9,7 @@ use Rattle.mcy_top.specs.declared.prepared.Prepared.{Prepared}
 use Rattle.result_book.specs.Rows.{AreRows, IsPair, IsRow, IsWellFormed}
 use Rattle.mcy_top.specs.Rows.{AreTrue, IsNextRow, IsTrueWord}
 use Rattle.mcy_top.specs.Changes.{Course, IsChange}
-use Rattle.mcy_top.specs.Running.{book_of, AddsRow, Broke, LeavesNext, Ran}
+use Rattle.mcy_top.specs.Running.{book_of, AddsRow, LeavesNext, Ran}
 
 pub append-nil : {X : Type 0} (xs : List X) → xs ++ [] ≡ xs
 append-nil [] = refl

@@ -31,3 +31,4 @@ pub mod OneFault
 pub mod Once
 pub mod Exacting
 pub mod Living
+pub mod Histories

@@ -64,11 +64,11 @@ near_prefix : (c : Prepared) (sure next : Book) → IsNear c sure next → IsPre
 near_prefix c sure next (inl same) = subst (λ (b : Book). IsPrefix sure b) (sym same) (prefix_itself sure)
 near_prefix c sure next (inr change) = change_prefix c sure next change
 
-near_good : (c : Prepared) (sure next : Book) → IsPlan c → IsNear c sure next → IsBlankOrGood sure → IsBlankOrGood next
+pub near_good : (c : Prepared) (sure next : Book) → IsPlan c → IsNear c sure next → IsBlankOrGood sure → IsBlankOrGood next
 near_good c sure next plan (inl same) was = subst IsBlankOrGood (sym same) was
 near_good c sure next plan (inr change) was = change_good c sure next plan change was
 
-course_good : (c : Prepared) (start : Book) (changes : List Book) (end : Book) → IsPlan c → Course c start changes end → IsBlankOrGood start → IsBlankOrGood end
+pub course_good : (c : Prepared) (start : Book) (changes : List Book) (end : Book) → IsPlan c → Course c start changes end → IsBlankOrGood start → IsBlankOrGood end
 course_good c start [] end plan course was = subst IsBlankOrGood (sym course) was
 course_good c start (next ∷ more) end plan course was = course_good c next more end plan course.1 (change_good c start next plan course.0 was)
 

@@ -1,5 +1,5 @@
 -- What a plan's netlist is: small enough for the equivalence test, with the campaign's sites.
-use Rattle.std.proofs.Common.{◌≡◌, ℕ, zero, suc, ◌<◌, ◌≤◌, ◌+◌, ◌*◌, List, [], ◌∷◌, length, map, get_or, slice_get, Option, None, Some, inl, inr, refl, sym, ◌∙◌, ap, subst, arith}
+use Rattle.std.proofs.Common.{◌≡◌, ℕ, zero, suc, ◌<◌, ◌≤◌, ◌*◌, List, [], ◌∷◌, length, map, get_or, slice_get, Option, None, Some, inl, inr, refl, sym, ◌∙◌, ap, subst, arith}
 use Rattle.std.proofs.lemmas.List.{get_or_default, length-map}
 use Rattle.std.proofs.lemmas.Option.{slice_get-get_or}
 use Rattle.mcy_top.specs.declared.thin.ThinModule.{ThinModule}
@@ -21,7 +21,7 @@ use Rattle.result_book.specs.declared.campaign.TheConstants.{EQ_KIND}
 use Rattle.result_book.specs.Campaigns.{IsEqWord, IsFit, IsKind, IsWordOf, IsWordOfKind}
 use Rattle.mcy_top.specs.SiteTexts.{site_text}
 use Rattle.mcy_top.specs.SiteLines.{site_line}
-use Rattle.mcy_top.specs.Campaigns.{campaign_of, meta_of, source_name, IsPlan, plan_of}
+use Rattle.mcy_top.specs.Campaigns.{campaign_of, meta_of, source_name, IsPlan}
 
 pub plan_small : (c : Prepared) → IsPlan c → input_bits c.netlist.raw ≤ 8
 plan_small c plan =

@@ -1,5 +1,5 @@
 -- The work of a command, put together.
-use Rattle.std.proofs.Common.{◌≡◌, ◌≢◌, ◌⊎◌, inl, inr, arith, ℕ, ◌+◌, ◌-◌, ◌<◌, ◌≤◌, ◌==◌, Bool, true, false, List, [], ◌∷◌, ◌++◌, length, refl, sym, ap, subst, ◌∙◌, Option, None, Some, Result, Ok, Err, OnErr, IsErrOf, if◌then◌else◌}
+use Rattle.std.proofs.Common.{◌≡◌, ◌≢◌, ◌⊎◌, inl, inr, arith, ℕ, ◌+◌, ◌-◌, ◌≤◌, true, List, [], ◌∷◌, length, refl, sym, ap, subst, ◌∙◌, Option, None, Some, Result, Ok, Err, OnErr, IsErrOf}
 use Rattle.std.proofs.lemmas.Bool.Decides.{eqb_tells}
 use Rattle.mcy_base.specs.Causes.{Rose}
 use Rattle.mcy_keeper.specs.declared.book.Entry.{Entry}
@@ -23,16 +23,16 @@ use Rattle.mcy_top.specs.declared.outcome.BookRefusal.{BookRefusal}
 use Rattle.mcy_top.specs.declared.outcome.BookRefusal.TheVariants.{NoCampaign as RefusedNone, AlreadyBegun as RefusedBegun, BookBad as RefusedBook, Memory as RefusedMemory}
 use Rattle.mcy_top.specs.declared.outcome.Outcome.{Outcome}
 use Rattle.mcy_top.specs.declared.outcome.Outcome.TheVariants.{Done, Unfinished, NoCampaign, AlreadyBegun, BookBad, KeeperFault, WriteFault, Memory}
-use Rattle.mcy_top.specs.Commands.{slots_of, OnlyReads, Runs}
+use Rattle.mcy_top.specs.Commands.{OnlyReads, Runs}
 use Rattle.mcy_top.specs.Campaigns.{IsPlan}
 use Rattle.mcy_top.specs.Rows.{AreTrue, IsBlankOrGood, IsGood, IsNextRow, IsPrefix, IsWithinOne}
 use Rattle.mcy_top.specs.Changes.{Course, IsNear, opened}
-use Rattle.mcy_top.specs.Running.{book_of, Broke, LeavesNext, Ran, Reached}
+use Rattle.mcy_top.specs.Running.{book_of, Broke, Ran, Reached}
 use Rattle.mcy_top.specs.Texts.{init_text, text_of}
 use Rattle.mcy_top.specs.Outcomes.{book_outcome}
 use Rattle.mcy_top.specs.BookRefusals.{IsBookBad, RefusesBook}
 use Rattle.mcy_top.specs.Endings.{ended_outcome, failed_outcome, run_outcome, Delivers, Ends}
-use Rattle.mcy_top.specs.Life.{finished_count, Answers, Carried, Grew, IsStopped, Takes, Work, Wrote}
+use Rattle.mcy_top.specs.Life.{finished_count, Answers, Carried, Grew, Takes, Work, Wrote}
 use Rattle.mcy_top.proofs.Advancing.{good_of, opened_form, within_itself, within_more}
 use Rattle.mcy_top.proofs.Counting.{all_counted, counted_all, counted_few}
 use Rattle.mcy_top.proofs.Finishing.{final_is}

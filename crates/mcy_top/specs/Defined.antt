@@ -1,9 +1,8 @@
 -- What a campaign defines: a function of the project and of the pairs that were given up. There is no order of tests,
 -- no slot and no stop in it.
-use Rattle.std.specs.Prelude.{◌≡◌, ℕ, ◌+◌, Bool, true, ◌==◌, ◌&&◌, ◌||◌, false, List, [], ◌∷◌, ◌++◌, length, slice_get, Some, if◌then◌else◌}
+use Rattle.std.specs.Prelude.{◌≡◌, ℕ, ◌+◌, Bool, true, ◌==◌, ◌&&◌, ◌||◌, false, List, [], ◌∷◌, ◌++◌, length, if◌then◌else◌}
 use Rattle.std.specs.Bool.{MatchBool}
 use Rattle.mcy_keeper.specs.declared.book.Entry.{Entry}
-use Rattle.mcy_keeper.specs.declared.book.Book.{Book}
 use Rattle.result_book.specs.declared.script.TestWord.TheVariants.{Unknown}
 use Rattle.result_book.specs.declared.script.Ask.TheVariants.{Need}
 use Rattle.mcy_top.specs.declared.prepared.Prepared.{Prepared}

@@ -27,6 +27,7 @@ pub mod Rows
 pub mod Texts
 pub mod Defined
 pub mod Outcomes
+pub mod FaultLines
 pub mod Reads
 pub mod Changes
 pub mod BookRefusals
@@ -38,3 +39,4 @@ pub mod Once
 pub mod Exact
 pub mod Lives
 pub mod Calls
+pub mod Histories

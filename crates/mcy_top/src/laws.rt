@@ -5,6 +5,7 @@ ghost use Rattle.mcy_top.specs.Once.{AnswersAreOne, CampaignsAreOne, FinalTextsA
 ghost use Rattle.mcy_top.specs.Exact.{BookRefusalsAreExact, FileRefusalsAreExact, FilesHaveOneCause, RefusedFilesMakeNone, UsageIsExact};
 ghost use Rattle.mcy_top.specs.Lives.{LivesAreSafe, PartsAreGood};
 ghost use Rattle.mcy_top.specs.Calls.{CallIsALife, EarlyCallLeavesNothingNew, SureBookHasAll};
+ghost use Rattle.mcy_top.specs.Histories.{CallsAreAHistory, CallsAreSafe, DoneRunsTellTrue};
 
 use mcy_keeper::Keeper;
 
@@ -53,4 +54,15 @@ pub fn sure_book_has_all<K: Keeper>(keeper: &K)
 pub fn call_is_a_life<K: Keeper>(before: &K, after: &K)
     ensures life { CallIsALife (K.holds before.now) (K.leaves before.now) (K.leaves after.now) }
     ensures early { EarlyCallLeavesNothingNew (K.leaves before.now) (K.leaves after.now) }
+{}
+
+/// Over every list of calls on one keeper that begins with the empty book, each of which ended by itself or was cut off
+/// at any moment, and whose next call starts from nothing but what the one before may have left: the calls that have
+/// loaded a book are lives, these are safe, and each `run` that ended with Done has written the text that its campaign
+/// defines. Of a call that ended the law takes what the clause `life` of `mcy_main` says where the keeper tells. A call
+/// that was cut off leaves the book after one of its changes, or that with the one change that was under way.
+pub fn calls_are_a_history<K: Keeper>(_keeper: &K)
+    ensures history { CallsAreAHistory K.holds K.leaves }
+    ensures safe { CallsAreSafe K.holds K.leaves }
+    ensures texts { DoneRunsTellTrue K.holds K.leaves }
 {}

@@ -5,6 +5,7 @@ mod bits;
 mod cell;
 mod command;
 mod equal;
+mod fault_lines;
 mod inverted;
 pub mod laws;
 mod lower;
@@ -19,6 +20,8 @@ mod reading;
 #[cfg(test)]
 mod restart_tests;
 mod running;
+#[cfg(test)]
+mod sequence_tests;
 mod settle;
 mod site;
 mod site_line;
@@ -33,6 +36,7 @@ mod view;
 mod work;
 
 pub use command::{Command, read_words};
+pub use fault_lines::fault_line;
 pub use main_call::mcy_main;
 pub use outcome::{Outcome, Part, SourceError, SourceFault, exit_status};
 pub use project::AND_GATE_PROJECT;

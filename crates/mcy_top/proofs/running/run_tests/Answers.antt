@@ -1,5 +1,4 @@
-use Rattle.std.proofs.Common.{◌≡◌, ◌≢◌, ◌+◌, ◌<◌, ℕ, length, ap, sym, ◌∙◌, arith}
-use Rattle.result_book.specs.declared.script.Ask.TheVariants.{Need}
+use Rattle.std.proofs.Common.{◌<◌, length, ap, sym, ◌∙◌, arith}
 use Rattle.mcy_top.proofs.Asking.{asked_at, asks_length, ended_added, ended_known}
 use Rattle.mcy_top.proofs.Growing.{length_added, ran_added}
 use Rattle.mcy_top.proofs.Plans.{plan_fit}

@@ -1,4 +1,4 @@
-use Rattle.std.proofs.Common.{◌≡◌, List, refl, ap, sym, subst, Result, OnErr}
+use Rattle.std.proofs.Common.{List, refl, ap, sym, subst, Result, OnErr}
 use Rattle.mcy_keeper.specs.declared.book.Book.{Book}
 use Rattle.mcy_keeper.specs.declared.book.Entry.{Entry}
 use Rattle.mcy_keeper.specs.declared.keeper.KeepError.{KeepError}

@@ -1,4 +1,4 @@
-use Rattle.std.proofs.Common.{◌≡◌, List, subst, inl, refl, Result, OnErr}
+use Rattle.std.proofs.Common.{List, subst, inl, refl, Result, OnErr}
 use Rattle.mcy_keeper.specs.declared.book.Entry.{Entry}
 use Rattle.mcy_keeper.specs.declared.keeper.KeepError.{KeepError}
 use Rattle.mcy_keeper.specs.Books.{blank, LeavesEither}

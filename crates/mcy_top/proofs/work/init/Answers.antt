@@ -1,4 +1,4 @@
-use Rattle.std.proofs.Common.{◌≡◌, ◌∙◌, ℕ, List, subst, refl, Result, OnErr}
+use Rattle.std.proofs.Common.{◌∙◌, ℕ, List, subst, refl, Result, OnErr}
 use Rattle.mcy_keeper.specs.declared.keeper.KeepError.{KeepError}
 use Rattle.mcy_keeper.specs.Books.{blank, LeavesEither}
 use Rattle.mcy_top.specs.Changes.{opened}

@@ -1,4 +1,4 @@
-use Rattle.std.proofs.Common.{◌≡◌, refl}
+use Rattle.std.proofs.Common.{refl}
 use Rattle.source_report.specs.Texts.{status_text}
 use Rattle.mcy_top.specs.Endings.{run_outcome}
 use Rattle.mcy_top.proofs.Working.{ending_ends, run_carried, work_broke, work_ran}

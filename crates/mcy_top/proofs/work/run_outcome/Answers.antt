@@ -1,4 +1,4 @@
-use Rattle.std.proofs.Common.{◌≡◌, ◌≤◌, ◌-◌, length, count_by, ap, sym, ◌∙◌, arith}
+use Rattle.std.proofs.Common.{length, ap, arith}
 use Rattle.mcy_top.proofs.Counting.{counted_few, finished_is}
 use Rattle.mcy_top.proofs.Plans.{plan_fit}
 use Rattle.mcy_top.proofs.Working.{outcome_done}

@@ -1,7 +1,7 @@
-use Rattle.std.proofs.Common.{◌≡◌, ◌≢◌, List, subst}
+use Rattle.std.proofs.Common.{List, subst}
 use Rattle.mcy_keeper.specs.declared.book.Entry.{Entry}
 use Rattle.source_report.specs.Texts.{status_text}
-use Rattle.mcy_top.specs.declared.command.Command.TheVariants.{Init, Status}
+use Rattle.mcy_top.specs.declared.command.Command.TheVariants.{Status}
 use Rattle.mcy_top.specs.Endings.{Delivers}
 use Rattle.mcy_top.proofs.Working.{status_not_init, work_refused, work_status}
 use Rattle.mcy_top.proofs.work.status.Goals as goal

@@ -1,0 +1,196 @@
+-- What an INSERT of one item adds.
+use Rattle.std.proofs.Common.{◌≡◌, ◌≢◌, arith, zero, suc, ◌+◌, ◌<◌, take, length, length-take, get_or, append_assoc, IsTrue, inl, ℕ, pos, List, [], ◌∷◌, ◌++◌, true, None, Ok, Err, Option, Result, OnOk, refl, sym, ap, subst, ◌∙◌, codes, IsPermutation}
+use Rattle.std.proofs.lemmas.List.Sorted.{IsPermutation-refl, IsPermutation-trans, IsPermutation-cons, IsPermutation-middle}
+use Rattle.sqlite.specs.declared.types.Value.TheVariants.{Null, Int, Blob}
+use Rattle.sqlite.specs.Order.{Row}
+use Rattle.sqlite.specs.Tree.{Trees, put_row}
+use Rattle.sqlite.specs.Table.{Table}
+use Rattle.sqlite_schema.specs.declared.schema.Index.{Index}
+use Rattle.sqlite.specs.Kind.TheVariants.{Blob as Bytes_kind}
+use Rattle.sqlite.specs.Cast.{cast, cast_row}
+use Rattle.sqlite.specs.Rowids.TheVariants.{Chosen}
+use Rattle.sqlite.specs.Edit.{edit_of, are_fresh, with_rowid, put_all}
+use Rattle.sqlite.specs.Source.TheVariants.{Values}
+use Rattle.sqlite.specs.Command.TheVariants.{Insert}
+use Rattle.sqlite.specs.Rows.{Written}
+use Rattle.sqlite.specs.Does.{Tally, Does}
+use Rattle.sqlite.specs.declared.run.Mode.{Mode}
+use Rattle.sqlite.specs.Effect.{Database}
+use Rattle.sqlite.specs.State.{State, Executes, ExecutesInside, HasCleanDisk, Survives, KeepsCommit, mode_of}
+use Rattle.sqlite.proofs.StateLemmas.{survives_then}
+use Rattle.std.proofs.lemmas.List.{take_more}
+use Rattle.sqlite.specs.Effect.{IsDatabase}
+use Rattle.sqlite.specs.Listing.{understood}
+use Rattle.sqlite.specs.declared.error.Error.{Error}
+use Rattle.sqlite.proofs.Callers.{one_step, runs_as, statement_of}
+use Rattle.keeper_sqlite.specs.Tables.{Constraints, book_schema, rowid_table, meta_columns, mutation_columns, IsBookSchema}
+use Rattle.keeper_sqlite.specs.Rows.{item_row, item_rows, shown_item}
+use Rattle.keeper_sqlite.specs.Writing.{Wrote, WritesInside, BeginsRows}
+use Rattle.keeper_sqlite.proofs.Texts.{item_terms, insert_meta_text, insert_meta_is, insert_meta_plain, insert_mutation_text, insert_mutation_is, insert_mutation_plain}
+use Rattle.keeper_sqlite.proofs.Inserts.{cast_null, cast_int, put_permutes, not_both, went, same_value}
+
+-- ---- an item more
+
+-- the table of this tree has one item more
+pub record AddsItem (tree : ℕ) (old new : Database) (number : ℕ) (body : List ℕ) : Type 0 where
+  pub schema : new.schema ≡ old.schema
+  pub own : IsPermutation (item_row number body ∷ old.trees tree) (new.trees tree)
+  pub others : (t : ℕ) → t ≢ tree → t < 3 → new.trees t ≡ old.trees t
+
+elsewhere : (f g : Trees) (tree x : ℕ) → x ≢ tree → x < 3 → (0 ≢ tree → f 0 ≡ g 0) → (1 ≢ tree → f 1 ≡ g 1) → (2 ≢ tree → f 2 ≡ g 2) → f x ≡ g x
+elsewhere f g tree zero other low p q r = p other
+elsewhere f g tree (suc zero) other low p q r = q other
+elsewhere f g tree (suc (suc zero)) other low p q r = r other
+elsewhere f g tree (suc (suc (suc x))) other low p q r = absurd (omega arith)
+
+same_blob : (b : List ℕ) → cast Bytes_kind (Blob b) ≡ Blob b
+same_blob b = refl
+
+module _ (meta mutations journal : Constraints) (indexes : List Index) where
+  abbrev meta_table : Table
+  meta_table = rowid_table (codes "meta") 0 meta_columns meta
+
+  cast_meta : (n : ℕ) (b : List ℕ) → cast_row meta_table (Int (pos n) ∷ Null ∷ Blob b ∷ []) ≡ item_row n b
+  cast_meta n b = λ i. cast_int (pos n) i ∷ cast_null i ∷ Blob b ∷ []
+
+  pub adds_meta : (limit : Option ℕ) (mode : Mode) (text : List ℕ) (old after : Database) (tally : Tally) (n : ℕ) (b : List ℕ) → old.schema ≡ book_schema meta mutations journal indexes
+      → Does limit mode (shown_item n b) old text None (Insert 0 (Values item_terms 3)) (Ok (tally, after)) → AddsItem 0 old after n b
+  adds_meta limit mode text old after tally n b has h =
+      let db = old.trees in
+      let done = went (subst (λ s. Does limit mode (shown_item n b) (record old { schema = s }) text None (Insert 0 (Values item_terms 3)) (Ok (tally, after))) has h) in
+      let now = ap (λ (p : Tally × Database). p.1) (same_value (went (went done.2).2).2) in
+      let given = went done.1 in
+      let written = went (went given.2).2 in
+      let counted = went written.2 in
+      let trees : done.0.trees ≡ written.0 = ap (λ (it : Written). it.trees) (same_value counted.2) ∙ same_value counted.1 in
+      let next : after.trees ≡ written.0 = ap (λ (d : Database). d.trees) now ∙ trees in
+      let applied = one_step (book_schema meta mutations journal indexes) _ db written.0 (edit_of db meta_table [] Chosen 0 given.0) refl written.1 in
+      let news : (edit_of db meta_table [] Chosen 0 given.0).news ≡ item_row n b ∷ [] =
+      ap (λ all. (edit_of db meta_table [] Chosen 0 all).news) given.1.1 ∙ ap (λ r. with_rowid Chosen (db 0) r ∷ []) (cast_meta n b) in
+      let fresh : are_fresh (db 0) (item_row n b ∷ []) ≡ true = subst (λ x. are_fresh (db 0) x ≡ true) news applied.fresh in
+      let rows : written.0 0 ≡ put_row (item_row n b) (db 0) = applied.rows ∙ ap (λ x. put_all (db 0) x) news in
+      record {
+        schema = ap (λ (d : Database). d.schema) now ∙ sym has;
+        own = subst (λ (l : List Row). IsPermutation (item_row n b ∷ db 0) l) (sym (ap (λ (x : Trees). x 0) next ∙ rows)) (put_permutes (item_row n b) (db 0) (not_both _ fresh));
+        others = λ x other low. ap (λ (y : Trees). y x) next ∙ elsewhere written.0 db _ x other low applied.tables.0 applied.tables.1.0 applied.tables.1.1.0;
+      }
+
+meta_row : (old new : State) (n : ℕ) (body : List ℕ) (count : ℕ) (b : IsBookSchema old.now.schema) → Executes insert_meta_text (shown_item n body) old new (Ok count) → AddsItem 0 old.now new.now n body × IsDatabase new.now
+meta_row old new n body count b h =
+    let w = runs_as insert_meta_text (shown_item n body) old new _ b.is _ (insert_meta_is b.meta b.mutations b.journal b.indexes) (insert_meta_plain b.meta b.mutations b.journal b.indexes) count h in (
+      adds_meta b.meta b.mutations b.journal b.indexes old.step_limit (mode_of old) (statement_of insert_meta_text (understood (book_schema b.meta b.mutations b.journal b.indexes) insert_meta_text)) old.now new.now w.tally n body b.is w.changed,
+      w.sound,
+    )
+
+pub wrote_meta : (old new : State) (n : ℕ) (body : List ℕ) (r : Result ℕ Error) → ExecutesInside 0 insert_meta_text (shown_item n body) old new r → IsBookSchema old.now.schema → OnOk r (Wrote 0 (item_row n body ∷ []) old new)
+wrote_meta old new n body (Err e) h b = tt
+wrote_meta old new n body (Ok count) h b =
+    let it = meta_row old new n body count b h.0 in
+    record { schema = it.0.schema; own = it.0.own; others = it.0.others; sound = λ _. it.1; committed = h.1.committed_is; mode = h.1.mode }
+
+module _ (meta mutations journal : Constraints) (indexes : List Index) where
+  abbrev mutation_table : Table
+  mutation_table = rowid_table (codes "mutations") 1 mutation_columns mutations
+
+  cast_mutation : (n : ℕ) (b : List ℕ) → cast_row mutation_table (Int (pos n) ∷ Null ∷ Blob b ∷ []) ≡ item_row n b
+  cast_mutation n b = λ i. cast_int (pos n) i ∷ cast_null i ∷ Blob b ∷ []
+
+  pub adds_mutation : (limit : Option ℕ) (mode : Mode) (text : List ℕ) (old after : Database) (tally : Tally) (n : ℕ) (b : List ℕ) → old.schema ≡ book_schema meta mutations journal indexes
+      → Does limit mode (shown_item n b) old text None (Insert 1 (Values item_terms 3)) (Ok (tally, after)) → AddsItem 1 old after n b
+  adds_mutation limit mode text old after tally n b has h =
+      let db = old.trees in
+      let done = went (subst (λ s. Does limit mode (shown_item n b) (record old { schema = s }) text None (Insert 1 (Values item_terms 3)) (Ok (tally, after))) has h) in
+      let now = ap (λ (p : Tally × Database). p.1) (same_value (went (went done.2).2).2) in
+      let given = went done.1 in
+      let written = went (went given.2).2 in
+      let counted = went written.2 in
+      let trees : done.0.trees ≡ written.0 = ap (λ (it : Written). it.trees) (same_value counted.2) ∙ same_value counted.1 in
+      let next : after.trees ≡ written.0 = ap (λ (d : Database). d.trees) now ∙ trees in
+      let applied = one_step (book_schema meta mutations journal indexes) _ db written.0 (edit_of db mutation_table [] Chosen 0 given.0) refl written.1 in
+      let news : (edit_of db mutation_table [] Chosen 0 given.0).news ≡ item_row n b ∷ [] =
+      ap (λ all. (edit_of db mutation_table [] Chosen 0 all).news) given.1.1 ∙ ap (λ r. with_rowid Chosen (db 1) r ∷ []) (cast_mutation n b) in
+      let fresh : are_fresh (db 1) (item_row n b ∷ []) ≡ true = subst (λ x. are_fresh (db 1) x ≡ true) news applied.fresh in
+      let rows : written.0 1 ≡ put_row (item_row n b) (db 1) = applied.rows ∙ ap (λ x. put_all (db 1) x) news in
+      record {
+        schema = ap (λ (d : Database). d.schema) now ∙ sym has;
+        own = subst (λ (l : List Row). IsPermutation (item_row n b ∷ db 1) l) (sym (ap (λ (x : Trees). x 1) next ∙ rows)) (put_permutes (item_row n b) (db 1) (not_both _ fresh));
+        others = λ x other low. ap (λ (y : Trees). y x) next ∙ elsewhere written.0 db _ x other low applied.tables.0 applied.tables.1.0 applied.tables.1.1.0;
+      }
+
+mutation_row : (old new : State) (n : ℕ) (body : List ℕ) (count : ℕ) (b : IsBookSchema old.now.schema) → Executes insert_mutation_text (shown_item n body) old new (Ok count) → AddsItem 1 old.now new.now n body × IsDatabase new.now
+mutation_row old new n body count b h =
+    let w = runs_as insert_mutation_text (shown_item n body) old new _ b.is _ (insert_mutation_is b.meta b.mutations b.journal b.indexes) (insert_mutation_plain b.meta b.mutations b.journal b.indexes) count h in (
+      adds_mutation b.meta b.mutations b.journal b.indexes old.step_limit (mode_of old) (statement_of insert_mutation_text (understood (book_schema b.meta b.mutations b.journal b.indexes) insert_mutation_text)) old.now new.now w.tally n body b.is w.changed,
+      w.sound,
+    )
+
+pub wrote_mutation : (old new : State) (n : ℕ) (body : List ℕ) (r : Result ℕ Error) → ExecutesInside 0 insert_mutation_text (shown_item n body) old new r → IsBookSchema old.now.schema → OnOk r (Wrote 1 (item_row n body ∷ []) old new)
+wrote_mutation old new n body (Err e) h b = tt
+wrote_mutation old new n body (Ok count) h b =
+    let it = mutation_row old new n body count b h.0 in
+    record { schema = it.0.schema; own = it.0.own; others = it.0.others; sound = λ _. it.1; committed = h.1.committed_is; mode = h.1.mode }
+
+-- ---- a run of statements
+
+pub survives_self : (s : State) → Survives s s (λ _. ⊥)
+survives_self s = record { clean = omega arith; shield = λ h. h; counts = omega arith; limit = refl; closes = λ _ h. inl h; crash = λ _ db left. inl left }
+
+pub survives_on : (a b c : State) → Survives a b (λ _. ⊥) → Survives b c (λ _. ⊥) → Survives a c (λ _. ⊥)
+survives_on a b c p q = survives_then a b c _ _ (λ _. ⊥) (λ _ db none. none) (λ _ db none. none) p q
+
+pub keeps_self : (s : State) → KeepsCommit s s
+keeps_self s = record { was_open = λ h. h; committed = λ _. refl }
+
+pub keeps_on : (a b c : State) → KeepsCommit a b → KeepsCommit b c → KeepsCommit a c
+keeps_on a b c p q = record { was_open = λ h. p.was_open (q.was_open h); committed = λ h. q.committed h ∙ p.committed (q.was_open h) }
+
+pub wrote_none : (tree : ℕ) (s : State) → IsTrue s.in_transaction → Wrote tree [] s s
+wrote_none tree s mode = record { schema = refl; own = IsPermutation-refl _; others = λ t other low. refl; sound = λ h. h; committed = refl; mode = mode }
+
+pub wrote_more : (tree : ℕ) (rows : List Row) (row : Row) (a b c : State) → Wrote tree rows a b → Wrote tree (row ∷ []) b c → Wrote tree (rows ++ row ∷ []) a c
+wrote_more tree rows row a b c p q = record {
+  schema = q.schema ∙ p.schema;
+  own = subst (λ l. IsPermutation l (c.now.trees tree)) (sym (append_assoc rows (row ∷ []) (a.now.trees tree)))
+      (IsPermutation-trans _ _ _ (IsPermutation-middle rows row (a.now.trees tree)) (IsPermutation-trans _ _ _ (IsPermutation-cons row _ _ p.own) q.own));
+  others = λ t other low. q.others t other low ∙ p.others t other low;
+  sound = λ h. q.sound (p.sound h);
+  committed = q.committed ∙ p.committed;
+  mode = q.mode;
+}
+
+pub rows_push : (n : ℕ) (bodies : List (List ℕ)) (body : List ℕ) → item_rows n (bodies ++ body ∷ []) ≡ item_rows n bodies ++ item_row (n + length bodies) body ∷ []
+rows_push n [] body = ap (λ k. item_row k body ∷ []) (omega arith)
+rows_push n (b ∷ bodies) body = ap (λ l. item_row n b ∷ l) (rows_push (n + 1) bodies body ∙ ap (λ k. item_rows (n + 1) bodies ++ item_row k body ∷ []) (omega arith))
+
+-- one statement more, for the next of the items
+pub wrote_next : (tree i : ℕ) (items : List (List ℕ)) (body : List ℕ) (a b c : State) → i < length items → body ≡ get_or items i body → Wrote tree (item_rows 0 (take i items)) a b → Wrote tree (item_row i body ∷ []) b c
+    → Wrote tree (item_rows 0 (take (i + 1) items)) a c
+wrote_next tree i items body a b c inside is p q =
+    let more : take (i + 1) items ≡ take i items ++ body ∷ [] = take_more items i body inside ∙ ap (λ x. take i items ++ x ∷ []) (sym is) in
+    let number : 0 + length (take i items) ≡ i = omega (arith, length-take i items) in
+    let rows : item_rows 0 (take (i + 1) items) ≡ item_rows 0 (take i items) ++ item_row i body ∷ [] =
+    ap (item_rows 0) more ∙ rows_push 0 (take i items) body ∙ ap (λ k. item_rows 0 (take i items) ++ item_row k body ∷ []) number in
+    subst (λ l. Wrote tree l a c) (sym rows) (wrote_more tree (item_rows 0 (take i items)) (item_row i body) a b c p q)
+
+-- both tables are written
+pub both_wrote : (start a b : State) (meta mutations : List (List ℕ)) → Wrote 0 (item_rows 0 meta) start a → Wrote 1 (item_rows 0 mutations) a b → BeginsRows start.now b.now meta mutations
+both_wrote start a b meta mutations p q =
+    let far : 0 ≢ 1 = omega arith in
+    let near : 1 ≢ 0 = omega arith in
+    let last : 2 ≢ 0 = omega arith in
+    let other : 2 ≢ 1 = omega arith in
+    record {
+      schema = q.schema ∙ p.schema;
+      meta_rows = subst (IsPermutation (item_rows 0 meta ++ start.now.trees 0)) (sym (q.others 0 far (omega arith))) p.own;
+      mutation_rows = subst (λ l. IsPermutation (item_rows 0 mutations ++ l) (b.now.trees 1)) (p.others 1 near (omega arith)) q.own;
+      journal_rows = q.others 2 other (omega arith) ∙ p.others 2 last (omega arith);
+      sound = λ h. q.sound (p.sound h);
+    }
+
+-- both lists are written, where both loops ended well
+pub lists_wrote : {T U E : Type 0} (x : T) (y : U) (start a b : State) (meta mutations : List (List ℕ)) → WritesInside 0 (item_rows 0 meta) start a {E = E} (Ok x) → WritesInside 1 (item_rows 0 mutations) a b {E = E} (Ok y)
+    → HasCleanDisk b → IsTrue start.in_transaction → IsBookSchema start.now.schema → BeginsRows start.now b.now meta mutations
+lists_wrote x y start a b meta mutations p q clean inside schema =
+    let early : HasCleanDisk a = omega (arith, q.crash.clean) in
+    let one = p.wrote early inside schema in
+    both_wrote start a b meta mutations one (q.wrote clean one.mode (subst IsBookSchema (sym one.schema) schema))

@@ -1,0 +1,135 @@
+-- What the statements that make the tables leave.
+use Rattle.std.proofs.Common.{◌≡◌, List, [], refl, sym, ap, subst, ◌∙◌, ℕ, None, false, Ok, Err, Result, OnOk, IsPermutation}
+use Rattle.std.proofs.lemmas.List.Sorted.{IsPermutation-refl}
+use Rattle.sqlite.specs.Table.{Table}
+use Rattle.sqlite.specs.Schema.{Schema}
+use Rattle.sqlite.specs.Tree.{Trees}
+use Rattle.sqlite.specs.Command.TheVariants.{CreateTable}
+use Rattle.sqlite_resolve.specs.declared.error.CompileError.{CompileError}
+use Rattle.sqlite.specs.declared.error.Error.{Error}
+use Rattle.sqlite.specs.Compile.{table_defined_by}
+use Rattle.sqlite.specs.Change.{created, next_tree, KeepsRows}
+use Rattle.sqlite.specs.Does.{Tally, lacks_sequence}
+use Rattle.sqlite.specs.Listing.{understood}
+use Rattle.sqlite.specs.Effect.{Database}
+use Rattle.sqlite.specs.State.{State, Writes, ExecutesInside}
+use Rattle.sqlite.proofs.Callers.{IsPlain, command_of, statement_of, runs_as}
+use Rattle.sqlite_tied.specs.Compute.{everything}
+use Rattle.keeper_sqlite.specs.declared.statements.TheConstants.{CREATE_META, CREATE_MUTATIONS, CREATE_JOURNAL}
+use Rattle.keeper_sqlite.specs.Tables.{constraints, no_schema, IsBookSchema}
+use Rattle.keeper_sqlite.specs.Rows.{HoldsBook}
+use Rattle.keeper_sqlite.specs.Creating.{no_table, defined, meta_table, mutations_table, journal_table, schema_of_meta, schema_of_items, schema_of_book, MakesTable}
+use Rattle.keeper_sqlite.specs.Making.{HasCreated}
+use Rattle.keeper_sqlite.proofs.Inserts.{went, same_value}
+use Rattle.mcy_keeper.specs.Books.{blank}
+
+defined_ok : (r : Result Table CompileError) (t : Table) → r ≡ Ok t → t ≡ defined r
+defined_ok r t e = sym (ap defined e)
+
+pub record Reads (schema : Schema) (text : List ℕ) : Type 0 where
+  pub command : command_of (understood schema text) ≡ CreateTable
+  pub statement : statement_of text (understood schema text) ≡ text
+  pub plain : IsPlain (understood schema text)
+
+reads_meta : Reads no_schema CREATE_META.now
+unfolding understood everything
+reads_meta = record { command = refl; statement = refl; plain = (refl, refl) }
+
+reads_mutations : Reads schema_of_meta CREATE_MUTATIONS.now
+unfolding understood everything schema_of_meta meta_table
+reads_mutations = record { command = refl; statement = refl; plain = (refl, refl) }
+
+reads_journal : Reads schema_of_items CREATE_JOURNAL.now
+unfolding understood everything schema_of_meta schema_of_items meta_table mutations_table
+reads_journal = record { command = refl; statement = refl; plain = (refl, refl) }
+
+book_is : IsBookSchema schema_of_book
+unfolding everything schema_of_meta schema_of_items schema_of_book meta_table mutations_table journal_table no_table
+book_is = record { meta = constraints meta_table; mutations = constraints mutations_table; journal = constraints journal_table; indexes = schema_of_book.indexes; is = refl }
+
+no_counters : (lacks_sequence schema_of_meta ≡ false) × (lacks_sequence schema_of_items ≡ false) × (lacks_sequence schema_of_book ≡ false)
+unfolding everything schema_of_meta schema_of_items schema_of_book meta_table mutations_table journal_table no_table
+no_counters = (refl, refl, refl)
+
+next_trees : (next_tree schema_of_meta ≡ 1) × (next_tree schema_of_items ≡ 2)
+unfolding everything schema_of_meta schema_of_items meta_table mutations_table no_table
+next_trees = (refl, refl)
+
+-- what one CREATE TABLE leaves
+creates : (old new : State) (schema : Schema) (text : List ℕ) (table : Table) (r : Result ℕ Error) → old.now.schema ≡ schema → Reads schema text → table ≡ defined (table_defined_by text) → lacks_sequence (created schema table) ≡ false
+    → ExecutesInside 0 text [] old new r → OnOk r (MakesTable schema table old new)
+creates old new schema text table (Err e) has reads is plain h = tt
+creates old new schema text table (Ok count) has reads is plain h =
+    let w = subst (λ t. Writes old new None CreateTable t [] count) reads.statement (runs_as text [] old new schema has CreateTable reads.command reads.plain count h.0) in
+    let all = went w.changed in
+    let first = went all.1 in
+    let it = first.1 in
+    let same : it.table ≡ table = defined_ok _ it.table it.defined ∙ sym is in
+    let after : first.0.schema ≡ created schema table = it.is ∙ ap (λ s. created s it.table) has ∙ ap (created schema) same in
+    let bare : lacks_sequence first.0.schema ≡ false = ap lacks_sequence after ∙ plain in
+    let now : new.now ≡ first.0 = ap (λ (p : Tally × Database). p.1) (same_value all.2) ∙ same_value (rw bare at first.2) in
+    record {
+      schema_is = ap (λ (d : Database). d.schema) now ∙ after;
+      empty = ap (λ (d : Database). d.trees (next_tree schema)) now ∙ subst (λ s. first.0.trees (next_tree s) ≡ []) has it.empty;
+      others = subst (λ (d : Database). KeepsRows schema.tables old.now.trees d.trees) (sym now) (subst (λ (s : Schema). KeepsRows s.tables old.now.trees first.0.trees) has it.others);
+      sound = w.sound;
+      was_open = h.1.was_open;
+      committed = h.1.committed_is;
+      mode = h.1.mode;
+    }
+
+pub creates_meta : (old new : State) (r : Result ℕ Error) → old.now.schema ≡ no_schema → ExecutesInside 0 CREATE_META.now [] old new r → OnOk r (MakesTable no_schema meta_table old new)
+unfolding meta_table schema_of_meta
+creates_meta old new r has h = creates old new no_schema CREATE_META.now meta_table r has reads_meta refl no_counters.0 h
+
+pub creates_mutations : (old new : State) (r : Result ℕ Error) → old.now.schema ≡ schema_of_meta → ExecutesInside 0 CREATE_MUTATIONS.now [] old new r → OnOk r (MakesTable schema_of_meta mutations_table old new)
+unfolding mutations_table schema_of_items
+creates_mutations old new r has h = creates old new schema_of_meta CREATE_MUTATIONS.now mutations_table r has reads_mutations refl no_counters.1 h
+
+pub creates_journal : (old new : State) (r : Result ℕ Error) → old.now.schema ≡ schema_of_items → ExecutesInside 0 CREATE_JOURNAL.now [] old new r → OnOk r (MakesTable schema_of_items journal_table old new)
+unfolding journal_table schema_of_book
+creates_journal old new r has h = creates old new schema_of_items CREATE_JOURNAL.now journal_table r has reads_journal refl no_counters.2 h
+
+-- each schema is the one before with its table
+pub after_meta : created no_schema meta_table ≡ schema_of_meta
+unfolding schema_of_meta
+after_meta = refl
+
+pub after_items : created schema_of_meta mutations_table ≡ schema_of_items
+unfolding schema_of_items
+after_items = refl
+
+after_book : created schema_of_items journal_table ≡ schema_of_book
+unfolding schema_of_book
+after_book = refl
+
+first_kept : (old new : Trees) → KeepsRows schema_of_meta.tables old new → new 0 ≡ old 0
+unfolding everything schema_of_meta meta_table no_table
+first_kept old new kept = kept.0
+
+both_kept : (old new : Trees) → KeepsRows schema_of_items.tables old new → (new 0 ≡ old 0) × (new 1 ≡ old 1)
+unfolding everything schema_of_meta schema_of_items meta_table mutations_table no_table
+both_kept old new kept = (kept.0, kept.1.0)
+
+blank_rows : (trees : Trees) → trees 0 ≡ [] → trees 1 ≡ [] → trees 2 ≡ [] → HoldsBook trees blank
+blank_rows trees a b c = record {
+  meta = subst (IsPermutation []) (sym a) (IsPermutation-refl []);
+  mutations = subst (IsPermutation []) (sym b) (IsPermutation-refl []);
+  journal = record { rising = tt; same = subst (IsPermutation []) (sym c) (IsPermutation-refl []) };
+}
+
+-- what the three leave
+pub made : (s a b c : State) → MakesTable no_schema meta_table s a → MakesTable schema_of_meta mutations_table a b → MakesTable schema_of_items journal_table b c → HasCreated s c
+made s a b c x y z =
+    let kept = both_kept b.now.trees c.now.trees z.others in
+    let second : b.now.trees 1 ≡ [] = subst (λ t. b.now.trees t ≡ []) next_trees.0 y.empty in
+    let third : c.now.trees 2 ≡ [] = subst (λ t. c.now.trees t ≡ []) next_trees.1 z.empty in
+    record {
+      was_open = x.was_open;
+      shows = record {
+        sound = z.sound;
+        tables = subst IsBookSchema (sym (z.schema_is ∙ after_book)) book_is;
+        rows = blank_rows c.now.trees (kept.0 ∙ first_kept a.now.trees b.now.trees y.others ∙ x.empty) (kept.1 ∙ second) third;
+      };
+      committed = z.committed ∙ y.committed ∙ x.committed;
+    }

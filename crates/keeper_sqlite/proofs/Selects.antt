@@ -1,0 +1,205 @@
+-- What a SELECT of a whole table answers.
+use Rattle.std.proofs.Common.{codes, ◌≡◌, arith, ℕ, ◌+◌, List, [], ◌∷◌, map, flat_map, drop, Bool, true, false, not, ◌&&◌, Some, None, Ok, Err, Result, IfOk, OnOk, IsTrue, refl, sym, ap, subst, ◌∙◌, IsPermutation}
+use Rattle.std.specs.List.{AllByRecursion}
+use Rattle.std.proofs.lemmas.List.Sorted.{IsPermutation-map, IsPermutation-sym}
+use Rattle.std.proofs.lemmas.List.Concat.{flat_map_single}
+use Rattle.keeper_sqlite.proofs.Lists.{map-map}
+use Rattle.sqlite.specs.declared.types.Value.{Value}
+use Rattle.sqlite.specs.declared.types.Value.TheVariants.{Null, Int, Real, Text, Blob}
+use Rattle.sqlite.specs.Order.{Row, column}
+use Rattle.sqlite.specs.Query.{IsAnswer, Output, output}
+use Rattle.sqlite.specs.Program.{overlay}
+use Rattle.sqlite.specs.Tree.{Trees}
+use Rattle.sqlite.specs.Effect.{Database, IsDatabase}
+use Rattle.sqlite.specs.State.{State, Shown, ShowsRows, IsUnchanged, HasCleanDisk, Survives, CommitsShowing}
+use Rattle.sqlite.specs.Listing.{understood}
+use Rattle.sqlite.specs.Clock.{timed}
+use Rattle.sqlite.proofs.StateLemmas.{survives_weaker}
+use Rattle.sqlite.specs.Kind.TheVariants.{Integer, Blob as Bytes_kind}
+use Rattle.sqlite.specs.Ops.{is_null}
+use Rattle.sqlite_schema.specs.declared.schema.Table.{Table}
+use Rattle.sqlite_schema.specs.declared.schema.Constraint.TheVariants.{Datatype, NotNull}
+use Rattle.sqlite_schema.specs.Rules.{is_of, are_typed, are_present, has_computed, Keeps}
+use Rattle.sqlite.proofs.Callers.{reads_as, IsPlain, never_commits}
+use Rattle.mcy_keeper.specs.declared.book.Entry.{Entry}
+use Rattle.keeper_sqlite.specs.Tables.{IsBookSchema, book_schema, rowid_table, key_column, blob_column, meta_columns, mutation_columns, journal_columns}
+use Rattle.sqlite_schema.specs.declared.schema.Column.{Column}
+use Rattle.keeper_sqlite.specs.Rows.{item_row, item_rows, shown_items, entry_row, shown_entry}
+use Rattle.keeper_sqlite.specs.Reading.{AreEntriesOf, AreItemsOf}
+use Rattle.keeper_sqlite.proofs.Texts.{select_entries_text, entries_query, select_entries_is, select_entries_plain, select_entries_listing, items_query, select_meta_text, select_meta_is, select_meta_plain, select_meta_listing, select_mutations_text, select_mutations_is, select_mutations_plain, select_mutations_listing}
+
+-- a stored row of the journal as it is shown, and back
+abbrev pub show : Row → Row
+show r = column r 0 ∷ column r 2 ∷ column r 3 ∷ column r 4 ∷ column r 5 ∷ column r 6 ∷ []
+
+abbrev pub restore : Row → Row
+restore [] = []
+restore (v ∷ values) = v ∷ Null ∷ values
+
+restored : (entries : List Entry) → map restore (map shown_entry entries) ≡ map entry_row entries
+restored [] = refl
+restored (e ∷ entries) = ap (λ l. entry_row e ∷ l) (restored entries)
+
+answer_rows : (db : Trees) (rows : List Row) → IsAnswer entries_query (overlay db []) [] rows → IsPermutation (map show (db 2)) rows
+answer_rows db rows a =
+    let staged : a.staged ≡ map (λ r. [] ∷ r ∷ []) (db 2) = a.grouped ∙ flat_map_single (λ r. [] ∷ r ∷ []) (db 2) in
+    let kept : a.kept ≡ map (λ (r : Row). output entries_query ([] ∷ r ∷ [])) (db 2) =
+    a.distinct ∙ ap (map (output entries_query)) staged ∙ map-map (output entries_query) (λ r. [] ∷ r ∷ []) (db 2) in
+    let shown : map (λ (p : Output). p.1) a.kept ≡ map show (db 2) = ap (map (λ (p : Output). p.1)) kept ∙ map-map (λ (p : Output). p.1) (λ (r : Row). output entries_query ([] ∷ r ∷ [])) (db 2) in
+    let same : IsPermutation (map (λ (p : Output). p.1) a.kept) (map (λ (p : Output). p.1) a.ordered) = IsPermutation-map (λ (p : Output). p.1) _ _ a.same in
+    subst (λ l. IsPermutation l rows) shown (subst (IsPermutation (map (λ (p : Output). p.1) a.kept)) (sym a.shown) same)
+
+pub shown_rows : (old new : State) (rows : List Row) (b : IsBookSchema old.now.schema) → Shown select_entries_text [] old new rows → IsPermutation (map show (old.now.trees 2)) rows
+shown_rows old new rows b h =
+    let read = reads_as select_entries_text [] old new _ b.is _
+    (select_entries_is b.meta b.mutations b.journal b.indexes)
+    (select_entries_plain b.meta b.mutations b.journal b.indexes)
+    (select_entries_listing b.meta b.mutations b.journal b.indexes) rows h in
+    answer_rows old.now.trees rows (read.answer Null)
+
+second : (a b : Bool) → a && b ≡ true → b ≡ true
+second true b h = h
+second false b h = absurd (cc)
+
+first : (a b : Bool) → a && b ≡ true → a ≡ true
+first true b h = refl
+first false b h = absurd (cc)
+
+only_null : (v : Value) → is_null v ≡ true → v ≡ Null
+only_null Null h = refl
+only_null (Int n) h = absurd (cc)
+only_null (Real x) h = absurd (cc)
+only_null (Text t) h = absurd (cc)
+only_null (Blob b) h = absurd (cc)
+
+-- a row that obeys the rules of the journal has each of its columns, and none in the place of its key
+whole : (row : Row) → are_typed (Some 0) 0 journal_columns (drop 1 row) ≡ true → are_present (Some 0) 0 journal_columns row ≡ true → restore (show row) ≡ row
+whole [] t p = absurd (cc)
+whole (a ∷ []) t p = absurd (cc)
+whole (a ∷ b ∷ []) t p = absurd (cc)
+whole (a ∷ b ∷ c ∷ []) t p = absurd (let q : false ≡ true = second (not (is_null c)) false p in cc)
+whole (a ∷ b ∷ c ∷ d ∷ []) t p = absurd (let q : false ≡ true = second (not (is_null d)) false (second (not (is_null c)) _ p) in cc)
+whole (a ∷ b ∷ c ∷ d ∷ e ∷ []) t p = absurd (let q : false ≡ true = second (not (is_null e)) false (second (not (is_null d)) _ (second (not (is_null c)) _ p)) in cc)
+whole (a ∷ b ∷ c ∷ d ∷ e ∷ f ∷ []) t p = absurd (let q : false ≡ true = second (not (is_null f)) false (second (not (is_null e)) _ (second (not (is_null d)) _ (second (not (is_null c)) _ p))) in cc)
+whole (a ∷ b ∷ c ∷ d ∷ e ∷ f ∷ g ∷ []) t p = ap (λ (v : Value). a ∷ v ∷ c ∷ d ∷ e ∷ f ∷ g ∷ []) (sym (only_null b (first (is_null b) _ t)))
+whole (a ∷ b ∷ c ∷ d ∷ e ∷ f ∷ g ∷ h ∷ more) t p = absurd (let q : false ≡ true = second (is_of Integer g) false (second (is_of Integer f) _ (second (is_of Integer e) _ (second (is_of Integer d) _ (second (is_of Integer c) _ (second (is_null b) _ t))))) in cc)
+
+all_whole : (t : Table) (rows : List Row) → AllByRecursion (λ row. are_typed (Some 0) 0 journal_columns (drop 1 row) && has_computed t row ≡ true) rows
+    → AllByRecursion (λ row. are_present (Some 0) 0 journal_columns row ≡ true) rows → map restore (map show rows) ≡ rows
+all_whole t [] typed present = refl
+all_whole t (row ∷ rows) typed present = λ i. whole row (first _ _ typed.0) present.0 i ∷ all_whole t rows typed.1 present.1 i
+
+restored_rows : (db : Database) (b : IsBookSchema db.schema) → IsDatabase db → map restore (map show (db.trees 2)) ≡ db.trees 2
+restored_rows db b sound =
+    let schema = book_schema b.meta b.mutations b.journal b.indexes in
+    let typed = subst (λ s. Keeps Datatype s db.trees) b.is (sound.obeys.rules Datatype) in
+    let present = subst (λ s. Keeps NotNull s db.trees) b.is (sound.obeys.rules NotNull) in
+    all_whole (rowid_table (codes "journal") 2 journal_columns b.journal) (db.trees 2) typed.1.1.0 present.1.1.0
+
+holds_entries : (old new : State) (rows : List Row) (b : IsBookSchema old.now.schema) → IsDatabase old.now → Shown select_entries_text [] old new rows → AreEntriesOf (old.now.trees 2) rows
+holds_entries old new rows b sound h entries read =
+    let same : IsPermutation (map restore (map show (old.now.trees 2))) (map restore (map shown_entry entries)) =
+    IsPermutation-map restore _ _ (subst (λ l. IsPermutation (map show (old.now.trees 2)) l) read (shown_rows old new rows b h)) in
+    let stored : IsPermutation (old.now.trees 2) (map entry_row entries) =
+    subst (λ l. IsPermutation (old.now.trees 2) l) (restored entries) (subst (λ l. IsPermutation l (map restore (map shown_entry entries))) (restored_rows old.now b sound) same) in
+    IsPermutation-sym _ _ stored
+
+-- a text that only reads changes nothing
+pub shows_unchanged : (text : List ℕ) (old new : State) (rows : List Row) → IsPlain (understood old.now.schema text) → Shown text [] old new rows → IsUnchanged old new
+unfolding Shown
+shows_unchanged text old new rows plain h =
+    let bare = subst IsPlain h.1.is plain in
+    let it : ShowsRows old new text h.0 (timed [] h.0.formats h.1.now) rows None = rw bare.0 at h.2 in
+    it.3
+
+pub ok_unchanged : {T E : Type 0} (items : T → List Row) (text : List ℕ) (old new : State) (r : Result T E) → IsPlain (understood old.now.schema text) → IfOk r (λ rows. Shown text [] old new (items rows)) → OnOk r (IsUnchanged old new)
+ok_unchanged items text old new (Ok rows) plain h = shows_unchanged text old new (items rows) plain h
+ok_unchanged items text old new (Err e) plain h = tt
+
+-- a text that only reads commits nothing
+pub commits_nothing : (text : List ℕ) (old new : State) → (HasCleanDisk old → IsPlain (understood old.now.schema text)) → Survives old new (CommitsShowing text [] old) → Survives old new (λ _. ⊥)
+commits_nothing text old new plain survives = survives_weaker old new _ _ (λ clean db. never_commits text [] old db (plain (omega (arith, survives.clean)))) survives
+
+pub entries_plain : (old : State) → IsBookSchema old.now.schema → IsPlain (understood old.now.schema select_entries_text)
+entries_plain old b = subst (λ s. IsPlain (understood s select_entries_text)) (sym b.is) (select_entries_plain b.meta b.mutations b.journal b.indexes)
+
+-- ---- a table of items
+
+abbrev show_item : Row → Row
+show_item r = column r 0 ∷ column r 2 ∷ []
+
+restored_items : (n : ℕ) (bodies : List (List ℕ)) → map restore (shown_items n bodies) ≡ item_rows n bodies
+restored_items n [] = refl
+restored_items n (b ∷ bodies) = ap (λ l. item_row n b ∷ l) (restored_items (n + 1) bodies)
+
+module _ (tree : ℕ) (db : Trees) (over : overlay db [] tree ≡ db tree) where
+  answer_items : (rows : List Row) → IsAnswer (items_query tree) (overlay db []) [] rows → IsPermutation (map show_item (db tree)) rows
+  answer_items rows a =
+      let staged : a.staged ≡ map (λ r. [] ∷ r ∷ []) (db tree) =
+      a.grouped ∙ ap (λ (l : List Row). flat_map (λ (r : Row). ([] ∷ r ∷ []) ∷ []) l) over ∙ flat_map_single (λ r. [] ∷ r ∷ []) (db tree) in
+      let kept : a.kept ≡ map (λ (r : Row). output (items_query tree) ([] ∷ r ∷ [])) (db tree) =
+      a.distinct ∙ ap (map (output (items_query tree))) staged ∙ map-map (output (items_query tree)) (λ r. [] ∷ r ∷ []) (db tree) in
+      let shown : map (λ (p : Output). p.1) a.kept ≡ map show_item (db tree) = ap (map (λ (p : Output). p.1)) kept ∙ map-map (λ (p : Output). p.1) (λ (r : Row). output (items_query tree) ([] ∷ r ∷ [])) (db tree) in
+      let same : IsPermutation (map (λ (p : Output). p.1) a.kept) (map (λ (p : Output). p.1) a.ordered) = IsPermutation-map (λ (p : Output). p.1) _ _ a.same in
+      subst (λ l. IsPermutation l rows) shown (subst (IsPermutation (map (λ (p : Output). p.1) a.kept)) (sym a.shown) same)
+
+abbrev item_columns : List ℕ → List ℕ → List Column
+item_columns key body = key_column key ∷ blob_column body ∷ []
+
+whole_item : (key body : List ℕ) (row : Row) → are_typed (Some 0) 0 (item_columns key body) (drop 1 row) ≡ true → are_present (Some 0) 0 (item_columns key body) row ≡ true → restore (show_item row) ≡ row
+whole_item key body [] t p = absurd (cc)
+whole_item key body (a ∷ []) t p = absurd (cc)
+whole_item key body (a ∷ b ∷ []) t p = absurd (cc)
+whole_item key body (a ∷ b ∷ c ∷ []) t p = ap (λ (v : Value). a ∷ v ∷ c ∷ []) (sym (only_null b (first (is_null b) _ t)))
+whole_item key body (a ∷ b ∷ c ∷ d ∷ more) t p = absurd (let q : false ≡ true = second (is_of Bytes_kind c) false (second (is_null b) _ t) in cc)
+
+all_whole_items : (key body : List ℕ) (t : Table) (rows : List Row) → AllByRecursion (λ row. are_typed (Some 0) 0 (item_columns key body) (drop 1 row) && has_computed t row ≡ true) rows
+    → AllByRecursion (λ row. are_present (Some 0) 0 (item_columns key body) row ≡ true) rows → map restore (map show_item rows) ≡ rows
+all_whole_items key body t [] typed present = refl
+all_whole_items key body t (row ∷ rows) typed present = λ i. whole_item key body row (first _ _ typed.0) present.0 i ∷ all_whole_items key body t rows typed.1 present.1 i
+
+stored_items : (table rows : List Row) (bodies : List (List ℕ)) → map restore (map show_item table) ≡ table → IsPermutation (map show_item table) rows → rows ≡ shown_items 0 bodies → IsPermutation (item_rows 0 bodies) table
+stored_items table rows bodies whole_rows shown read =
+    let same : IsPermutation (map restore (map show_item table)) (map restore (shown_items 0 bodies)) = IsPermutation-map restore _ _ (subst (IsPermutation (map show_item table)) read shown) in
+    IsPermutation-sym _ _ (subst (IsPermutation table) (restored_items 0 bodies) (subst (λ l. IsPermutation l (map restore (shown_items 0 bodies))) whole_rows same))
+
+holds_meta : (old new : State) (rows : List Row) (b : IsBookSchema old.now.schema) → IsDatabase old.now → Shown select_meta_text [] old new rows → AreItemsOf (old.now.trees 0) rows
+holds_meta old new rows b sound h bodies read =
+    let typed = subst (λ s. Keeps Datatype s old.now.trees) b.is (sound.obeys.rules Datatype) in
+    let present = subst (λ s. Keeps NotNull s old.now.trees) b.is (sound.obeys.rules NotNull) in
+    let full = all_whole_items (codes "item") (codes "body") (rowid_table (codes "meta") 0 meta_columns b.meta) (old.now.trees 0) typed.0 present.0 in
+    let answer = reads_as select_meta_text [] old new _ b.is _ (select_meta_is b.meta b.mutations b.journal b.indexes) (select_meta_plain b.meta b.mutations b.journal b.indexes)
+    (select_meta_listing b.meta b.mutations b.journal b.indexes) rows h in
+    stored_items (old.now.trees 0) rows bodies full (answer_items 0 old.now.trees refl rows (answer.answer Null)) read
+
+holds_mutations : (old new : State) (rows : List Row) (b : IsBookSchema old.now.schema) → IsDatabase old.now → Shown select_mutations_text [] old new rows → AreItemsOf (old.now.trees 1) rows
+holds_mutations old new rows b sound h bodies read =
+    let typed = subst (λ s. Keeps Datatype s old.now.trees) b.is (sound.obeys.rules Datatype) in
+    let present = subst (λ s. Keeps NotNull s old.now.trees) b.is (sound.obeys.rules NotNull) in
+    let full = all_whole_items (codes "number") (codes "place") (rowid_table (codes "mutations") 1 mutation_columns b.mutations) (old.now.trees 1) typed.1.0 present.1.0 in
+    let answer = reads_as select_mutations_text [] old new _ b.is _ (select_mutations_is b.meta b.mutations b.journal b.indexes) (select_mutations_plain b.meta b.mutations b.journal b.indexes)
+    (select_mutations_listing b.meta b.mutations b.journal b.indexes) rows h in
+    stored_items (old.now.trees 1) rows bodies full (answer_items 1 old.now.trees refl rows (answer.answer Null)) read
+
+pub meta_plain : (old : State) → IsBookSchema old.now.schema → IsPlain (understood old.now.schema select_meta_text)
+meta_plain old b = subst (λ s. IsPlain (understood s select_meta_text)) (sym b.is) (select_meta_plain b.meta b.mutations b.journal b.indexes)
+
+pub mutations_plain : (old : State) → IsBookSchema old.now.schema → IsPlain (understood old.now.schema select_mutations_text)
+mutations_plain old b = subst (λ s. IsPlain (understood s select_mutations_text)) (sym b.is) (select_mutations_plain b.meta b.mutations b.journal b.indexes)
+
+-- ---- the statements
+
+pub shows_entries : {T E : Type 0} (items : T → List Row) (old new : State) (r : Result T E) (b : IsBookSchema old.now.schema) → (IsTrue old.is_open → IsDatabase old.now) → IfOk r (λ rows. Shown select_entries_text [] old new (items rows))
+    → IfOk r (λ rows. AreEntriesOf (old.now.trees 2) (items rows))
+shows_entries items old new (Ok rows) b sound h = holds_entries old new (items rows) b (sound (shows_unchanged select_entries_text old new (items rows) (entries_plain old b) h).0.was_open) h
+shows_entries items old new (Err e) b sound h = tt
+
+pub shows_meta : {T E : Type 0} (items : T → List Row) (old new : State) (r : Result T E) (b : IsBookSchema old.now.schema) → (IsTrue old.is_open → IsDatabase old.now) → IfOk r (λ rows. Shown select_meta_text [] old new (items rows))
+    → IfOk r (λ rows. AreItemsOf (old.now.trees 0) (items rows))
+shows_meta items old new (Ok rows) b sound h = holds_meta old new (items rows) b (sound (shows_unchanged select_meta_text old new (items rows) (meta_plain old b) h).0.was_open) h
+shows_meta items old new (Err e) b sound h = tt
+
+pub shows_mutations : {T E : Type 0} (items : T → List Row) (old new : State) (r : Result T E) (b : IsBookSchema old.now.schema) → (IsTrue old.is_open → IsDatabase old.now) → IfOk r (λ rows. Shown select_mutations_text [] old new (items rows))
+    → IfOk r (λ rows. AreItemsOf (old.now.trees 1) (items rows))
+shows_mutations items old new (Ok rows) b sound h = holds_mutations old new (items rows) b (sound (shows_unchanged select_mutations_text old new (items rows) (mutations_plain old b) h).0.was_open) h
+shows_mutations items old new (Err e) b sound h = tt

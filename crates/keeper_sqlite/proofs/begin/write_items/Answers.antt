@@ -1,0 +1,35 @@
+use Rattle.std.proofs.Common.{rules, arith, ◌<◌, [], ◌∷◌, length, sym, subst, ◌∙◌}
+use Rattle.sqlite.specs.Held.{state}
+use Rattle.sqlite.specs.State.{HasCleanDisk}
+use Rattle.keeper_sqlite.specs.Tables.{IsBookSchema}
+use Rattle.keeper_sqlite.specs.Rows.{item_row, tree_of}
+use Rattle.keeper_sqlite.specs.Writing.{Wrote}
+use Rattle.keeper_sqlite.proofs.Begins.{survives_on, keeps_on, wrote_next}
+use Rattle.keeper_sqlite.proofs.begin.write_items.Goals as goal
+
+pub loop-item-preserved : goal.loop-item-preserved
+loop-item-preserved g c =
+    let start = state g.S.Store c.args.transaction.now.conn.now in
+    let mid = state g.S.Store c.loop-item.transaction.conn.now in
+    let next = state g.S.Store c.insert_item.new.transaction.conn.now in
+    let tree = tree_of c.args.table in
+    let inv = c.loop-item.invariant in
+    record {
+      count = search rules;
+      same = c.insert_item.ensures.same_reference ∙ inv.same;
+      crash = survives_on start mid next inv.crash c.insert_item.ensures.writes.crash;
+      kept = λ clean inside.
+          let early : HasCleanDisk mid = omega (arith, c.insert_item.ensures.writes.crash.clean) in
+          let so_far = inv.kept early inside in (
+            c.in_ok-insert_item.ensures.writes.mode clean so_far.0,
+            keeps_on start mid next so_far.1 (c.insert_item.ensures.writes.kept clean so_far.0),
+          );
+      wrote = λ clean inside schema.
+          let early : HasCleanDisk mid = omega (arith, c.insert_item.ensures.writes.crash.clean) in
+          let so_far = inv.wrote early inside schema in
+          let now = c.in_ok-insert_item.ensures.writes.wrote clean (inv.kept early inside).0 (subst IsBookSchema (sym so_far.schema) schema) in
+          let one : Wrote tree (item_row c.loop-item.item-index c.item-item.result ∷ []) mid next =
+          subst (λ n. Wrote tree (item_row n c.item-item.result ∷ []) mid next) inv.count (subst (λ b. Wrote tree (item_row c.loop-item.number b ∷ []) mid next) c.as_slice.ensures now) in
+          let inside_list : c.loop-item.item-index < length c.args.items.now = omega arith in
+          wrote_next tree c.loop-item.item-index c.args.items.now c.item-item.result start mid next inside_list c.item-item.is so_far one;
+    }

@@ -1,0 +1,7 @@
+use Rattle.sqlite.specs.Held.{state}
+use Rattle.keeper_sqlite.proofs.Creates.{creates_mutations}
+use Rattle.keeper_sqlite.proofs.create.create_mutations.Goals as goal
+
+pub returns-clause-made : goal.returns-clause-made
+returns-clause-made g c clean inside schema =
+    creates_mutations (state g.S.Store c.args.transaction.now.conn.now) (state g.S.Store c.execute.new.self.conn.now) c.execute.result schema (c.execute.ensures.runs clean inside)

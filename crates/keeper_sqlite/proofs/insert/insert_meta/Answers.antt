@@ -1,0 +1,20 @@
+use Rattle.std.proofs.Common.{rules}
+use Rattle.sqlite.specs.Held.{state}
+use Rattle.sqlite.specs.State.{ExecutesInside}
+use Rattle.keeper_sqlite.specs.Rows.{shown_item}
+use Rattle.keeper_sqlite.proofs.Texts.{insert_meta_text}
+use Rattle.keeper_sqlite.proofs.Begins.{wrote_meta}
+use Rattle.keeper_sqlite.proofs.insert.insert_meta.Goals as goal
+
+pub returns-clause-writes : goal.returns-clause-writes
+returns-clause-writes g c =
+    let old = state g.S.Store c.args.transaction.now.conn.now in
+    let new = state g.S.Store c.execute.new.self.conn.now in
+    record {
+      wrote = λ clean inside schema.
+          let ran : ExecutesInside 0 insert_meta_text (shown_item c.args.number c.args.body.now) old new c.execute.result = rw (c.params-to_sql.ensures, c.params-to_sql-2.ensures) at (c.execute.ensures.runs clean inside) in
+          wrote_meta old new c.args.number c.args.body.now c.execute.result ran schema;
+      kept = λ clean inside. search rules;
+      mode = λ clean inside. search rules;
+      crash = c.execute.ensures.survives;
+    }

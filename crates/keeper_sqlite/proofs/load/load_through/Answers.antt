@@ -1,0 +1,29 @@
+use Rattle.std.proofs.Common.{◌≡◌, Bool, Some, IfOk, sym, subst}
+use Rattle.mcy_keeper.specs.declared.book.Book.{Book}
+use Rattle.mcy_keeper.specs.Books.{LeavesNothingNew}
+use Rattle.keeper_sqlite.specs.Stands.{Holds, Leaves}
+use Rattle.keeper_sqlite.proofs.Loads.{answered, same_found, found_allowed, nothing_new, on_err}
+use Rattle.keeper_sqlite.proofs.load.load_through.Goals as goal
+
+pub returns-in-Some-clause-answer : goal.returns-in-Some-clause-answer
+returns-in-Some-clause-answer g c clean =
+    let new = c.load_from.new.connection in
+    answered g.S.Store c.in-Some.connected new clean c.load_from.result (λ trees is_open left. g.met.S.Store.settled new.store trees is_open left) (λ is_open. g.met.S.Store.stays new.store is_open) (c.load_from.ensures.loaded clean)
+
+pub returns-in-Some-clause-same : goal.returns-in-Some-clause-same
+returns-in-Some-clause-same g c clean =
+    subst (λ o. IfOk c.load_from.result (λ found. (settled : Bool) (was : Book) → Holds g.S.Store o settled was → found ≡ was)) (sym c.in-Some.is)
+    (same_found g.S.Store c.in-Some.connected c.load_from.new.connection clean c.load_from.result (c.load_from.ensures.loaded clean))
+
+pub returns-in-Some-clause-allowed : goal.returns-in-Some-clause-allowed
+returns-in-Some-clause-allowed g c clean =
+    let old = c.in-Some.connected in
+    subst (λ o. IfOk c.load_from.result (Leaves g.S.Store o)) (sym c.in-Some.is)
+    (found_allowed g.S.Store old c.load_from.new.connection clean c.load_from.result (λ is_open. g.met.S.Store.stays old.store is_open) (c.load_from.ensures.loaded clean))
+
+pub returns-in-Some-clause-refused : goal.returns-in-Some-clause-refused
+returns-in-Some-clause-refused g c clean =
+    let old = c.in-Some.connected in
+    let new = c.load_from.new.connection in
+    on_err c.load_from.result (subst (λ o. LeavesNothingNew (Leaves g.S.Store o) (Leaves g.S.Store (Some new))) (sym c.in-Some.is)
+    (nothing_new g.S.Store old new clean (λ is_open. g.met.S.Store.stays old.store is_open) c.load_from.ensures.crash))

@@ -1,0 +1,10 @@
+pub mod Tables
+pub mod Rows
+pub mod Changes
+pub mod Reading
+pub mod Writing
+pub mod Stands
+pub mod Creating
+pub mod Making
+pub mod Unique
+pub mod Laws

@@ -1,0 +1,39 @@
+-- What making the tables and loading a book leave.
+use Rattle.std.specs.Prelude.{◌≡◌, ◌⊎◌, IsTrue}
+use Rattle.sqlite.specs.Tree.{Trees}
+use Rattle.sqlite.specs.Schema.{Schema}
+use Rattle.sqlite.specs.State.{State}
+use Rattle.mcy_keeper.specs.Books.{blank}
+use Rattle.keeper_sqlite.specs.Stands.{IsBookOf, StandsFor, IsTold}
+use Rattle.keeper_sqlite.specs.Tables.{IsBookSchema}
+use Rattle.mcy_keeper.specs.declared.book.Book.{Book}
+
+-- the transaction has the tables, and they are empty
+pub record HasCreated (old new : State) : Type 0 where
+  pub was_open : IsTrue old.is_open
+  pub shows : IsBookOf new.now.schema new.now.trees blank
+  pub committed : new.committed ≡ old.committed
+
+-- the tables are made and committed
+pub record HasMade (old new : State) : Type 0 where
+  pub was_open : IsTrue old.is_open
+  pub told : IsTold new blank
+
+-- the trees are those of the three tables with no row
+abbrev pub AreMade : Trees → Type 0
+AreMade trees = (schema : Schema) × IsBookOf schema trees blank
+
+-- The connection has the tables of a book: it had them, or it had no table and made them.
+pub record IsReady (old new : State) : Type 0 where
+  pub tables : IsBookSchema new.now.schema
+  pub from : (IsTrue new.is_open → IsTrue old.is_open × (new.now ≡ old.now) × (old.committed ≡ old.now)) ⊎ (IsTrue old.is_open × StandsFor old.committed.trees blank × IsTold new blank)
+
+-- what the making of the tables may commit
+abbrev pub MayMake : State → Trees → Type 0
+MayMake old trees = IsTrue old.is_open × StandsFor old.committed.trees blank × AreMade trees
+
+-- the connection tells this book, for which the last commit stood
+pub record IsLoaded (old new : State) (book : Book) : Type 0 where
+  pub was_open : IsTrue old.is_open
+  pub stood : StandsFor old.committed.trees book
+  pub told : IsTold new book

@@ -1,0 +1,46 @@
+-- What trees stand for, and what a connection tells.
+use Rattle.std.specs.Prelude.{◌≡◌, ◌⊎◌, Bool, false, IsTrue, Option, Some, None}
+use Rattle.sqlite.specs.Tree.{Trees}
+use Rattle.sqlite.specs.Schema.{Schema}
+use Rattle.sqlite.specs.Store.{Ghosts}
+use Rattle.sqlite.specs.Effect.{IsDatabase}
+use Rattle.sqlite.specs.State.{State, HasCleanDisk}
+use Rattle.sqlite.specs.Held.{Held, state}
+use Rattle.mcy_keeper.specs.declared.book.Book.{Book}
+use Rattle.mcy_keeper.specs.Books.{blank}
+use Rattle.keeper_sqlite.specs.Tables.{IsBookSchema, no_schema}
+use Rattle.keeper_sqlite.specs.Rows.{HoldsBook}
+
+-- a database with the tables of a book, whose rows are those of this book
+pub record IsBookOf (schema : Schema) (trees : Trees) (book : Book) : Type 0 where
+  pub sound : IsDatabase (record { schema = schema; trees = trees })
+  pub tables : IsBookSchema schema
+  pub rows : HoldsBook trees book
+
+-- The trees are a database of this book. A database with no table stands for the empty book.
+abbrev pub StandsFor : Trees → Book → Type 0
+StandsFor trees book = ((schema : Schema) × IsBookOf schema trees book) ⊎ (IsDatabase (record { schema = no_schema; trees = trees }) × (book ≡ blank))
+
+-- the connection shows this book, and has committed it
+pub record IsTold (s : State) (book : Book) : Type 0 where
+  pub is_open : IsTrue s.is_open
+  pub autocommit : s.in_transaction ≡ false
+  pub shows : IsBookOf s.now.schema s.now.trees book
+  pub committed : s.committed ≡ s.now
+
+-- Of a keeper over a connection that may be missing: whether it tells, which book, and what a crash may leave.
+module _ {S : Type 0} (g : Ghosts S) where
+  -- it has a connection, and the store is clean: nobody else has written, and what was written was returned
+  abbrev pub Tells : Option (Held S) → Type 0
+  Tells None = ⊥
+  Tells (Some c) = HasCleanDisk (state g c)
+
+  -- while it is settled, the book that the connection shows and has committed
+  abbrev pub Holds : Option (Held S) → Bool → Book → Type 0
+  Holds None settled book = ⊥
+  Holds (Some c) settled book = IsTrue settled × HasCleanDisk (state g c) × IsTold (state g c) book
+
+  -- the books of the trees that the store may leave
+  abbrev pub Leaves : Option (Held S) → Book → Type 0
+  Leaves None book = ⊥
+  Leaves (Some c) book = (trees : Trees) × (state g c).may_leave trees × StandsFor trees book

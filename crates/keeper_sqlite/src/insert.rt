@@ -1,0 +1,79 @@
+//! The statements that write one row each.
+//!
+//! A row of `meta` or `mutations` is written inside a transaction, a row of `journal` outside one, which
+//! makes the statement a transaction of its own. A row whose key is taken, and one that breaks another rule
+//! of its table, is refused.
+ghost use Rattle.std.specs.Prelude.{◌≡◌, [], ◌∷◌, OnOk, OnErr};
+ghost use Rattle.sqlite.specs.Held.{state};
+ghost use Rattle.sqlite.specs.State.{HasCleanDisk, Survives};
+ghost use Rattle.keeper_sqlite.specs.Tables.{IsBookSchema};
+ghost use Rattle.keeper_sqlite.specs.Rows.{item_row, tree_of};
+ghost use Rattle.keeper_sqlite.specs.Changes.{HasAdded, IsAdded, IsKeptIfOpen};
+ghost use Rattle.keeper_sqlite.specs.Writing.{WritesInside};
+
+use crate::read::ItemTable;
+use crate::statements::{INSERT_ENTRY, INSERT_META, INSERT_MUTATION};
+use mcy_keeper::Entry;
+use sqlite::{Alter, Connection, Error, Transaction, params};
+
+/// Writes an item of `meta`.
+fn insert_meta<S: Alter>(
+    transaction: &mut Transaction<'_, S>,
+    number: u32,
+    body: &[u8],
+) -> Result<usize, Error>
+    ensures same_reference { transaction.new.conn.ghost_name ≡ transaction.old.conn.ghost_name }
+    ensures writes { WritesInside 0 (item_row number body.now ∷ []) (state S.Store transaction.old.conn.now) (state S.Store transaction.new.conn.now) result }
+{
+    transaction.execute(INSERT_META, params![number, body])
+}
+
+/// Writes the place of a mutation.
+fn insert_mutation<S: Alter>(
+    transaction: &mut Transaction<'_, S>,
+    number: u32,
+    body: &[u8],
+) -> Result<usize, Error>
+    ensures same_reference { transaction.new.conn.ghost_name ≡ transaction.old.conn.ghost_name }
+    ensures writes { WritesInside 1 (item_row number body.now ∷ []) (state S.Store transaction.old.conn.now) (state S.Store transaction.new.conn.now) result }
+{
+    transaction.execute(INSERT_MUTATION, params![number, body])
+}
+
+/// Writes an item under its number.
+pub(crate) fn insert_item<S: Alter>(
+    transaction: &mut Transaction<'_, S>,
+    table: ItemTable,
+    number: u32,
+    body: &[u8],
+) -> Result<usize, Error>
+    ensures same_reference { transaction.new.conn.ghost_name ≡ transaction.old.conn.ghost_name }
+    ensures writes { WritesInside (tree_of table) (item_row number body.now ∷ []) (state S.Store transaction.old.conn.now) (state S.Store transaction.new.conn.now) result }
+{
+    match table {
+        ItemTable::Meta => insert_meta(transaction, number, body),
+        ItemTable::Mutations => insert_mutation(transaction, number, body),
+    }
+}
+
+/// Writes a row of the journal.
+pub(crate) fn insert_entry<S: Alter>(
+    connection: &mut Connection<S>,
+    entry: &Entry,
+) -> Result<usize, Error>
+    ensures added { HasCleanDisk (state S.Store connection.new) → IsBookSchema (state S.Store connection.old).now.schema → OnOk result (HasAdded (state S.Store connection.old) (state S.Store connection.new) entry.now) }
+    ensures kept { HasCleanDisk (state S.Store connection.new) → OnErr result (IsKeptIfOpen (state S.Store connection.old) (state S.Store connection.new)) }
+    ensures crash { Survives (state S.Store connection.old) (state S.Store connection.new) (λ trees. IsBookSchema (state S.Store connection.old).now.schema → IsAdded (state S.Store connection.old).now entry.now trees) }
+{
+    connection.execute(
+        INSERT_ENTRY,
+        params![
+            entry.seq,
+            entry.mutation,
+            entry.test,
+            entry.word,
+            entry.mark,
+            entry.tags
+        ],
+    )
+}

@@ -1,0 +1,69 @@
+//! Reading a whole book.
+//!
+//! A database with no table stands for the empty book, and gets the tables. Any other tables than those of
+//! a book are refused.
+ghost use Rattle.std.specs.Prelude.{◌≡◌, Bool, true, IfOk, OnOk, OnErr};
+ghost use Rattle.sqlite.specs.Held.{state};
+ghost use Rattle.sqlite.specs.State.{HasCleanDisk, Survives};
+ghost use Rattle.mcy_keeper.specs.declared.book.Book.{Book as Pages};
+ghost use Rattle.mcy_keeper.specs.Books.{Keeps, LeavesNothingNew};
+ghost use Rattle.keeper_sqlite.specs.Stands.{Tells, Holds, Leaves};
+ghost use Rattle.keeper_sqlite.specs.Making.{IsReady, MayMake, IsLoaded};
+
+use crate::create::make_tables;
+use crate::read::read_book;
+use crate::refusal::Refusal;
+use crate::tables::{is_book_schema, is_no_schema};
+use mcy_keeper::Book;
+use sqlite::{Alter, Connection};
+use std::alloc::Global;
+
+/// Makes the tables where there is none, in one transaction.
+fn ensure_tables<S: Alter>(connection: &mut Connection<S>) -> Result<(), Refusal>
+    ensures ready { HasCleanDisk (state S.Store connection.new) → OnOk result (IsReady (state S.Store connection.old) (state S.Store connection.new)) }
+    ensures crash { Survives (state S.Store connection.old) (state S.Store connection.new) (MayMake (state S.Store connection.old)) }
+{
+    if !connection.is_autocommit() {
+        return Err(Refusal::Database);
+    }
+    let schema = connection.schema();
+    if is_book_schema(schema) {
+        return Ok(());
+    }
+    if !is_no_schema(schema) {
+        return Err(Refusal::Database);
+    }
+    make_tables(connection)?;
+    Ok(())
+}
+
+/// Reads the book, whose tables it makes where there is none.
+fn load_from<S: Alter>(alloc: Global, connection: &mut Connection<S>) -> Result<Book, Refusal>
+    ensures loaded { HasCleanDisk (state S.Store connection.new) → IfOk result (IsLoaded (state S.Store connection.old) (state S.Store connection.new)) }
+    ensures crash { Survives (state S.Store connection.old) (state S.Store connection.new) (MayMake (state S.Store connection.old)) }
+{
+    ensure_tables(connection)?;
+    let book = read_book(alloc, connection)?;
+    let _live = connection.schema();
+    if !connection.is_autocommit() {
+        return Err(Refusal::Database);
+    }
+    Ok(book)
+}
+
+/// Loads over a connection that may be missing.
+pub(crate) fn load_through<S: Alter>(
+    alloc: Global,
+    connection: &mut Option<Connection<S>>,
+) -> Result<Book, Refusal>
+    ensures tells { Tells S.Store connection.new → Tells S.Store connection.old }
+    ensures answer { Tells S.Store connection.new → IfOk result (Keeps (Holds S.Store connection.new true) (Leaves S.Store connection.new)) }
+    ensures same { Tells S.Store connection.new → IfOk result (λ found. (settled : Bool) (was : Pages) → Holds S.Store connection.old settled was → found ≡ was) }
+    ensures allowed { Tells S.Store connection.new → IfOk result (Leaves S.Store connection.old) }
+    ensures refused { Tells S.Store connection.new → OnErr result (LeavesNothingNew (Leaves S.Store connection.old) (Leaves S.Store connection.new)) }
+{
+    match connection {
+        Some(connected) => load_from(alloc, connected),
+        None => Err(Refusal::Database),
+    }
+}

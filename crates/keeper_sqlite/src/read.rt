@@ -1,0 +1,176 @@
+//! Making a book of rows.
+//!
+//! An item is a row of its number and its bytes, and the numbers of a list of items run from 0: a number
+//! that is missing is a refusal. The rows of the journal have rising numbers, and are told as they are.
+//! A number that is no `u32` is a refusal.
+ghost use Rattle.std.specs.Prelude.{◌≡◌, pos, map, IsTrue, IfOk, OnOk, IsPermutation};
+ghost use Rattle.sqlite.specs.declared.types.Value.TheVariants.{Blob, Int};
+ghost use Rattle.sqlite.specs.Order.{column};
+ghost use Rattle.sqlite.specs.Held.{state};
+ghost use Rattle.sqlite.specs.State.{HasCleanDisk, IsUnchanged, Survives};
+ghost use Rattle.keeper_sqlite.specs.Tables.{IsBookSchema};
+ghost use Rattle.keeper_sqlite.specs.Rows.{item_rows, shown_entry, shown_item, shown_items, tree_of, RisesFrom, HoldsBook, HoldsJournal};
+
+use crate::refusal::Refusal;
+use crate::select::{select_entries, select_items};
+use mcy_base::{Bytes, BytesList};
+use mcy_keeper::{Book, Entry, Journal};
+use sqlite::{Alter, Connection, Row};
+use std::alloc::Global;
+
+/// A table of numbered items.
+#[derive(Clone, Copy, Debug, PartialEq, Eq)]
+pub(crate) enum ItemTable {
+    Meta,
+    Mutations,
+}
+
+fn number_at(row: &Row, at: usize) -> Result<u32, Refusal>
+    ensures { IfOk result (λ n. column row.now at ≡ Int (pos n)) }
+{
+    match row.get(at) {
+        Ok(number) => Ok(number),
+        Err(error) => Err(error.into()),
+    }
+}
+
+fn bytes_at(row: &Row, at: usize) -> Result<Bytes, Refusal>
+    ensures { IfOk result (λ bytes. column row.now at ≡ Blob bytes) }
+{
+    match row.get::<Vec<u8>>(at) {
+        Ok(bytes) => Ok(Bytes::from_vec(bytes)),
+        Err(error) => Err(error.into()),
+    }
+}
+
+/// The item of a row that has this number.
+fn item_of(row: &Row, number: usize) -> Result<Bytes, Refusal>
+    ensures { IfOk result (λ body. row.now ≡ shown_item number body) }
+{
+    if row.column_count() != 2 {
+        return Err(Refusal::Database);
+    }
+    let found = number_at(row, 0)?;
+    if found as usize != number {
+        return Err(Refusal::Database);
+    }
+    let body = bytes_at(row, 1)?;
+    Ok(body)
+}
+
+/// The items of rows whose numbers run from 0.
+fn items_of(alloc: Global, rows: &[Row]) -> Result<Vec<Bytes>, Refusal>
+    ensures { IfOk result (λ items. rows.now ≡ shown_items 0 items.items) }
+{
+    let mut items = Vec::new(alloc);
+    for row in rows {
+        let item = item_of(row, items.len())?;
+        items.push(item)?;
+    }
+    Ok(items)
+}
+
+fn entry_of(row: &Row) -> Result<Entry, Refusal>
+    ensures { IfOk result (λ e. row.now ≡ shown_entry e) }
+{
+    if row.column_count() != 6 {
+        return Err(Refusal::Database);
+    }
+    let seq = number_at(row, 0)?;
+    let mutation = number_at(row, 1)?;
+    let test = number_at(row, 2)?;
+    let word = number_at(row, 3)?;
+    let mark = number_at(row, 4)?;
+    let tags = number_at(row, 5)?;
+    Ok(Entry {
+        seq,
+        mutation,
+        test,
+        word,
+        mark,
+        tags,
+    })
+}
+
+fn entries_of(alloc: Global, rows: &[Row]) -> Result<Vec<Entry>, Refusal>
+    ensures { IfOk result (λ entries. rows.now ≡ map shown_entry entries.items) }
+{
+    let mut entries = Vec::new(alloc);
+    for row in rows {
+        entries.push(entry_of(row)?)?;
+    }
+    Ok(entries)
+}
+
+/// Whether each number is greater than the one before.
+fn is_rising(entries: &[Entry]) -> bool
+    ensures { IsTrue result → RisesFrom 0 entries.now }
+{
+    let [first, more @ ..] = entries else {
+        return true;
+    };
+    let mut last = first.seq;
+    let mut rest = more;
+    while let [entry, more @ ..] = rest {
+        if entry.seq <= last {
+            return false;
+        }
+        last = entry.seq;
+        rest = more;
+    }
+    true
+}
+
+/// Reads a table of items.
+fn read_items<S: Alter>(
+    alloc: Global,
+    connection: &mut Connection<S>,
+    table: ItemTable,
+) -> Result<Vec<Bytes>, Refusal>
+    requires { HasCleanDisk (state S.Store connection.old) → IsBookSchema (state S.Store connection.old).now.schema }
+    ensures found { HasCleanDisk (state S.Store connection.new) → IfOk result (λ items. IsPermutation (item_rows 0 items.items) ((state S.Store connection.old).now.trees (tree_of table))) }
+    ensures same { HasCleanDisk (state S.Store connection.new) → OnOk result (IsUnchanged (state S.Store connection.old) (state S.Store connection.new)) }
+    ensures crash { Survives (state S.Store connection.old) (state S.Store connection.new) (λ _. ⊥) }
+{
+    let rows = select_items(connection, table)?;
+    let items = items_of(alloc, rows.as_slice())?;
+    Ok(items)
+}
+
+/// Reads the journal.
+fn read_entries<S: Alter>(
+    alloc: Global,
+    connection: &mut Connection<S>,
+) -> Result<Vec<Entry>, Refusal>
+    requires { HasCleanDisk (state S.Store connection.old) → IsBookSchema (state S.Store connection.old).now.schema }
+    ensures found { HasCleanDisk (state S.Store connection.new) → IfOk result (λ entries. HoldsJournal ((state S.Store connection.old).now.trees 2) entries.items) }
+    ensures same { HasCleanDisk (state S.Store connection.new) → OnOk result (IsUnchanged (state S.Store connection.old) (state S.Store connection.new)) }
+    ensures crash { Survives (state S.Store connection.old) (state S.Store connection.new) (λ _. ⊥) }
+{
+    let rows = select_entries(connection)?;
+    let entries = entries_of(alloc, rows.as_slice())?;
+    if !is_rising(entries.as_slice()) {
+        return Err(Refusal::Database);
+    }
+    Ok(entries)
+}
+
+/// Reads the three tables.
+pub(crate) fn read_book<S: Alter>(
+    alloc: Global,
+    connection: &mut Connection<S>,
+) -> Result<Book, Refusal>
+    requires { HasCleanDisk (state S.Store connection.old) → IsBookSchema (state S.Store connection.old).now.schema }
+    ensures found { HasCleanDisk (state S.Store connection.new) → IfOk result (HoldsBook (state S.Store connection.old).now.trees) }
+    ensures same { HasCleanDisk (state S.Store connection.new) → OnOk result (IsUnchanged (state S.Store connection.old) (state S.Store connection.new)) }
+    ensures crash { Survives (state S.Store connection.old) (state S.Store connection.new) (λ _. ⊥) }
+{
+    let meta = read_items(alloc, connection, ItemTable::Meta)?;
+    let mutations = read_items(alloc, connection, ItemTable::Mutations)?;
+    let entries = read_entries(alloc, connection)?;
+    Ok(Book {
+        meta: BytesList::from_vec(meta),
+        mutations: BytesList::from_vec(mutations),
+        journal: Journal::from_vec(entries),
+    })
+}

@@ -1,0 +1,121 @@
+//! A keeper of a book in the tables of a database.
+//!
+//! `connection` is None where the opening of the database was refused, and each call then answers a fault.
+//! The keeper tells where it has a connection whose store is clean, that is, where nobody else writes to the
+//! file and the disk returns what was written. The book that it tells is that of the three tables, which
+//! the connection shows and has committed; it is told only while the keeper is settled. `faults` counts the
+//! calls that answered a fault, and stays at its type's end.
+ghost use Rattle.std.specs.Prelude.{◌≡◌, false, OnOk, IsOk, IsErrOf};
+ghost use Rattle.mcy_base.specs.Causes.{one_more};
+ghost use Rattle.keeper_sqlite.specs.Stands.{Tells, Holds, Leaves};
+ghost use Rattle.keeper_sqlite.specs.Laws.{holds_one, holds_tells};
+
+use crate::append::append_through;
+use crate::begin::begin_through;
+use crate::load::load_through;
+use crate::refusal::Refusal;
+use mcy_base::BytesList;
+use mcy_keeper::{Book, Entry, KeepError, Keeper};
+use sqlite::{Alter, Connection};
+use std::alloc::Global;
+
+/// A keeper of a book in the tables of a database.
+#[derive(Drop)]
+pub struct SqlKeeper<S: Alter> {
+    alloc: Global,
+    connection: Option<Connection<S>>,
+    settled: bool,
+    faults: u64,
+}
+
+impl<S: Alter> SqlKeeper<S> {
+    /// A keeper over this connection. None stands for a database whose opening was refused. It takes no
+    /// memory, and neither reads nor writes.
+    pub fn adopt(alloc: Global, connection: Option<Connection<S>>) -> SqlKeeper<S>
+        ensures connection { result.connection ≡ connection }
+        ensures unsettled { result.settled ≡ false }
+        ensures faults { result.faults ≡ 0 }
+    {
+        SqlKeeper {
+            alloc,
+            connection,
+            settled: false,
+            faults: 0,
+        }
+    }
+
+    /// The connection, given back.
+    pub fn into_connection(self) -> Option<Connection<S>>
+        ensures { result ≡ self.connection }
+    {
+        self.connection
+    }
+
+    /// Counts a fault.
+    fn count_fault(&mut self)
+        ensures { self.new ≡ record self.old { faults = one_more self.old.faults } }
+    {
+        self.faults = self.faults.saturating_add(1);
+    }
+
+    /// The answer of a write, which settles the keeper no more where the database failed.
+    fn answer_write(&mut self, written: Result<(), Refusal>) -> Result<(), KeepError>
+        ensures ok { OnOk written ((self.new ≡ self.old) × IsOk result) }
+        ensures memory { IsErrOf written Refusal.Memory → (self.new ≡ self.old) × IsErrOf result KeepError.Memory }
+        ensures fault { IsErrOf written Refusal.Database → (self.new ≡ record self.old { settled = false; faults = one_more self.old.faults }) × IsErrOf result KeepError.Fault }
+    {
+        match written {
+            Ok(()) => Ok(()),
+            Err(Refusal::Memory) => Err(KeepError::Memory),
+            Err(Refusal::Database) => {
+                self.settled = false;
+                self.count_fault();
+                Err(KeepError::Fault)
+            }
+        }
+    }
+}
+
+impl<S: Alter> Keeper for SqlKeeper<S> {
+    ghost tells = { λ k. Tells S.Store k.connection };
+
+    ghost holds = { λ k. Holds S.Store k.connection k.settled };
+
+    ghost leaves = { λ k. Leaves S.Store k.connection };
+
+    ghost is_settled = { λ k. k.settled };
+
+    ghost faults = { λ k. k.faults };
+
+    ghost one = { λ k. holds_one (record { view = S.Store.view; faults = S.Store.faults; recovers = S.Store.recovers; is_shielded = S.Store.is_shielded; is_step = S.Store.is_step; blamed = S.Store.blamed; names = S.Store.names }) k.connection k.settled };
+
+    ghost told = { λ k. holds_tells (record { view = S.Store.view; faults = S.Store.faults; recovers = S.Store.recovers; is_shielded = S.Store.is_shielded; is_step = S.Store.is_step; blamed = S.Store.blamed; names = S.Store.names }) k.connection k.settled };
+
+    fn load(&mut self) -> Result<Book, KeepError> {
+        match load_through(self.alloc, &mut self.connection) {
+            Ok(book) => {
+                self.settled = true;
+                Ok(book)
+            }
+            Err(Refusal::Memory) => Err(KeepError::Memory),
+            Err(Refusal::Database) => {
+                self.count_fault();
+                Err(KeepError::Fault)
+            }
+        }
+    }
+
+    fn begin(&mut self, meta: &BytesList, mutations: &BytesList) -> Result<(), KeepError> {
+        let written = begin_through(&mut self.connection, meta, mutations);
+        self.answer_write(written)
+    }
+
+    fn append(&mut self, entry: &Entry) -> Result<(), KeepError> {
+        let written = append_through(&mut self.connection, entry);
+        self.answer_write(written)
+    }
+
+    fn settled(&self) -> bool {
+        self.settled
+    }
+}

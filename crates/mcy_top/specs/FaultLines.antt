@@ -1,0 +1,67 @@
+-- The line that tells a person why a call was refused, or what failed.
+use Rattle.std.specs.Prelude.{ℕ, List, [], ◌++◌, codes, decimal}
+use Rattle.mcy_base.specs.declared.kind.Kind.{Kind}
+use Rattle.mcy_base.specs.declared.kind.Kind.TheVariants.{Tokens, LoopTurns, Cells, NetBits, RegisterBits, Sites, Gates, FreeBits}
+use Rattle.mcy_keeper.specs.declared.book.Entry.{Entry}
+use Rattle.result_book.specs.declared.check.RowFault.{RowFault}
+use Rattle.result_book.specs.declared.check.RowFault.TheVariants.{Seq}
+use Rattle.result_book.specs.declared.check.BookError.{BookError}
+use Rattle.result_book.specs.declared.check.BookError.TheVariants.{Meta, Mutation, Row, Stray, Memory as NoMemory}
+use Rattle.mcy_top.specs.declared.outcome.SourceFault.{SourceFault}
+use Rattle.mcy_top.specs.declared.outcome.SourceFault.TheVariants.{TooMany}
+use Rattle.mcy_top.specs.declared.outcome.Outcome.{Outcome}
+use Rattle.mcy_top.specs.declared.outcome.Outcome.TheVariants.{Done, Unfinished, Usage, SourceBad, Missing, TooLarge, NoCampaign, AlreadyBegun, BookBad, ReadFault, KeeperFault, WriteFault, Memory, Unbuilt}
+
+abbrev pub kind_name : Kind → List ℕ
+kind_name Tokens = codes "Tokens"
+kind_name LoopTurns = codes "LoopTurns"
+kind_name Cells = codes "Cells"
+kind_name NetBits = codes "NetBits"
+kind_name RegisterBits = codes "RegisterBits"
+kind_name Sites = codes "Sites"
+kind_name Gates = codes "Gates"
+kind_name FreeBits = codes "FreeBits"
+
+abbrev pub source_line : SourceFault → List ℕ
+source_line (TooMany kind) = codes "mcy: TooMany " ++ (kind_name kind ++ codes "\n")
+
+-- a line of these words
+abbrev pub told_line : List ℕ → List ℕ
+told_line words = codes "mcy: " ++ (words ++ codes "\n")
+
+-- a line on a file: its name and what is the matter
+abbrev pub file_line : List ℕ → List ℕ → List ℕ
+file_line name matter = codes "mcy: " ++ (name ++ (codes ": " ++ (matter ++ codes "\n")))
+
+-- a line on the database: a part of it and the place there, counted from 0
+abbrev pub place_line : List ℕ → ℕ → List ℕ
+place_line part place = codes "mcy: database: " ++ (part ++ (codes " " ++ (decimal place ++ codes "\n")))
+
+-- where a row stands that has a fault: its number says it, if that is not the fault
+abbrev pub row_place : Entry → RowFault → ℕ
+row_place row (Seq place) = place
+row_place row fault = row.seq
+
+abbrev pub book_line : BookError → List ℕ
+book_line (Meta place old new) = place_line (codes "meta") place
+book_line (Mutation place old new) = place_line (codes "mutation") place
+book_line (Row row fault) = place_line (codes "row") (row_place row fault)
+book_line (Stray mutations rows) = told_line (codes "database: stray rows")
+book_line NoMemory = told_line (codes "no memory")
+
+-- the line of each outcome, and no text where the command was carried out
+abbrev pub fault_text : Outcome → List ℕ
+fault_text Done = []
+fault_text (Unfinished left) = []
+fault_text Usage = told_line (codes "usage: mcy init | run [--stop-after N] | status")
+fault_text (SourceBad error) = source_line error.fault
+fault_text (Missing name) = file_line name (codes "missing")
+fault_text (TooLarge name) = file_line name (codes "too large")
+fault_text NoCampaign = told_line (codes "no campaign")
+fault_text AlreadyBegun = told_line (codes "campaign already begun")
+fault_text (BookBad error) = book_line error
+fault_text (ReadFault name) = file_line name (codes "read fault")
+fault_text KeeperFault = told_line (codes "database fault")
+fault_text WriteFault = told_line (codes "write fault")
+fault_text Memory = told_line (codes "no memory")
+fault_text (Unbuilt part) = told_line (codes "not built")
