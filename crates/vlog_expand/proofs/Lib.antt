@@ -1,0 +1,5 @@
+pub mod Defining
+pub mod Using
+pub mod Coming
+pub mod OneOutcome
+pub mod Closing

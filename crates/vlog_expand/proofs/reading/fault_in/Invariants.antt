@@ -1,0 +1,6 @@
+use Rattle.std.proofs.Common.{◌≡◌, drop}
+use Rattle.vlog_expand.specs.Moves.{fault_in}
+use Rattle.vlog_expand.proofs.reading.fault_in.Given as goal
+
+abbrev pub invariant-loop-token : goal.invariant-loop-token
+invariant-loop-token l = fault_in l.text ≡ fault_in (drop l.token-index l.text)

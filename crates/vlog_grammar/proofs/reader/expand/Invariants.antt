@@ -1,0 +1,10 @@
+use Rattle.std.proofs.Common.{reverse}
+use Rattle.vlog_grammar.specs.Look.{work_of}
+use Rattle.vlog_grammar.specs.Machine.{ExpandsTo}
+use Rattle.vlog_grammar.proofs.reader.expand.Given as goal
+
+abbrev pub invariant-loop-symbol : goal.invariant-loop-symbol
+invariant-loop-symbol l = ExpandsTo l.next (reverse l.fn.stack.items) (reverse l.stack.items) l.fn.steps.items l.steps.items
+
+abbrev pub decreases-loop-symbol : goal.decreases-loop-symbol
+decreases-loop-symbol l = work_of (reverse l.stack.items)

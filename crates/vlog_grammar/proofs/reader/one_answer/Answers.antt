@@ -1,0 +1,8 @@
+use Rattle.vlog_grammar.proofs.Answer.{read_once, stops_once}
+use Rattle.vlog_grammar.proofs.reader.one_answer.Goals as goal
+
+pub returns-clause-read : goal.returns-clause-read
+returns-clause-read c = read_once
+
+pub returns-clause-stops : goal.returns-clause-stops
+returns-clause-stops c = stops_once

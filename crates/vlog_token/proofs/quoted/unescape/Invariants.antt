@@ -1,0 +1,6 @@
+use Rattle.std.proofs.Common.{◌≡◌, ◌++◌, false, drop}
+use Rattle.vlog_token.specs.Names.{unescaped}
+use Rattle.vlog_token.proofs.quoted.unescape.Given as goal
+
+abbrev pub invariant-loop-b : goal.invariant-loop-b
+invariant-loop-b l = l.bytes.items ++ unescaped l.is_escaped (drop l.b-index l.body) ≡ unescaped false l.body

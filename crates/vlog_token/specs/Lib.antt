@@ -1,0 +1,10 @@
+pub mod Bytes
+pub mod Symbols
+pub mod Shapes
+pub mod Names
+pub mod Numbers
+pub mod Kinds
+pub mod Places
+pub mod Pieces
+pub mod Sources
+pub mod Reading
