@@ -13,12 +13,17 @@ use std::test::Fail;
 
 const AND_GATE: &str = "module g(input a, input b, output y);\n  assign y = a & b;\nendmodule\n";
 
+const OR_GATE: &str = "module g(input a, input b, output y);\n  assign y = a | b;\nendmodule\n";
+
 /// The text of the finished campaign.
 const FINISHED: &str =
     "Mutations: 3\nFinished: 3\nTest same: PASS 0 FAIL 3 UNKNOWN 0\nTag CHANGED: 3\nTag NOCHANGE: 0\nAsserts: 0\nUnexpected: 0\n";
 
 const ONE_FINISHED: &str =
     "Mutations: 3\nFinished: 1\nTest same: PASS 0 FAIL 1 UNKNOWN 0\nTag CHANGED: 1\nTag NOCHANGE: 0\nAsserts: 0\nUnexpected: 0\n";
+
+const TWO_FINISHED: &str =
+    "Mutations: 3\nFinished: 2\nTest same: PASS 0 FAIL 2 UNKNOWN 0\nTag CHANGED: 2\nTag NOCHANGE: 0\nAsserts: 0\nUnexpected: 0\n";
 
 const SITES: &str = "Sites: 3\nMutations: 3\n";
 
@@ -29,17 +34,18 @@ fn file(alloc: Global, name: &str, text: &str) -> Result<SourceFile, AllocError>
     })
 }
 
-/// The files of the and gate's campaign.
-fn campaign(alloc: Global) -> Result<CleanFiles, AllocError> {
+/// The project and a source.
+fn campaign(alloc: Global, source: &str) -> Result<CleanFiles, AllocError> {
     let mut files = Vec::new(alloc);
     files.push(file(alloc, "config.mcy", AND_GATE_PROJECT)?)?;
-    files.push(file(alloc, "g.v", AND_GATE)?)?;
+    files.push(file(alloc, "g.v", source)?)?;
     Ok(CleanFiles::new(alloc, FileList::from_vec(files)))
 }
 
-/// A call's status and text, over the and gate's files.
+/// A call's status and text, over a source.
 fn status_of<K: Keeper>(
     alloc: Global,
+    source: &str,
     line: &str,
     keeper: &mut K,
 ) -> Result<(u8, MemorySink), AllocError> {
@@ -47,13 +53,13 @@ fn status_of<K: Keeper>(
     for word in line.split_whitespace() {
         words.push(word.to_owned(alloc)?)?;
     }
-    let mut files = campaign(alloc)?;
+    let mut files = campaign(alloc, source)?;
     let mut out = MemorySink::new(Vec::new(alloc), Vec::with_capacity(alloc, 1000)?);
     let outcome = call(alloc, &words, &mut files, keeper, &mut out);
     Ok((exit_status(&outcome), out))
 }
 
-/// Asserts a call's status and text.
+/// Asserts a call's status and text, over the and gate.
 fn expect<K: Keeper>(
     rt: &impl Abort,
     alloc: Global,
@@ -62,7 +68,7 @@ fn expect<K: Keeper>(
     status: u8,
     text: &str,
 ) -> Result<(), AllocError> {
-    let (found, out) = status_of(alloc, line, keeper)?;
+    let (found, out) = status_of(alloc, AND_GATE, line, keeper)?;
     assert!(rt;
         (found, out.seen()) == (status, text.as_bytes()),
         "of `{line}`"
@@ -115,8 +121,30 @@ fn a_campaign_over_a_database_is_stopped_and_continued(rt: HostRuntime) -> Resul
         ONE_FINISHED,
     )?;
     expect(&rt, alloc, "status", &mut keeper, 0, ONE_FINISHED)?;
+    expect(
+        &rt,
+        alloc,
+        "run --stop-after 1",
+        &mut keeper,
+        1,
+        TWO_FINISHED,
+    )?;
+    expect(&rt, alloc, "run --stop-after 1", &mut keeper, 0, FINISHED)?;
     expect(&rt, alloc, "run", &mut keeper, 0, FINISHED)?;
     expect_rows(&rt, &mut keeper)?;
+    Ok(())
+}
+
+#[test]
+fn a_changed_source_is_refused_over_a_database(rt: HostRuntime) -> Result<(), Fail> {
+    let alloc = rt.alloc();
+    let mut keeper = in_memory(alloc)?;
+    expect(&rt, alloc, "run", &mut keeper, 0, FINISHED)?;
+    let (status, out) = status_of(alloc, OR_GATE, "run", &mut keeper)?;
+    // BookBad has status 10.
+    assert!(rt; status == 10);
+    assert!(rt; out.seen().is_empty());
+    expect(&rt, alloc, "status", &mut keeper, 0, FINISHED)?;
     Ok(())
 }
 
@@ -167,7 +195,7 @@ fn run_over(
         Err((_, left)) => return Ok((false, left.into_files())),
     };
     let mut keeper = SqlKeeper::adopt(alloc, Some(connection));
-    let (status, out) = status_of(alloc, "run", &mut keeper)?;
+    let (status, out) = status_of(alloc, AND_GATE, "run", &mut keeper)?;
     if status == 0 {
         assert!(rt; out.seen() == FINISHED.as_bytes());
         expect_rows(rt, &mut keeper)?;
