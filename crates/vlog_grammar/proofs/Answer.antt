@@ -32,10 +32,10 @@ take_split (suc n) j [] = nothing (suc n + j) ∙ sym (nothing j)
     nothing (suc k) = refl
 take_split (suc n) j (t ∷ ts) = ap (λ (k : ℕ). take k (t ∷ ts)) (let e : suc n + j ≡ suc (n + j) = omega arith in e) ∙ ap (λ (w : List Token). t ∷ w) (take_split n j ts)
 
-take_upto : (n k : ℕ) (ts : List Token) → n ≤ k → take k ts ≡ take n ts ++ take (k - n) (drop n ts)
+pub take_upto : (n k : ℕ) (ts : List Token) → n ≤ k → take k ts ≡ take n ts ++ take (k - n) (drop n ts)
 take_upto n k ts le = ap (λ (i : ℕ). take i ts) (let e : k ≡ n + (k - n) = omega arith in e) ∙ take_split n (k - n) ts
 
-stops_before : (ts : List Token) (n k : ℕ) (text : Trees) (more : List Token) → NoneGoesOn (take n ts) (drop n ts) → n < k → k ≤ length ts → IsText text → tokens_of text ≡ take k ts ++ more → ⊥
+pub stops_before : (ts : List Token) (n k : ℕ) (text : Trees) (more : List Token) → NoneGoesOn (take n ts) (drop n ts) → n < k → k ≤ length ts → IsText text → tokens_of text ≡ take k ts ++ more → ⊥
 stops_before ts n k text more none lt le d e =
     none_beyond (take n ts) (drop n ts) (k - n) text more none (omega arith) (omega (arith, length-drop n ts)) d (e ∙ ap (λ (w : List Token). w ++ more) (take_upto n k ts (omega arith)))
 
@@ -85,7 +85,7 @@ fewer : (ts : List Token) (i n : ℕ) (text : Trees) (more : List Token) → i <
 fewer ts i n text more lt e =
     e ∙ ap (λ (w : List Token). w ++ more) (take_upto (suc i) n ts (omega arith)) ∙ append_assoc (take (suc i) ts) (take (n - suc i) (drop (suc i) ts)) more
 
-refused_first : (ts : List Token) (m n : ℕ) (x : Feature) (text : Trees) (more : List Token) (fs : List (Option Feature)) → m < n → n ≤ length ts → IsRefused x (take m ts) (drop m ts) → IsText text → tokens_of text ≡ take n ts ++ more → refusals_of text ≡ none_refused (take n ts) ++ fs → ⊥
+pub refused_first : (ts : List Token) (m n : ℕ) (x : Feature) (text : Trees) (more : List Token) (fs : List (Option Feature)) → m < n → n ≤ length ts → IsRefused x (take m ts) (drop m ts) → IsText text → tokens_of text ≡ take n ts ++ more → refusals_of text ≡ none_refused (take n ts) ++ fs → ⊥
 refused_first ts m n x text more fs lt le r d e none =
     let size : length (take n ts) ≡ n = length-take-le n ts (omega arith) in
     let same = same_refusal ts m r.text text r.more _ (omega arith) r.is_text d (refused_begins ts m x r) (fewer ts m n text more lt e) in

@@ -135,7 +135,7 @@ taken-append [] b = refl
 taken-append (Take t ∷ a) b = ap (λ (w : List Token). t ∷ w) (taken-append a b)
 taken-append (Begin r ∷ a) b = taken-append a b
 
-taken_steps : (f : Trees) → taken (steps_of f) ≡ tokens_of f
+pub taken_steps : (f : Trees) → taken (steps_of f) ≡ tokens_of f
 taken_steps Nil = refl
 taken_steps (Leaf t x f) = ap (λ (w : List Token). t ∷ w) (taken_steps f)
 taken_steps (Node r parts f) =

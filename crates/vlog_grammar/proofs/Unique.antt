@@ -11,7 +11,7 @@ use Rattle.vlog_grammar.specs.declared.table.Symbol.TheVariants.{Of}
 use Rattle.vlog_grammar.specs.Choice.{choice}
 use Rattle.vlog_grammar.specs.Grammar.{kind_of, parts_of}
 use Rattle.vlog_grammar.specs.Trees.{Trees, Nil, Leaf, Node, tokens_of, refusals_of, steps_of, next_of, Derives}
-use Rattle.vlog_grammar.specs.Reading.{start, IsText}
+use Rattle.vlog_grammar.specs.Reading.{start, IsText, steps_for, AreAlikeFor}
 use Rattle.vlog_grammar.specs.Machine.{AllFollowed}
 use Rattle.vlog_grammar.proofs.Passes.{start_follow}
 use Rattle.vlog_grammar.proofs.Rows.{◌⊕◌, joined, tokens-join, refusals-join, steps-join}
@@ -107,6 +107,39 @@ front_alike (suc m) (h ∷ gs) (Node r parts f) g (t ∷ p) x y small followed d
 -- texts that begin with the same tokens are refused the same of these
 pub texts_refused_alike : (f g : Trees) (p x y : List Token) → IsText f → IsText g → tokens_of f ≡ p ++ x → tokens_of g ≡ p ++ y → take (length p) (refusals_of f) ≡ take (length p) (refusals_of g)
 texts_refused_alike f g p x y d e first second = front_alike (suc (size_of f)) start f g p x y (omega arith) (start_follow, tt) d e first second
+
+-- rows for the same symbols that begin with the same tokens are read by the same steps up to the last of these
+front_steps : (m : ℕ) (gs : List Symbol) (f g : Trees) (p x y : List Token) → size_of f < m → AllFollowed gs → Derives gs f [] → Derives gs g [] → tokens_of f ≡ p ++ x → tokens_of g ≡ p ++ y → steps_for (length p) (steps_of f) ≡ steps_for (length p) (steps_of g)
+front_steps zero gs f g p x y small followed d e first second = absurd (omega arith)
+front_steps (suc m) gs f g [] x y small followed d e first second = refl
+front_steps (suc m) [] Nil g (t ∷ p) x y small followed d e first second = absurd cc
+front_steps (suc m) [] (Leaf u z f) g (t ∷ p) x y small followed d e first second = absurd d
+front_steps (suc m) [] (Node r parts f) g (t ∷ p) x y small followed d e first second = absurd d
+front_steps (suc m) (h ∷ gs) Nil g (t ∷ p) x y small followed d e first second = absurd d
+front_steps (suc m) (h ∷ gs) (Leaf u z f) g (t ∷ p) x y small followed d e first second =
+    let token : u ≡ t = cc in
+    let a = front_leaf h gs u z g (p ++ y) d.0 e (second ∙ ap (λ (w : Token). w ∷ (p ++ y)) (sym token)) in
+    let r = front_steps m gs f a.0 p x y (omega (arith, size-leaf u z f)) followed.1 d.1 a.2 (cc) a.3 in
+    ap (λ (w : List Step). Take u ∷ w) r ∙ ap (λ (w : Trees). steps_for (suc (length p)) (steps_of w)) (sym a.1)
+front_steps (suc m) (h ∷ gs) (Node r parts f) g (t ∷ p) x y small followed d e first second =
+    let next : next_of (tokens_of g) ≡ t.class = ap next_of second in
+    let chosen : choice (kind_of r) t.class ≡ Some r =
+    ap (λ (ts : List Token). choice (kind_of r) (next_of ts)) (sym first ∙ sym (append-nil (tokens_of parts ++ tokens_of f))) ∙ front_is_chosen h gs r parts f d followed in
+    let a = front_is h gs (kind_of r) t.class g followed d.0 e next in
+    let rule : a.0 ≡ r = cc (a.4, chosen) in
+    let node : g ≡ Node r a.1 a.2 = a.3 ∙ ap (λ (q : Rule). Node q a.1 a.2) rule in
+    let e' = subst (λ (w : Trees). Derives (h ∷ gs) w []) node e in
+    let row = parts_of r in
+    let inner = front_steps m (row ++ gs) (parts ⊕ f) (a.1 ⊕ a.2) (t ∷ p) x y (omega (arith, size-node r parts f)) (more_followed h gs r d.0 followed) (joined row gs parts f [] d.2 d.3) (joined row gs a.1 a.2 [] e'.2 e'.3) (tokens-join parts f ∙ first) (tokens-join a.1 a.2 ∙ ap tokens_of (sym node) ∙ second) in
+    let up_to : List Step → List Step = λ w. Begin r ∷ steps_for (suc (length p)) w in
+    ap up_to (sym (steps-join parts f)) ∙ ap (λ (w : List Step). Begin r ∷ w) inner ∙ ap up_to (steps-join a.1 a.2) ∙ ap (λ (w : Trees). steps_for (suc (length p)) (steps_of w)) (sym node)
+
+-- texts that begin with the same tokens are alike up to the last of these
+pub texts_alike_for : (f g : Trees) (p x y : List Token) → IsText f → IsText g → tokens_of f ≡ p ++ x → tokens_of g ≡ p ++ y → AreAlikeFor (length p) f g
+texts_alike_for f g p x y d e first second = record {
+  steps = front_steps (suc (size_of f)) start f g p x y (omega arith) (start_follow, tt) d e first second;
+  refusals = texts_refused_alike f g p x y d e first second;
+}
 
 pub same_steps : (f g : Trees) → IsText f → IsText g → tokens_of f ≡ tokens_of g → steps_of f ≡ steps_of g
 same_steps f g d e same = (texts_alike f g d e same).steps

@@ -1,5 +1,5 @@
 -- What the reader answers for a list of tokens.
-use Rattle.std.specs.Prelude.{◌≡◌, ℕ, ◌-◌, ◌<◌, ◌≤◌, ◌⊎◌, List, [], ◌∷◌, ◌++◌, take, drop, length, Option, Some, None}
+use Rattle.std.specs.Prelude.{◌≡◌, ℕ, zero, suc, ◌-◌, ◌<◌, ◌≤◌, ◌⊎◌, List, [], ◌∷◌, ◌++◌, take, drop, length, Option, Some, None}
 use Rattle.vlog_syntax.specs.declared.feature.Feature.{Feature}
 use Rattle.vlog_syntax.specs.declared.feature.Feature.TheVariants as feature
 use Rattle.vlog_grammar.specs.declared.class.Class.{Class}
@@ -115,3 +115,15 @@ pub record AreStepsSoFar (steps : List Step) (done : List Token) : Type 0 where
 abbrev pub IsReading : List Token → List Step → Option Stop → Type 0
 IsReading tokens steps None = AreStepsOf steps tokens
 IsReading tokens steps (Some stop) = (n : ℕ) × IsStopAt tokens n stop × AreStepsSoFar steps (take n tokens)
+
+-- the first steps, up to the one that takes the last of so many tokens
+abbrev pub steps_for : ℕ → List Step → List Step
+steps_for zero steps = []
+steps_for (suc n) [] = []
+steps_for (suc n) (Take t ∷ steps) = Take t ∷ steps_for n steps
+steps_for (suc n) (Begin r ∷ steps) = Begin r ∷ steps_for (suc n) steps
+
+-- up to so many tokens two texts are read by the same steps, and the same is refused in them
+pub record AreAlikeFor (n : ℕ) (f g : Trees) : Type 0 where
+  pub steps : steps_for n (steps_of f) ≡ steps_for n (steps_of g)
+  pub refusals : take n (refusals_of f) ≡ take n (refusals_of g)

@@ -2,12 +2,12 @@
 //!
 //! A stack holds the symbols that are still to come, the next one on top. Before a token productions take the place of
 //! the kinds on top, until a token is asked for. The work for a token is bounded by the table, so reading is linear.
-ghost use Rattle.std.specs.Prelude.{◌≡◌, ◌++◌, ◌∷◌, List, Option, Some, true, OnOk, IfOk, MatchOption, reverse, drop, take};
+ghost use Rattle.std.specs.Prelude.{◌≡◌, ◌++◌, ◌∷◌, List, Option, Some, true, OnOk, IfOk, MatchOption, length, reverse, drop, take};
 ghost use Rattle.vlog_syntax.specs.declared.feature.Feature.{Feature};
 ghost use Rattle.vlog_grammar.specs.Grammar.{parts_of};
 ghost use Rattle.vlog_grammar.specs.Look.{all_safe};
 ghost use Rattle.vlog_grammar.specs.Machine.{AllFollowed, ExpandsTo, IsAsked, with_asked};
-ghost use Rattle.vlog_grammar.specs.Reading.{AreTreesOf, IsReading, IsRefusedAt, IsStop, IsStopAt, IsText, IsUnexpectedAt, first_of, named};
+ghost use Rattle.vlog_grammar.specs.Reading.{AreAlikeFor, AreTreesOf, IsReading, IsRefusedAt, IsStop, IsStopAt, IsText, IsUnexpectedAt, first_of, named};
 ghost use Rattle.vlog_grammar.specs.Trees.{Fits, Trees, next_of, steps_of, tokens_of};
 ghost use Rattle.vlog_grammar.specs.declared.step.Token.{Token};
 ghost use Rattle.vlog_grammar.specs.declared.stop.Stop.{Stop};
@@ -161,9 +161,10 @@ fn refused(at: usize, feature: Feature) -> Stop
 }
 
 #[tactic(auto, using(crate::proofs::Unique::same_steps))]
-/// Tokens have one answer, and a text is read in one way.
+/// Tokens have one answer, and texts are read in one way as far as their tokens are the same.
 pub fn one_answer()
     ensures read { (tokens : List Token) (text : Trees) (stop : Stop) → AreTreesOf text tokens → IsStop tokens stop → ⊥ }
     ensures stops { (tokens : List Token) (s t : Stop) → IsStop tokens s → IsStop tokens t → s ≡ t }
+    ensures begins { (f g : Trees) (done m n : List Token) → IsText f → IsText g → tokens_of f ≡ done ++ m → tokens_of g ≡ done ++ n → AreAlikeFor (length done) f g }
     ensures one_way { (f g : Trees) → IsText f → IsText g → tokens_of f ≡ tokens_of g → steps_of f ≡ steps_of g }
 {}

@@ -7,7 +7,7 @@ use crate::rule::Rule;
 pub struct Token {
     pub class: Class,
     /// Its number among the tokens of the source, from 0.
-    pub at: u32,
+    pub at: usize,
 }
 
 /// A step of reading: a token is taken, or a production is begun, whose parts follow.

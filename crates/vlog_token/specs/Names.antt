@@ -1,6 +1,6 @@
 -- The name that a token stands for (IEEE 1364-2005, 3.7.1: the `\` is no part of an escaped name), and the bytes that a
 -- string stands for (3.6).
-use Rattle.std.specs.Prelude.{◌≡◌, ℕ, Bool, true, false, ◌==◌, List, [], ◌∷◌, ◌++◌, map, if◌then◌else◌}
+use Rattle.std.specs.Prelude.{◌≡◌, ℕ, Bool, true, false, ◌==◌, List, [], ◌∷◌, ◌++◌, map, drop, if◌then◌else◌}
 use Rattle.std.specs.List.{AllByRecursion, concat}
 use Rattle.vlog_token.specs.declared.token.TokenKind.{TokenKind}
 use Rattle.vlog_token.specs.declared.token.TokenKind.TheVariants.{Escaped}
@@ -35,3 +35,7 @@ abbrev pub unescaped : Bool → List ℕ → List ℕ
 unescaped is_escaped [] = []
 unescaped true (c ∷ cs) = escape_byte c ∷ unescaped false cs
 unescaped false (c ∷ cs) = if c == 34 then [] else (if c == 92 then unescaped true cs else c ∷ unescaped false cs)
+
+-- what is read of any text in this way
+abbrev pub string_bytes : List ℕ → List ℕ
+string_bytes text = unescaped false (drop 1 text)

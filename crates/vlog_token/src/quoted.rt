@@ -1,6 +1,6 @@
 //! Strings and the names of tokens.
 ghost use Rattle.std.specs.Prelude.{◌≡◌, false, drop, IfOk};
-ghost use Rattle.vlog_token.specs.Names.{escape_byte, IsStringValue, name_of, unescaped, without_backslash};
+ghost use Rattle.vlog_token.specs.Names.{escape_byte, IsStringValue, name_of, string_bytes, unescaped, without_backslash};
 ghost use Rattle.vlog_token.specs.Reading.{string_end};
 
 use crate::bytes::is_escape;
@@ -50,7 +50,8 @@ fn without_backslash(text: &str) -> &str
 
 /// The bytes that a string stands for, by its token's text: without its `"`, and each escape as its byte.
 pub fn string_value(alloc: Global, text: &str) -> Result<Vec<u8>, AllocError>
-    ensures { IfOk result (λ v. IsStringValue text.now v.items) }
+    ensures value { IfOk result (λ v. IsStringValue text.now v.items) }
+    ensures bytes { IfOk result (λ v. v.items ≡ string_bytes text.now) }
 {
     match text.as_bytes() {
         [_, body @ ..] => unescape(alloc, body),

@@ -1,0 +1,4 @@
+pub mod Depths
+pub mod Readings
+pub mod OneAnswer
+pub mod Parses

@@ -1,0 +1,4 @@
+pub mod Words
+pub mod Classes
+pub mod Nesting
+pub mod Parsing

@@ -1,0 +1,3 @@
+pub mod Splits
+pub mod Sorts
+pub mod NumberWords

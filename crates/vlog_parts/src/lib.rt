@@ -1,0 +1,26 @@
+//! What the parts of a Verilog text mean, on the way from the steps of a reading to trees.
+//!
+//! The parts of a production stand on a `Stack`, the first part on top. Contracts see a stack as the list of its items,
+//! and a part as plain data.
+#![tactic(auto)]
+
+mod declaration_parts;
+mod expression_parts;
+mod item_parts;
+mod leaves;
+mod module_parts;
+mod stack;
+mod statement_parts;
+mod value;
+
+pub use declaration_parts::{DeclarationValue, OutputNames};
+pub use expression_parts::{BraceEnd, Branches, ExpressionValue, Link, Select, SelectEnd};
+pub use item_parts::ItemValue;
+pub use leaves::{identifier, number, string};
+pub use module_parts::{
+    ModuleValue, MoreParameters, MorePorts, OutputPorts, ParameterPort, no_more_parameters,
+    no_more_ports, no_ports,
+};
+pub use stack::Stack;
+pub use statement_parts::{AssignmentSign, CaseKeyword, StatementValue};
+pub use value::{NO_SPAN, Parts, Value};

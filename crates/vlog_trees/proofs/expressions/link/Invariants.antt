@@ -1,0 +1,10 @@
+use Rattle.std.proofs.Common.{◌≡◌, length}
+use Rattle.vlog_parts.specs.Values.{first, rest, second, span_of, expr_of}
+use Rattle.vlog_trees.specs.Expressions.{linked}
+use Rattle.vlog_trees.proofs.expressions.link.Given as goal
+
+abbrev pub invariant-loop-right : goal.invariant-loop-right
+invariant-loop-right l = linked l.span l.fn.operator l.right l.parts ≡ linked (span_of (first l.fn.parts)) l.fn.operator (expr_of (second l.fn.parts)) (rest (rest l.fn.parts))
+
+abbrev pub decreases-loop-right : goal.decreases-loop-right
+decreases-loop-right l = length l.parts

@@ -1,0 +1,10 @@
+use Rattle.std.proofs.Common.{◌≡◌, length}
+use Rattle.vlog_trees.specs.Expressions.{operated}
+use Rattle.vlog_parts.specs.Values.{first, rest, expr_of}
+use Rattle.vlog_trees.proofs.expressions.operated.Given as goal
+
+abbrev pub invariant-loop-value : goal.invariant-loop-value
+invariant-loop-value l = operated l.operand l.parts ≡ operated (expr_of (first l.fn.parts)) (rest l.fn.parts)
+
+abbrev pub decreases-loop-value : goal.decreases-loop-value
+decreases-loop-value l = length l.parts
