@@ -6,7 +6,7 @@ use std::alloc::Global;
 use std::test::Fail;
 use vlog_expand::ParseError;
 use vlog_syntax::{Feature, Module};
-use vlog_token::tokens;
+use vlog_token::{Token, tokens};
 
 const END: Span = Span {
     file: 0,
@@ -14,10 +14,20 @@ const END: Span = Span {
     col: 1,
 };
 
+/// The length from which on a text is not cut into tokens.
+const TOO_LONG: usize = 1 << 31;
+
+/// The tokens of a text.
+fn tokens_of<'a>(alloc: Global, text: &'a str) -> Option<Vec<Token<'a>>> {
+    if text.len() < TOO_LONG {
+        tokens(alloc, 0, text).ok()
+    } else {
+        None
+    }
+}
+
 fn read_modules(alloc: Global, text: &str) -> Result<Result<Vec<Module>, ParseError>, Fail> {
-    let all = tokens(alloc, 0, text)
-        .ok()
-        .ok_or("its tokens are Verilog's")?;
+    let all = tokens_of(alloc, text).ok_or("its tokens are Verilog's")?;
     Ok(parse(alloc, all.as_slice(), END))
 }
 
