@@ -1,35 +1,76 @@
 #!/bin/bash
-# Drives the built program on real files: campaigns that are stopped and killed at random moments and go on until they
-# are finished, and databases that are none. Ends with the line 'N passed, M failed'.
+# Drives the built program on real files: each exit status with its lines and the files that it touches, campaigns that are
+# stopped and killed at random moments and go on until they are finished, and databases that are none. Then the script
+# `mcy` with a build that is none. Ends with the line 'N passed, M failed'.
 #
-# usage: tests/real.sh [CAMPAIGNS [SEED]]
+# usage: tests/real.sh [--program FILE] [CAMPAIGNS [SEED]]
 #
-# CAMPAIGNS is how many campaigns are killed and gone on with, 200 where it is left out. SEED begins the random moments;
-# it is printed, so that a run can be made again, though not its moments on the machine.
+# FILE is the program, which is taken as it is; without it the script `mcy` builds one. CAMPAIGNS is how many campaigns are
+# killed and gone on with, 200 where it is left out. SEED begins the random moments; it is printed, so that a run can be
+# made again, though not its moments on the machine.
 set -u
 root=$(cd "$(dirname "$0")/.." && pwd) || exit 1
+program=
+if [ "${1:-}" = --program ]; then
+    program=$(realpath "${2:?}") || exit 1
+    shift 2
+fi
 campaigns=${1:-200}
 seed=${2:-$RANDOM}
 RANDOM=$seed
 room=$(mktemp -d) || exit 1
 trap 'rm -rf "$room"' EXIT
+chmod 755 "$room"
 passed=0
 failed=0
 
-# One case: its name, and whether it is as it should be.
+# One case: whether it is as it should be, the status of the command before, and its name. The status stands first, since
+# a name may run commands of its own.
 case_is() {
-    if [ "$2" = 0 ]; then
+    if [ "$1" = 0 ]; then
         passed=$((passed + 1))
     else
         failed=$((failed + 1))
-        echo "FAILED: $1"
+        echo "FAILED: $2"
     fi
 }
+
+# Whether there is this tool; what is skipped without it is said.
+has_tool() {
+    command -v "$1" >/dev/null && return 0
+    echo "skipped: there is no $1, so $2"
+    return 1
+}
+has_shell=0
+has_tool sqlite3 "no database is looked at with the stock shell" && has_shell=1
+# Root may read and write every file, so where this is root the calls below are made as nobody.
+as_user=()
+may_be_refused=1
+if [ "$(id -u)" = 0 ]; then
+    if has_tool setpriv "no file is one that may not be read or written"; then
+        as_user=(setpriv --reuid 65534 --regid 65534 --clear-groups)
+    else
+        may_be_refused=0
+    fi
+fi
+
+if [ -z "$program" ]; then
+    (cd "$room" && "$root/mcy" >/dev/null 2>"$room/build")
+    if [ $? != 2 ]; then
+        cat "$room/build" >&2
+        exit 1
+    fi
+    program=$root/out/mcy
+fi
+# Nobody may not come to where it stands.
+cp "$program" "$room/mcy" && chmod 755 "$room/mcy" || exit 1
+mcy=$room/mcy
 
 # A new folder with a campaign of nine mutations over eight inputs, and no database.
 new_folder() {
     rm -rf "$room/here"
     mkdir "$room/here" && cd "$room/here" || exit 1
+    chmod 777 .
     cp "$root/examples/and_gate/config.mcy" .
     cat >g.v <<'SOURCE'
 module g(input a, input b, input c, input d, input e, input f, input h, input k, output y);
@@ -40,42 +81,121 @@ endmodule
 SOURCE
 }
 
+# The files of the folder, each with the sum of its bytes or its kind.
+listing() {
+    find . -mindepth 1 \( -type f -exec sha256sum {} + -o -printf '%y %p\n' \) | sort -k 2
+}
+
+# A call with these words ends with this status and these lines on standard error, and writes this text.
+ends() {
+    status=$1 text=$2 lines=$3
+    shift 3
+    "${as_user[@]}" timeout 60 "$mcy" "$@" >"$room/text" 2>"$room/lines" </dev/null
+    [ $? = "$status" ] && [ "$(cat "$room/text")" = "$text" ] && [ "$(cat "$room/lines")" = "$lines" ]
+    case_is $? "status $status of 'mcy $*', not: $(cat "$room/lines")"
+}
+
+# A call with these words is refused with this status and these lines. It writes no text, and makes and changes no file but
+# these. Each opening of a database begins its log anew, so its bytes change.
+refuses() {
+    status=$1 lines=$2 made=$3
+    shift 3
+    listing >"$room/before"
+    ends "$status" "" "$lines" "$@"
+    listing >"$room/after"
+    touched=$(diff "$room/before" "$room/after" | sed -n 's/^[<>].* //p' | sort -u | tr '\n' ' ')
+    [ "$touched" = "$made" ]
+    case_is $? "status $status of 'mcy $*' touches '$made', and not: $touched"
+}
+
+usage='mcy: usage: mcy init | run [--stop-after N] | status'
+finished='Mutations: 9
+Finished: 9
+Test same: PASS 0 FAIL 9 UNKNOWN 0
+Tag CHANGED: 9
+Tag NOCHANGE: 0
+Asserts: 0
+Unexpected: 0'
+begun='Mutations: 9
+Finished: 1
+Test same: PASS 0 FAIL 1 UNKNOWN 0
+Tag CHANGED: 1
+Tag NOCHANGE: 0
+Asserts: 0
+Unexpected: 0'
+
+# Each status that the program has, as README.md lists them, in their order.
+new_folder
+ends 0 "$(printf 'Sites: 9\nMutations: 9')" "" init
+[ "$(ls | tr '\n' ' ')" = "config.mcy g.v mcy.db mcy.db-wal " ]
+case_is $? "the database is mcy.db, and its log mcy.db-wal: $(ls | tr '\n' ' ')"
+ends 1 "$begun" "" run --stop-after 1
+ends 0 "$finished" "" run
+ends 0 "$finished" "" status
+refuses 9 "mcy: campaign already begun" "./mcy.db-wal " init
+new_folder
+refuses 2 "$usage" ""
+refuses 2 "$usage" "" list
+refuses 2 "$usage" "" run --stop-after 0
+refuses 2 "$usage" "" $'st\xe9tus'
+{
+    echo 'module g(input a, input b, input c, input d, input e, input f, input h, input k, input m, output y);'
+    echo '  assign y = a & m;'
+    echo 'endmodule'
+} >g.v
+refuses 5 "mcy: TooMany FreeBits" "" run
+rm g.v
+refuses 6 "mcy: g.v: missing" "" run
+rm config.mcy
+refuses 6 "mcy: config.mcy: missing" "" status
+head -c 1048577 /dev/zero >config.mcy
+refuses 7 "mcy: config.mcy: too large" "" run
+head -c 1048576 /dev/zero >config.mcy
+refuses 99 "mcy: not built" "" run
+rm config.mcy && mkdir config.mcy
+refuses 11 "mcy: config.mcy: read fault" "" init
+rmdir config.mcy && ln -s /dev/zero config.mcy
+refuses 11 "mcy: config.mcy: read fault" "" run
+if has_tool mkfifo "no file is a FIFO"; then
+    rm config.mcy && mkfifo config.mcy && chmod 666 config.mcy
+    refuses 11 "mcy: config.mcy: read fault" "" run
+fi
+new_folder
+if [ "$may_be_refused" = 1 ]; then
+    chmod 200 g.v
+    refuses 11 "mcy: g.v: read fault" "" run
+fi
+new_folder
+refuses 8 "mcy: no campaign" "./mcy.db ./mcy.db-wal " status
+refuses 8 "mcy: no campaign" "./mcy.db-wal " status
+ends 0 "$finished" "" run
+cp g.v was.v
+echo "// a line more" >>g.v
+refuses 99 "mcy: not built" "" run
+sed 's/w ^ d/w \& d/' was.v >g.v
+refuses 10 "mcy: database: meta 2" "./mcy.db-wal " run
+cp was.v g.v
+"${as_user[@]}" "$mcy" status >/dev/full 2>"$room/lines"
+[ $? = 13 ] && [ "$(cat "$room/lines")" = "mcy: write fault" ]
+case_is $? "status 13 where standard output is full: $(cat "$room/lines")"
+ends 0 "$finished" "" status
+
 # The rows of the database, by the stock shell, as `seq mutation test word mark tags` in the order of seq.
 rows() {
     sqlite3 -separator ' ' mcy.db 'SELECT seq, mutation, test, word, mark, tags FROM journal ORDER BY seq'
 }
 
-# The program, without the script that builds it: built once, here.
-(cd "$room" && "$root/mcy" >/dev/null 2>"$room/build")
-mcy=$root/crates/mcy/out/mcy
-if [ ! -x "$mcy" ]; then
-    cat "$room/build" >&2
-    exit 1
-fi
-has_shell=1
-command -v sqlite3 >/dev/null || has_shell=0
-[ "$has_shell" = 1 ] || echo "skipped: there is no sqlite3, so no database is looked at with the stock shell"
-
-# What a campaign gives that nothing disturbs.
-new_folder
-whole=$("$mcy" run)
-case_is "an undisturbed run is done" $?
 if [ "$has_shell" = 1 ]; then
     wanted=$(rows)
     [ "$(echo "$wanted" | wc -l)" = 9 ]
-    case_is "an undisturbed run has nine rows" $?
+    case_is $? "a run has nine rows"
     [ "$(sqlite3 mcy.db 'PRAGMA integrity_check')" = ok ]
-    case_is "the stock shell finds the database sound" $?
+    case_is $? "the stock shell finds the database sound"
     [ "$(sqlite3 mcy.db '.tables' | tr -s ' \n' ' ')" = "journal meta mutations " ]
-    case_is "the database has three tables" $?
+    case_is $? "the database has three tables"
     [ "$(sqlite3 mcy.db 'SELECT body FROM meta WHERE item = 0')" = 1 ]
-    case_is "item 0 of meta is the format's number" $?
+    case_is $? "item 0 of meta is the format's number"
 fi
-[ "$("$mcy" status)" = "$whole" ]
-case_is "the status is the text of the run" $?
-"$mcy" init 2>line
-[ $? = 9 ] && [ "$(cat line)" = "mcy: campaign already begun" ]
-case_is "a second init is refused" $?
 
 # One call, killed after a random time of up to 25 milliseconds unless it ends before. It has let go of its files when
 # this returns.
@@ -101,67 +221,105 @@ for _ in $(seq "$campaigns"); do
             3) killed_call status ;;
         esac
     done
-    text=$("$mcy" run 2>line)
-    [ "$text" = "$whole" ] && texts=$((texts + 1))
+    text=$("$mcy" run 2>"$room/lines")
+    [ "$text" = "$finished" ] && texts=$((texts + 1))
     if [ "$has_shell" = 1 ]; then
         [ "$(sqlite3 mcy.db 'PRAGMA integrity_check')" = ok ] && [ "$(rows)" = "$wanted" ] && books=$((books + 1))
     fi
 done
-echo "$campaigns campaigns with $kills kills, begun with the number $seed"
+[ "$campaigns" = 0 ] || echo "$campaigns campaigns with $kills kills, begun with the number $seed"
 [ "$texts" = "$campaigns" ]
-case_is "each killed campaign ends with the undisturbed text ($texts of $campaigns)" $?
+case_is $? "each killed campaign ends with the undisturbed text ($texts of $campaigns)"
 if [ "$has_shell" = 1 ]; then
     [ "$books" = "$campaigns" ]
-    case_is "each killed campaign has the undisturbed rows in a sound database ($books of $campaigns)" $?
+    case_is $? "each killed campaign has the undisturbed rows in a sound database ($books of $campaigns)"
 fi
 
-# A database that is none: the answer, and that its bytes stay. The command runs as nobody where this is root, since root
-# may write to every file.
-as_user() {
-    if [ "$(id -u)" = 0 ]; then
-        chmod 755 "$room" && chmod 777 "$room/here" && setpriv --reuid 65534 --regid 65534 --clear-groups "$@"
-    else
-        "$@"
-    fi
-}
-cp "$mcy" "$room/mcy" && chmod 755 "$room/mcy"
-refused() {
-    name=$1
-    status=$2
-    wanted_line=$3
-    before=$(cat mcy.db 2>/dev/null | sha256sum)
-    as_user "$room/mcy" run >text 2>line
-    [ $? = "$status" ] && [ ! -s text ] && [ "$(cat line)" = "$wanted_line" ]
-    case_is "$name is refused: $(cat line)" $?
-    [ "$(cat mcy.db 2>/dev/null | sha256sum)" = "$before" ]
-    case_is "$name stays as it was" $?
-}
-# The files that `refused` writes are made beforehand, so that they may be written to.
-bad_folder() {
+# A folder with the database of a finished campaign, to which others may write.
+finished_folder() {
     new_folder
-    : >text
-    : >line
-    chmod 666 text line
+    "$mcy" run >/dev/null
+    chmod 666 mcy.db*
 }
-bad_folder && mkdir mcy.db
-refused "a folder" 12 "mcy: database fault"
-bad_folder && printf 'This is a text and no database, and it is longer than a page would be.\n' >mcy.db && chmod 666 mcy.db
-refused "a text" 12 "mcy: database fault"
-bad_folder && "$mcy" run >/dev/null && chmod 444 mcy.db*
-refused "a read-only database" 12 "mcy: database fault"
-bad_folder && "$mcy" run >/dev/null && head -c 5000 mcy.db >short && mv short mcy.db && rm -f mcy.db-wal && chmod 666 mcy.db
-refused "a truncated database" 12 "mcy: database fault"
-if [ "$has_shell" = 1 ]; then
-    bad_folder && sqlite3 mcy.db 'CREATE TABLE note(id INTEGER PRIMARY KEY, text TEXT)' && chmod 666 mcy.db
-    refused "another program's database" 12 "mcy: database fault"
-    bad_folder && "$mcy" run >/dev/null && sqlite3 mcy.db "UPDATE journal SET word = 9 WHERE seq = 0" && chmod 666 mcy.db*
-    refused "a database with a false row" 10 "mcy: database: row 0"
-    bad_folder && "$mcy" run >/dev/null && sqlite3 mcy.db "DELETE FROM meta WHERE item = 1" && chmod 666 mcy.db*
-    refused "a database with a gap" 12 "mcy: database fault"
+
+# Databases that are none.
+fault='mcy: database fault'
+no_book="$fault
+mcy: mcy.db: another program's, or damaged"
+no_access="$fault
+mcy: mcy.db: cannot be read or written"
+locked="$fault
+mcy: mcy.db: locked"
+new_folder && mkdir mcy.db
+refuses 12 "$no_access" "" run
+new_folder && printf 'This is a text and no database, and it is longer than a page would be.\n' >mcy.db && chmod 666 mcy.db
+refuses 12 "$no_book" "./mcy.db-wal " run
+if [ "$may_be_refused" = 1 ]; then
+    finished_folder && chmod 444 mcy.db*
+    refuses 12 "$no_access" "" run
 fi
-bad_folder && : >mcy.db
-[ "$("$mcy" run)" = "$whole" ]
-case_is "an empty file is a database that has not begun" $?
+finished_folder && head -c 5000 mcy.db >short && mv short mcy.db && rm -f mcy.db-wal && chmod 666 mcy.db
+refuses 12 "$no_book" "./mcy.db-wal " run
+if [ "$has_shell" = 1 ]; then
+    new_folder && sqlite3 mcy.db 'CREATE TABLE note(id INTEGER PRIMARY KEY, text TEXT)' && chmod 666 mcy.db
+    refuses 12 "$no_book" "./mcy.db-wal " run
+    finished_folder && sqlite3 mcy.db "DELETE FROM meta WHERE item = 1" && chmod 666 mcy.db*
+    refuses 12 "$no_book" "./mcy.db-wal " run
+    finished_folder && sqlite3 mcy.db "UPDATE journal SET word = 9 WHERE seq = 0" && chmod 666 mcy.db*
+    refuses 10 "mcy: database: row 0" "./mcy.db-wal " run
+    finished_folder && sqlite3 mcy.db "UPDATE mutations SET place = x'00' WHERE number = 8" && chmod 666 mcy.db*
+    refuses 10 "mcy: database: mutation 8" "./mcy.db-wal " run
+    finished_folder && sqlite3 mcy.db "DELETE FROM meta" && chmod 666 mcy.db*
+    refuses 10 "mcy: database: stray rows" "./mcy.db-wal " run
+    finished_folder
+    coproc SHELL_OF { sqlite3 mcy.db; }
+    echo 'SELECT count(*) FROM journal;' >&"${SHELL_OF[1]}"
+    read -r _ <&"${SHELL_OF[0]}"
+    chmod 666 mcy.db*
+    refuses 12 "$locked" "" run
+    echo '.quit' >&"${SHELL_OF[1]}"
+    wait "$SHELL_OF_PID"
+fi
+new_folder && : >mcy.db && chmod 666 mcy.db
+ends 0 "$finished" "" run
+
+# The script, with a kit that makes programs that are none: it runs through a link, in the caller's folder and with the
+# caller's words; it builds where a source is newer, and a build that fails leaves the program from before.
+repository="$room/a folder"
+mkdir -p "$repository/crates/mcy/src" "$room/links" "$room/bin"
+cp "$root/mcy" "$repository/" && echo "mcy:" >"$repository/crates.txt" && : >"$repository/crates/mcy/src/main.rt"
+ln -s "$repository/mcy" "$room/links/a link"
+cat >"$room/bin/rt" <<'KIT'
+#!/bin/sh
+echo built >>"$BUILDS"
+mkdir -p out
+case $KIT_DOES in
+    nothing) exit 1 ;;
+    half) printf '#!/bin/sh\nexit 3\n' >out/mcy ;;
+    *) printf '#!/bin/sh\n[ $# = 0 ] && exit 2\necho "$PWD: $*"\nexit 9\n' >out/mcy ;;
+esac
+chmod 755 out/mcy
+out/mcy
+KIT
+chmod 755 "$room/bin/rt"
+export BUILDS=$room/builds
+cd "$room/links" || exit 1
+scripted() {
+    text=$(PATH="$room/bin:$PATH" KIT_DOES=$1 "$room/links/a link" status "two words" 2>"$room/lines")
+    [ "$?: $text" = "$2" ] && [ "$(wc -l <"$BUILDS")" = "$3" ]
+    case_is $? "the script with a kit that makes $1, after $3 builds: $text $(cat "$room/lines")"
+}
+scripted nothing "70: " 1
+scripted program "9: $room/links: status two words" 2
+scripted nothing "9: $room/links: status two words" 2
+sleep 0.01
+touch "$repository/crates/mcy/src/main.rt"
+was=$(sha256sum <"$repository/out/mcy")
+scripted nothing "70: " 3
+scripted half "70: " 4
+[ "$(sha256sum <"$repository/out/mcy")" = "$was" ]
+case_is $? "a build that fails leaves the program from before"
+scripted program "9: $room/links: status two words" 5
 
 echo "$passed passed, $failed failed"
 [ "$failed" = 0 ]

@@ -1,5 +1,5 @@
 -- What the statements that make the tables leave.
-use Rattle.std.proofs.Common.{◌≡◌, List, [], refl, sym, ap, subst, ◌∙◌, ℕ, None, false, Ok, Err, Result, OnOk, IsPermutation}
+use Rattle.std.proofs.Common.{◌≡◌, List, [], ◌∷◌, refl, sym, ap, subst, ◌∙◌, ℕ, None, false, Ok, Err, Result, OnOk, IsPermutation}
 use Rattle.std.proofs.lemmas.List.Sorted.{IsPermutation-refl}
 use Rattle.sqlite.specs.Table.{Table}
 use Rattle.sqlite.specs.Schema.{Schema}
@@ -16,7 +16,8 @@ use Rattle.sqlite.specs.State.{State, Writes, ExecutesInside}
 use Rattle.sqlite.proofs.Callers.{IsPlain, command_of, statement_of, runs_as}
 use Rattle.sqlite_tied.specs.Compute.{everything}
 use Rattle.keeper_sqlite.specs.declared.statements.TheConstants.{CREATE_META, CREATE_MUTATIONS, CREATE_JOURNAL}
-use Rattle.keeper_sqlite.specs.Tables.{constraints, no_schema, IsBookSchema}
+use Rattle.keeper_sqlite.specs.Tables.{no_schema, IsBookSchema}
+use Rattle.keeper_sqlite.specs.Format.{format, of_items, of_journal, pair_index}
 use Rattle.keeper_sqlite.specs.Rows.{HoldsBook}
 use Rattle.keeper_sqlite.specs.Creating.{no_table, defined, meta_table, mutations_table, journal_table, schema_of_meta, schema_of_items, schema_of_book, MakesTable}
 use Rattle.keeper_sqlite.specs.Making.{HasCreated}
@@ -43,9 +44,13 @@ reads_journal : Reads schema_of_items CREATE_JOURNAL.now
 unfolding understood everything schema_of_meta schema_of_items meta_table mutations_table
 reads_journal = record { command = refl; statement = refl; plain = (refl, refl) }
 
-book_is : IsBookSchema schema_of_book
+-- the statements define the tables of the format
+format_is : schema_of_book ≡ format
 unfolding everything schema_of_meta schema_of_items schema_of_book meta_table mutations_table journal_table no_table
-book_is = record { meta = constraints meta_table; mutations = constraints mutations_table; journal = constraints journal_table; indexes = schema_of_book.indexes; is = refl }
+format_is = refl
+
+book_is : IsBookSchema format
+book_is = record { meta = of_items; mutations = of_items; journal = of_journal; indexes = pair_index ∷ []; is = refl }
 
 no_counters : (lacks_sequence schema_of_meta ≡ false) × (lacks_sequence schema_of_items ≡ false) × (lacks_sequence schema_of_book ≡ false)
 unfolding everything schema_of_meta schema_of_items schema_of_book meta_table mutations_table journal_table no_table
@@ -126,9 +131,10 @@ made s a b c x y z =
     let third : c.now.trees 2 ≡ [] = subst (λ t. c.now.trees t ≡ []) next_trees.1 z.empty in
     record {
       was_open = x.was_open;
+      tables = z.schema_is ∙ after_book ∙ format_is;
       shows = record {
         sound = z.sound;
-        tables = subst IsBookSchema (sym (z.schema_is ∙ after_book)) book_is;
+        tables = subst IsBookSchema (sym (z.schema_is ∙ after_book ∙ format_is)) book_is;
         rows = blank_rows c.now.trees (kept.0 ∙ first_kept a.now.trees b.now.trees y.others ∙ x.empty) (kept.1 ∙ second) third;
       };
       committed = z.committed ∙ y.committed ∙ x.committed;

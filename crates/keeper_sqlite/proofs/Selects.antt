@@ -12,7 +12,7 @@ use Rattle.sqlite.specs.Program.{overlay}
 use Rattle.sqlite.specs.Tree.{Trees}
 use Rattle.sqlite.specs.Effect.{Database, IsDatabase}
 use Rattle.sqlite.specs.State.{State, Shown, ShowsRows, IsUnchanged, HasCleanDisk, Survives, CommitsShowing}
-use Rattle.sqlite.specs.Listing.{understood}
+use Rattle.sqlite.specs.Listing.{understood, reads_listing, IsSourceOf}
 use Rattle.sqlite.specs.Clock.{timed}
 use Rattle.sqlite.proofs.StateLemmas.{survives_weaker}
 use Rattle.sqlite.specs.Kind.TheVariants.{Integer, Blob as Bytes_kind}
@@ -20,12 +20,11 @@ use Rattle.sqlite.specs.Ops.{is_null}
 use Rattle.sqlite_schema.specs.declared.schema.Table.{Table}
 use Rattle.sqlite_schema.specs.declared.schema.Constraint.TheVariants.{Datatype, NotNull}
 use Rattle.sqlite_schema.specs.Rules.{is_of, are_typed, are_present, has_computed, Keeps}
-use Rattle.sqlite.proofs.Callers.{reads_as, IsPlain, never_commits}
+use Rattle.sqlite.proofs.Callers.{reads_as, IsPlain, never_commits, unchanged_then}
 use Rattle.mcy_keeper.specs.declared.book.Entry.{Entry}
 use Rattle.keeper_sqlite.specs.Tables.{IsBookSchema, book_schema, rowid_table, key_column, blob_column, meta_columns, mutation_columns, journal_columns}
 use Rattle.sqlite_schema.specs.declared.schema.Column.{Column}
 use Rattle.keeper_sqlite.specs.Rows.{item_row, item_rows, shown_items, entry_row, shown_entry}
-use Rattle.keeper_sqlite.specs.Reading.{AreEntriesOf, AreItemsOf}
 use Rattle.keeper_sqlite.proofs.Texts.{select_entries_text, entries_query, select_entries_is, select_entries_plain, select_entries_listing, items_query, select_meta_text, select_meta_is, select_meta_plain, select_meta_listing, select_mutations_text, select_mutations_is, select_mutations_plain, select_mutations_listing}
 
 -- a stored row of the journal as it is shown, and back
@@ -96,10 +95,10 @@ restored_rows db b sound =
     let present = subst (λ s. Keeps NotNull s db.trees) b.is (sound.obeys.rules NotNull) in
     all_whole (rowid_table (codes "journal") 2 journal_columns b.journal) (db.trees 2) typed.1.1.0 present.1.1.0
 
-holds_entries : (old new : State) (rows : List Row) (b : IsBookSchema old.now.schema) → IsDatabase old.now → Shown select_entries_text [] old new rows → AreEntriesOf (old.now.trees 2) rows
-holds_entries old new rows b sound h entries read =
+holds_entries : (old new : State) (entries : List Entry) (b : IsBookSchema old.now.schema) → IsDatabase old.now → Shown select_entries_text [] old new (map shown_entry entries) → IsPermutation (map entry_row entries) (old.now.trees 2)
+holds_entries old new entries b sound h =
     let same : IsPermutation (map restore (map show (old.now.trees 2))) (map restore (map shown_entry entries)) =
-    IsPermutation-map restore _ _ (subst (λ l. IsPermutation (map show (old.now.trees 2)) l) read (shown_rows old new rows b h)) in
+    IsPermutation-map restore _ _ (shown_rows old new (map shown_entry entries) b h) in
     let stored : IsPermutation (old.now.trees 2) (map entry_row entries) =
     subst (λ l. IsPermutation (old.now.trees 2) l) (restored entries) (subst (λ l. IsPermutation l (map restore (map shown_entry entries))) (restored_rows old.now b sound) same) in
     IsPermutation-sym _ _ stored
@@ -115,6 +114,18 @@ shows_unchanged text old new rows plain h =
 pub ok_unchanged : {T E : Type 0} (items : T → List Row) (text : List ℕ) (old new : State) (r : Result T E) → IsPlain (understood old.now.schema text) → IfOk r (λ rows. Shown text [] old new (items rows)) → OnOk r (IsUnchanged old new)
 ok_unchanged items text old new (Ok rows) plain h = shows_unchanged text old new (items rows) plain h
 ok_unchanged items text old new (Err e) plain h = tt
+
+-- what such a text shows later it shows from the first
+pub shown_from : (text : List ℕ) (first mid new : State) (rows : List Row) → IsPlain (understood first.now.schema text) → IsUnchanged first mid → Shown text [] mid new rows → Shown text [] first new rows
+unfolding Shown
+shown_from text first mid new rows plain same h =
+    let now : mid.now ≡ first.now = same.0.now_is in
+    let is : understood first.now.schema text ≡ Ok h.0 = subst (λ (d : Database). understood d.schema text ≡ Ok h.0) now h.1.is in
+    let bare = subst IsPlain is plain in
+    let full = timed [] h.0.formats h.1.now in
+    let it : ShowsRows mid new text h.0 full rows None = rw bare.0 at h.2 in
+    let from : ShowsRows first new text h.0 full rows None = (it.0, subst (λ (d : Database). IsSourceOf (reads_listing d.schema text) d it.0) now it.1, it.2, unchanged_then first mid new same it.3) in
+    (h.0, record { is = is; whole = h.1.whole; given = h.1.given; now = h.1.now }, subst (ShowsRows first new text h.0 full rows) (sym bare.0) from)
 
 -- a text that only reads commits nothing
 pub commits_nothing : (text : List ℕ) (old new : State) → (HasCleanDisk old → IsPlain (understood old.now.schema text)) → Survives old new (CommitsShowing text [] old) → Survives old new (λ _. ⊥)
@@ -158,28 +169,28 @@ all_whole_items : (key body : List ℕ) (t : Table) (rows : List Row) → AllByR
 all_whole_items key body t [] typed present = refl
 all_whole_items key body t (row ∷ rows) typed present = λ i. whole_item key body row (first _ _ typed.0) present.0 i ∷ all_whole_items key body t rows typed.1 present.1 i
 
-stored_items : (table rows : List Row) (bodies : List (List ℕ)) → map restore (map show_item table) ≡ table → IsPermutation (map show_item table) rows → rows ≡ shown_items 0 bodies → IsPermutation (item_rows 0 bodies) table
-stored_items table rows bodies whole_rows shown read =
-    let same : IsPermutation (map restore (map show_item table)) (map restore (shown_items 0 bodies)) = IsPermutation-map restore _ _ (subst (IsPermutation (map show_item table)) read shown) in
+stored_items : (table : List Row) (bodies : List (List ℕ)) → map restore (map show_item table) ≡ table → IsPermutation (map show_item table) (shown_items 0 bodies) → IsPermutation (item_rows 0 bodies) table
+stored_items table bodies whole_rows shown =
+    let same : IsPermutation (map restore (map show_item table)) (map restore (shown_items 0 bodies)) = IsPermutation-map restore _ _ shown in
     IsPermutation-sym _ _ (subst (IsPermutation table) (restored_items 0 bodies) (subst (λ l. IsPermutation l (map restore (shown_items 0 bodies))) whole_rows same))
 
-holds_meta : (old new : State) (rows : List Row) (b : IsBookSchema old.now.schema) → IsDatabase old.now → Shown select_meta_text [] old new rows → AreItemsOf (old.now.trees 0) rows
-holds_meta old new rows b sound h bodies read =
+holds_meta : (old new : State) (bodies : List (List ℕ)) (b : IsBookSchema old.now.schema) → IsDatabase old.now → Shown select_meta_text [] old new (shown_items 0 bodies) → IsPermutation (item_rows 0 bodies) (old.now.trees 0)
+holds_meta old new bodies b sound h =
     let typed = subst (λ s. Keeps Datatype s old.now.trees) b.is (sound.obeys.rules Datatype) in
     let present = subst (λ s. Keeps NotNull s old.now.trees) b.is (sound.obeys.rules NotNull) in
     let full = all_whole_items (codes "item") (codes "body") (rowid_table (codes "meta") 0 meta_columns b.meta) (old.now.trees 0) typed.0 present.0 in
     let answer = reads_as select_meta_text [] old new _ b.is _ (select_meta_is b.meta b.mutations b.journal b.indexes) (select_meta_plain b.meta b.mutations b.journal b.indexes)
-    (select_meta_listing b.meta b.mutations b.journal b.indexes) rows h in
-    stored_items (old.now.trees 0) rows bodies full (answer_items 0 old.now.trees refl rows (answer.answer Null)) read
+    (select_meta_listing b.meta b.mutations b.journal b.indexes) (shown_items 0 bodies) h in
+    stored_items (old.now.trees 0) bodies full (answer_items 0 old.now.trees refl (shown_items 0 bodies) (answer.answer Null))
 
-holds_mutations : (old new : State) (rows : List Row) (b : IsBookSchema old.now.schema) → IsDatabase old.now → Shown select_mutations_text [] old new rows → AreItemsOf (old.now.trees 1) rows
-holds_mutations old new rows b sound h bodies read =
+holds_mutations : (old new : State) (bodies : List (List ℕ)) (b : IsBookSchema old.now.schema) → IsDatabase old.now → Shown select_mutations_text [] old new (shown_items 0 bodies) → IsPermutation (item_rows 0 bodies) (old.now.trees 1)
+holds_mutations old new bodies b sound h =
     let typed = subst (λ s. Keeps Datatype s old.now.trees) b.is (sound.obeys.rules Datatype) in
     let present = subst (λ s. Keeps NotNull s old.now.trees) b.is (sound.obeys.rules NotNull) in
     let full = all_whole_items (codes "number") (codes "place") (rowid_table (codes "mutations") 1 mutation_columns b.mutations) (old.now.trees 1) typed.1.0 present.1.0 in
     let answer = reads_as select_mutations_text [] old new _ b.is _ (select_mutations_is b.meta b.mutations b.journal b.indexes) (select_mutations_plain b.meta b.mutations b.journal b.indexes)
-    (select_mutations_listing b.meta b.mutations b.journal b.indexes) rows h in
-    stored_items (old.now.trees 1) rows bodies full (answer_items 1 old.now.trees refl rows (answer.answer Null)) read
+    (select_mutations_listing b.meta b.mutations b.journal b.indexes) (shown_items 0 bodies) h in
+    stored_items (old.now.trees 1) bodies full (answer_items 1 old.now.trees refl (shown_items 0 bodies) (answer.answer Null))
 
 pub meta_plain : (old : State) → IsBookSchema old.now.schema → IsPlain (understood old.now.schema select_meta_text)
 meta_plain old b = subst (λ s. IsPlain (understood s select_meta_text)) (sym b.is) (select_meta_plain b.meta b.mutations b.journal b.indexes)
@@ -189,17 +200,17 @@ mutations_plain old b = subst (λ s. IsPlain (understood s select_mutations_text
 
 -- ---- the statements
 
-pub shows_entries : {T E : Type 0} (items : T → List Row) (old new : State) (r : Result T E) (b : IsBookSchema old.now.schema) → (IsTrue old.is_open → IsDatabase old.now) → IfOk r (λ rows. Shown select_entries_text [] old new (items rows))
-    → IfOk r (λ rows. AreEntriesOf (old.now.trees 2) (items rows))
-shows_entries items old new (Ok rows) b sound h = holds_entries old new (items rows) b (sound (shows_unchanged select_entries_text old new (items rows) (entries_plain old b) h).0.was_open) h
-shows_entries items old new (Err e) b sound h = tt
+pub shows_entries : {T E : Type 0} (entries : T → List Entry) (old new : State) (r : Result T E) (b : IsBookSchema old.now.schema) → (IsTrue old.is_open → IsDatabase old.now) → IfOk r (λ found. Shown select_entries_text [] old new (map shown_entry (entries found)))
+    → IfOk r (λ found. IsPermutation (map entry_row (entries found)) (old.now.trees 2))
+shows_entries entries old new (Ok found) b sound h = holds_entries old new (entries found) b (sound (shows_unchanged select_entries_text old new _ (entries_plain old b) h).0.was_open) h
+shows_entries entries old new (Err e) b sound h = tt
 
-pub shows_meta : {T E : Type 0} (items : T → List Row) (old new : State) (r : Result T E) (b : IsBookSchema old.now.schema) → (IsTrue old.is_open → IsDatabase old.now) → IfOk r (λ rows. Shown select_meta_text [] old new (items rows))
-    → IfOk r (λ rows. AreItemsOf (old.now.trees 0) (items rows))
-shows_meta items old new (Ok rows) b sound h = holds_meta old new (items rows) b (sound (shows_unchanged select_meta_text old new (items rows) (meta_plain old b) h).0.was_open) h
+pub shows_meta : {T E : Type 0} (items : T → List (List ℕ)) (old new : State) (r : Result T E) (b : IsBookSchema old.now.schema) → (IsTrue old.is_open → IsDatabase old.now) → IfOk r (λ found. Shown select_meta_text [] old new (shown_items 0 (items found)))
+    → IfOk r (λ found. IsPermutation (item_rows 0 (items found)) (old.now.trees 0))
+shows_meta items old new (Ok found) b sound h = holds_meta old new (items found) b (sound (shows_unchanged select_meta_text old new _ (meta_plain old b) h).0.was_open) h
 shows_meta items old new (Err e) b sound h = tt
 
-pub shows_mutations : {T E : Type 0} (items : T → List Row) (old new : State) (r : Result T E) (b : IsBookSchema old.now.schema) → (IsTrue old.is_open → IsDatabase old.now) → IfOk r (λ rows. Shown select_mutations_text [] old new (items rows))
-    → IfOk r (λ rows. AreItemsOf (old.now.trees 1) (items rows))
-shows_mutations items old new (Ok rows) b sound h = holds_mutations old new (items rows) b (sound (shows_unchanged select_mutations_text old new (items rows) (mutations_plain old b) h).0.was_open) h
+pub shows_mutations : {T E : Type 0} (items : T → List (List ℕ)) (old new : State) (r : Result T E) (b : IsBookSchema old.now.schema) → (IsTrue old.is_open → IsDatabase old.now) → IfOk r (λ found. Shown select_mutations_text [] old new (shown_items 0 (items found)))
+    → IfOk r (λ found. IsPermutation (item_rows 0 (items found)) (old.now.trees 1))
+shows_mutations items old new (Ok found) b sound h = holds_mutations old new (items found) b (sound (shows_unchanged select_mutations_text old new _ (mutations_plain old b) h).0.was_open) h
 shows_mutations items old new (Err e) b sound h = tt

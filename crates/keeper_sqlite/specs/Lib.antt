@@ -1,10 +1,11 @@
 pub mod Tables
+pub mod Format
 pub mod Rows
 pub mod Changes
-pub mod Reading
 pub mod Writing
 pub mod Stands
 pub mod Creating
 pub mod Making
 pub mod Unique
 pub mod Laws
+pub mod Refusals

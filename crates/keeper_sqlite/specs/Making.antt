@@ -1,31 +1,40 @@
 -- What making the tables and loading a book leave.
-use Rattle.std.specs.Prelude.{◌≡◌, ◌⊎◌, IsTrue}
+use Rattle.std.specs.Prelude.{◌≡◌, ◌⊎◌, Option, Some, None, IsTrue}
 use Rattle.sqlite.specs.Tree.{Trees}
 use Rattle.sqlite.specs.Schema.{Schema}
 use Rattle.sqlite.specs.State.{State}
+use Rattle.sqlite.specs.Held.{Held}
 use Rattle.mcy_keeper.specs.Books.{blank}
 use Rattle.keeper_sqlite.specs.Stands.{IsBookOf, StandsFor, IsTold}
-use Rattle.keeper_sqlite.specs.Tables.{IsBookSchema}
+use Rattle.keeper_sqlite.specs.Tables.{IsBookSchema, no_schema}
+use Rattle.keeper_sqlite.specs.Format.{format}
 use Rattle.mcy_keeper.specs.declared.book.Book.{Book}
 
--- the transaction has the tables, and they are empty
+-- the transaction has the tables of the format, and they are empty
 pub record HasCreated (old new : State) : Type 0 where
   pub was_open : IsTrue old.is_open
+  pub tables : new.now.schema ≡ format
   pub shows : IsBookOf new.now.schema new.now.trees blank
   pub committed : new.committed ≡ old.committed
 
 -- the tables are made and committed
 pub record HasMade (old new : State) : Type 0 where
   pub was_open : IsTrue old.is_open
+  pub tables : new.now.schema ≡ format
   pub told : IsTold new blank
 
 -- the trees are those of the three tables with no row
 abbrev pub AreMade : Trees → Type 0
 AreMade trees = (schema : Schema) × IsBookOf schema trees blank
 
+-- The tables are those that were there, or where there was none those of the format.
+abbrev pub FindsTables : Schema → Schema → Type 0
+FindsTables old new = (IsBookSchema old × (new ≡ old)) ⊎ ((old ≡ no_schema) × (new ≡ format))
+
 -- The connection has the tables of a book: it had them, or it had no table and made them.
 pub record IsReady (old new : State) : Type 0 where
   pub tables : IsBookSchema new.now.schema
+  pub found : IsTrue new.is_open → FindsTables old.now.schema new.now.schema
   pub from : (IsTrue new.is_open → IsTrue old.is_open × (new.now ≡ old.now) × (old.committed ≡ old.now)) ⊎ (IsTrue old.is_open × StandsFor old.committed.trees blank × IsTold new blank)
 
 -- what the making of the tables may commit
@@ -36,4 +45,11 @@ MayMake old trees = IsTrue old.is_open × StandsFor old.committed.trees blank ×
 pub record IsLoaded (old new : State) (book : Book) : Type 0 where
   pub was_open : IsTrue old.is_open
   pub stood : StandsFor old.committed.trees book
+  pub tables : FindsTables old.now.schema new.now.schema
   pub told : IsTold new book
+
+-- so it is of a keeper over a connection
+abbrev pub LoadsTables : {S : Type 0} → Option (Held S) → Option (Held S) → Type 0
+LoadsTables None new = ⊥
+LoadsTables (Some old) None = ⊥
+LoadsTables (Some old) (Some new) = FindsTables old.schema new.schema

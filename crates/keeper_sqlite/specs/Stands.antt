@@ -21,6 +21,11 @@ pub record IsBookOf (schema : Schema) (trees : Trees) (book : Book) : Type 0 whe
 abbrev pub StandsFor : Trees → Book → Type 0
 StandsFor trees book = ((schema : Schema) × IsBookOf schema trees book) ⊎ (IsDatabase (record { schema = no_schema; trees = trees }) × (book ≡ blank))
 
+-- the trees stand for this book, or for none
+abbrev pub StandsAs : Trees → Option Book → Type 0
+StandsAs trees None = (book : Book) → ¬ StandsFor trees book
+StandsAs trees (Some book) = StandsFor trees book
+
 -- the connection shows this book, and has committed it
 pub record IsTold (s : State) (book : Book) : Type 0 where
   pub is_open : IsTrue s.is_open
@@ -40,7 +45,7 @@ module _ {S : Type 0} (g : Ghosts S) where
   Holds None settled book = ⊥
   Holds (Some c) settled book = IsTrue settled × HasCleanDisk (state g c) × IsTold (state g c) book
 
-  -- the books of the trees that the store may leave
-  abbrev pub Leaves : Option (Held S) → Book → Type 0
-  Leaves None book = ⊥
-  Leaves (Some c) book = (trees : Trees) × (state g c).may_leave trees × StandsFor trees book
+  -- some trees that the store may leave stand for this book, or for none
+  abbrev pub Leaves : Option (Held S) → Option Book → Type 0
+  Leaves None left = ⊥
+  Leaves (Some c) left = (trees : Trees) × (state g c).may_leave trees × StandsAs trees left

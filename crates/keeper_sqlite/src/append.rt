@@ -1,5 +1,5 @@
 //! Adding an entry at the journal's end: one statement, which outside a transaction is one.
-ghost use Rattle.std.specs.Prelude.{◌≡◌, false, true, OnOk, OnErr, IsErrOf};
+ghost use Rattle.std.specs.Prelude.{◌≡◌, false, true, is_some, OnOk, OnErr, IsErrOf};
 ghost use Rattle.sqlite.specs.Held.{state};
 ghost use Rattle.sqlite.specs.State.{HasCleanDisk, Survives};
 ghost use Rattle.keeper_sqlite.specs.Tables.{IsBookSchema};
@@ -33,6 +33,7 @@ pub(crate) fn append_through<S: Alter>(
     connection: &mut Option<Connection<S>>,
     entry: &Entry,
 ) -> Result<(), Refusal>
+    ensures connected { is_some connection.new ≡ is_some connection.old }
     ensures tells { Tells S.Store connection.new → Tells S.Store connection.old }
     ensures done { Tells S.Store connection.new → OnOk result ((was : Pages) → Holds S.Store connection.old true was → IsNext was entry.now → Keeps (Holds S.Store connection.new true) (Leaves S.Store connection.new) (with_entry was entry.now)) }
     ensures either { Tells S.Store connection.new → OnErr result ((was : Pages) → Holds S.Store connection.old true was → IsNext was entry.now → LeavesEither (Leaves S.Store connection.new) was (with_entry was entry.now)) }

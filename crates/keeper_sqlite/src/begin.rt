@@ -1,5 +1,5 @@
 //! Beginning a book: its two lists of items, written in one transaction.
-ghost use Rattle.std.specs.Prelude.{◌≡◌, true, false, OnOk, OnErr, IsErrOf};
+ghost use Rattle.std.specs.Prelude.{◌≡◌, true, false, is_some, OnOk, OnErr, IsErrOf};
 ghost use Rattle.sqlite.specs.Held.{state};
 ghost use Rattle.sqlite.specs.State.{HasCleanDisk, Survives};
 ghost use Rattle.mcy_keeper.specs.declared.book.Book.{Book as Pages};
@@ -79,6 +79,7 @@ pub(crate) fn begin_through<S: Alter>(
     meta: &BytesList,
     mutations: &BytesList,
 ) -> Result<(), Refusal>
+    ensures connected { is_some connection.new ≡ is_some connection.old }
     ensures tells { Tells S.Store connection.new → Tells S.Store connection.old }
     ensures done { Tells S.Store connection.new → OnOk result ((was : Pages) → Holds S.Store connection.old true was → IsBlank was → Keeps (Holds S.Store connection.new true) (Leaves S.Store connection.new) (begun meta.now mutations.now)) }
     ensures either { Tells S.Store connection.new → OnErr result ((was : Pages) → Holds S.Store connection.old true was → IsBlank was → LeavesEither (Leaves S.Store connection.new) was (begun meta.now mutations.now)) }

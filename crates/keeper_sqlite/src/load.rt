@@ -2,13 +2,13 @@
 //!
 //! A database with no table stands for the empty book, and gets the tables. Any other tables than those of
 //! a book are refused.
-ghost use Rattle.std.specs.Prelude.{◌≡◌, Bool, true, IfOk, OnOk, OnErr};
+ghost use Rattle.std.specs.Prelude.{◌≡◌, Bool, true, Some, is_some, IfOk, OnOk, OnErr};
 ghost use Rattle.sqlite.specs.Held.{state};
 ghost use Rattle.sqlite.specs.State.{HasCleanDisk, Survives};
 ghost use Rattle.mcy_keeper.specs.declared.book.Book.{Book as Pages};
 ghost use Rattle.mcy_keeper.specs.Books.{Keeps, LeavesNothingNew};
 ghost use Rattle.keeper_sqlite.specs.Stands.{Tells, Holds, Leaves};
-ghost use Rattle.keeper_sqlite.specs.Making.{IsReady, MayMake, IsLoaded};
+ghost use Rattle.keeper_sqlite.specs.Making.{IsReady, MayMake, IsLoaded, LoadsTables};
 
 use crate::create::make_tables;
 use crate::read::read_book;
@@ -56,10 +56,12 @@ pub(crate) fn load_through<S: Alter>(
     alloc: Global,
     connection: &mut Option<Connection<S>>,
 ) -> Result<Book, Refusal>
+    ensures connected { is_some connection.new ≡ is_some connection.old }
     ensures tells { Tells S.Store connection.new → Tells S.Store connection.old }
     ensures answer { Tells S.Store connection.new → IfOk result (Keeps (Holds S.Store connection.new true) (Leaves S.Store connection.new)) }
+    ensures tables { Tells S.Store connection.new → OnOk result (LoadsTables connection.old connection.new) }
     ensures same { Tells S.Store connection.new → IfOk result (λ found. (settled : Bool) (was : Pages) → Holds S.Store connection.old settled was → found ≡ was) }
-    ensures allowed { Tells S.Store connection.new → IfOk result (Leaves S.Store connection.old) }
+    ensures allowed { Tells S.Store connection.new → IfOk result (λ found. Leaves S.Store connection.old (Some found)) }
     ensures refused { Tells S.Store connection.new → OnErr result (LeavesNothingNew (Leaves S.Store connection.old) (Leaves S.Store connection.new)) }
 {
     match connection {

@@ -3,13 +3,13 @@
 //! An item is a row of its number and its bytes, and the numbers of a list of items run from 0: a number
 //! that is missing is a refusal. The rows of the journal have rising numbers, and are told as they are.
 //! A number that is no `u32` is a refusal.
-ghost use Rattle.std.specs.Prelude.{◌≡◌, pos, map, IsTrue, IfOk, OnOk, IsPermutation};
+ghost use Rattle.std.specs.Prelude.{◌≡◌, pos, IsTrue, IfOk, OnOk};
 ghost use Rattle.sqlite.specs.declared.types.Value.TheVariants.{Blob, Int};
 ghost use Rattle.sqlite.specs.Order.{column};
 ghost use Rattle.sqlite.specs.Held.{state};
 ghost use Rattle.sqlite.specs.State.{HasCleanDisk, IsUnchanged, Survives};
 ghost use Rattle.keeper_sqlite.specs.Tables.{IsBookSchema};
-ghost use Rattle.keeper_sqlite.specs.Rows.{item_rows, shown_entry, shown_item, shown_items, tree_of, RisesFrom, HoldsBook, HoldsJournal};
+ghost use Rattle.keeper_sqlite.specs.Rows.{shown_entry, shown_item, RisesFrom, HoldsBook, HoldsJournal};
 
 use crate::refusal::Refusal;
 use crate::select::{select_entries, select_items};
@@ -44,7 +44,7 @@ fn bytes_at(row: &Row, at: usize) -> Result<Bytes, Refusal>
 }
 
 /// The item of a row that has this number.
-fn item_of(row: &Row, number: usize) -> Result<Bytes, Refusal>
+pub(crate) fn item_of(row: &Row, number: usize) -> Result<Bytes, Refusal>
     ensures { IfOk result (λ body. row.now ≡ shown_item number body) }
 {
     if row.column_count() != 2 {
@@ -58,19 +58,8 @@ fn item_of(row: &Row, number: usize) -> Result<Bytes, Refusal>
     Ok(body)
 }
 
-/// The items of rows whose numbers run from 0.
-fn items_of(alloc: Global, rows: &[Row]) -> Result<Vec<Bytes>, Refusal>
-    ensures { IfOk result (λ items. rows.now ≡ shown_items 0 items.items) }
-{
-    let mut items = Vec::new(alloc);
-    for row in rows {
-        let item = item_of(row, items.len())?;
-        items.push(item)?;
-    }
-    Ok(items)
-}
-
-fn entry_of(row: &Row) -> Result<Entry, Refusal>
+/// The entry of a row.
+pub(crate) fn entry_of(row: &Row) -> Result<Entry, Refusal>
     ensures { IfOk result (λ e. row.now ≡ shown_entry e) }
 {
     if row.column_count() != 6 {
@@ -92,16 +81,6 @@ fn entry_of(row: &Row) -> Result<Entry, Refusal>
     })
 }
 
-fn entries_of(alloc: Global, rows: &[Row]) -> Result<Vec<Entry>, Refusal>
-    ensures { IfOk result (λ entries. rows.now ≡ map shown_entry entries.items) }
-{
-    let mut entries = Vec::new(alloc);
-    for row in rows {
-        entries.push(entry_of(row)?)?;
-    }
-    Ok(entries)
-}
-
 /// Whether each number is greater than the one before.
 fn is_rising(entries: &[Entry]) -> bool
     ensures { IsTrue result → RisesFrom 0 entries.now }
@@ -121,22 +100,6 @@ fn is_rising(entries: &[Entry]) -> bool
     true
 }
 
-/// Reads a table of items.
-fn read_items<S: Alter>(
-    alloc: Global,
-    connection: &mut Connection<S>,
-    table: ItemTable,
-) -> Result<Vec<Bytes>, Refusal>
-    requires { HasCleanDisk (state S.Store connection.old) → IsBookSchema (state S.Store connection.old).now.schema }
-    ensures found { HasCleanDisk (state S.Store connection.new) → IfOk result (λ items. IsPermutation (item_rows 0 items.items) ((state S.Store connection.old).now.trees (tree_of table))) }
-    ensures same { HasCleanDisk (state S.Store connection.new) → OnOk result (IsUnchanged (state S.Store connection.old) (state S.Store connection.new)) }
-    ensures crash { Survives (state S.Store connection.old) (state S.Store connection.new) (λ _. ⊥) }
-{
-    let rows = select_items(connection, table)?;
-    let items = items_of(alloc, rows.as_slice())?;
-    Ok(items)
-}
-
 /// Reads the journal.
 fn read_entries<S: Alter>(
     alloc: Global,
@@ -147,8 +110,7 @@ fn read_entries<S: Alter>(
     ensures same { HasCleanDisk (state S.Store connection.new) → OnOk result (IsUnchanged (state S.Store connection.old) (state S.Store connection.new)) }
     ensures crash { Survives (state S.Store connection.old) (state S.Store connection.new) (λ _. ⊥) }
 {
-    let rows = select_entries(connection)?;
-    let entries = entries_of(alloc, rows.as_slice())?;
+    let entries = select_entries(alloc, connection)?;
     if !is_rising(entries.as_slice()) {
         return Err(Refusal::Database);
     }
@@ -165,8 +127,8 @@ pub(crate) fn read_book<S: Alter>(
     ensures same { HasCleanDisk (state S.Store connection.new) → OnOk result (IsUnchanged (state S.Store connection.old) (state S.Store connection.new)) }
     ensures crash { Survives (state S.Store connection.old) (state S.Store connection.new) (λ _. ⊥) }
 {
-    let meta = read_items(alloc, connection, ItemTable::Meta)?;
-    let mutations = read_items(alloc, connection, ItemTable::Mutations)?;
+    let meta = select_items(alloc, connection, ItemTable::Meta)?;
+    let mutations = select_items(alloc, connection, ItemTable::Mutations)?;
     let entries = read_entries(alloc, connection)?;
     Ok(Book {
         meta: BytesList::from_vec(meta),

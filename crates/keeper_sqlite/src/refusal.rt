@@ -7,6 +7,7 @@ ghost use Rattle.std.specs.Prelude.{◌≡◌};
 ghost use Rattle.sqlite.specs.Held.{state};
 ghost use Rattle.sqlite.specs.State.{HasCleanDisk, IsUnchanged, Survives};
 ghost use Rattle.keeper_sqlite.specs.declared.refusal.Refusal.TheVariants.{Memory as NoMemory};
+ghost use Rattle.keeper_sqlite.specs.Refusals.{refusal_of};
 
 use crate::statements::PROBE;
 use sqlite::{Alter, Connection, Error, ErrorCode};
@@ -21,6 +22,8 @@ pub(crate) enum Refusal {
 }
 
 impl From<Error> for Refusal {
+    ghost from_gives = { λ error refusal. refusal ≡ refusal_of error };
+
     fn from(error: Error) -> Refusal {
         match error {
             Error::SqliteFailure(ErrorCode::OutOfMemory) => Refusal::Memory,
@@ -47,6 +50,7 @@ impl<T: Drop> From<AllocFailed<T>> for Refusal {
 
 /// The refusal of a write. It is want of memory only where the connection is still open.
 pub(crate) fn probed<S: Alter>(connection: &mut Connection<S>, refusal: Refusal) -> Refusal
+    ensures memory { result ≡ Refusal.Memory → refusal ≡ Refusal.Memory }
     ensures same { HasCleanDisk (state S.Store connection.new) → result ≡ Refusal.Memory → IsUnchanged (state S.Store connection.old) (state S.Store connection.new) }
     ensures crash { Survives (state S.Store connection.old) (state S.Store connection.new) (λ _. ⊥) }
 {

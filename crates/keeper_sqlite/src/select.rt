@@ -1,63 +1,126 @@
 //! The statements that read one table each, its rows in the order of their keys.
 //!
-//! No contract of `sqlite` hands out that order. So these functions say that the rows are those of the table
-//! in some order, and `read` tests the order.
-ghost use Rattle.std.specs.Prelude.{IfOk, OnOk};
+//! Rows come one at a time, and each is let go before the next is read, so that a table is in memory once.
+//! No contract of `sqlite` hands out the order of the rows. So these functions say that the rows are those
+//! of the table in some order: an item says its number, and `read` tests the order of the entries.
+ghost use Rattle.std.specs.Prelude.{[], map, IfOk, OnOk, IsPermutation};
 ghost use Rattle.sqlite.specs.Held.{state};
-ghost use Rattle.sqlite.specs.State.{HasCleanDisk, IsUnchanged, Survives};
+ghost use Rattle.sqlite.specs.Given.{IsPlain};
+ghost use Rattle.sqlite.specs.Listing.{understood};
+ghost use Rattle.sqlite.specs.State.{HasCleanDisk, IsUnchanged, Shown, Survives};
 ghost use Rattle.keeper_sqlite.specs.Tables.{IsBookSchema};
-ghost use Rattle.keeper_sqlite.specs.Rows.{tree_of};
-ghost use Rattle.keeper_sqlite.specs.Reading.{AreItemsOf, AreEntriesOf};
+ghost use Rattle.keeper_sqlite.specs.Rows.{entry_row, item_rows, shown_entry, shown_items, tree_of};
 
-use crate::read::ItemTable;
+use crate::read::{ItemTable, entry_of, item_of};
+use crate::refusal::Refusal;
 use crate::statements::{SELECT_JOURNAL, SELECT_META, SELECT_MUTATIONS};
-use sqlite::{Alter, Connection, Error, Row};
+use mcy_base::Bytes;
+use mcy_keeper::Entry;
+use sqlite::{Alter, Connection};
+use std::alloc::Global;
 
-/// Reads the rows of `meta`.
-fn select_meta<S: Alter>(connection: &mut Connection<S>) -> Result<Vec<Row>, Error>
+/// A table has at most as many rows as there are numbers in a `u32`.
+const MOST_ROWS: usize = 1 << 32;
+
+/// The items that a text shows, whose numbers run from 0.
+fn show_items<S: Alter>(
+    alloc: Global,
+    connection: &mut Connection<S>,
+    sql: &str,
+) -> Result<Vec<Bytes>, Refusal>
+    requires { HasCleanDisk (state S.Store connection.old) → IsPlain (understood (state S.Store connection.old).now.schema sql.now) }
+    ensures shown { HasCleanDisk (state S.Store connection.new) → IfOk result (λ items. Shown sql.now [] (state S.Store connection.old) (state S.Store connection.new) (shown_items 0 items.items)) }
+    ensures crash { Survives (state S.Store connection.old) (state S.Store connection.new) (λ _. ⊥) }
+{
+    let mut items = Vec::new(alloc);
+    let mut rows = connection.query(sql, &[])?;
+    'rows: for number in 0..MOST_ROWS {
+        let Some(row) = rows.next()? else {
+            return Ok(items);
+        };
+        let item = item_of(row, number)?;
+        items.push(item)?;
+    }
+    Err(Refusal::Database)
+}
+
+/// The entries that a text shows.
+fn show_entries<S: Alter>(
+    alloc: Global,
+    connection: &mut Connection<S>,
+    sql: &str,
+) -> Result<Vec<Entry>, Refusal>
+    requires { HasCleanDisk (state S.Store connection.old) → IsPlain (understood (state S.Store connection.old).now.schema sql.now) }
+    ensures shown { HasCleanDisk (state S.Store connection.new) → IfOk result (λ entries. Shown sql.now [] (state S.Store connection.old) (state S.Store connection.new) (map shown_entry entries.items)) }
+    ensures crash { Survives (state S.Store connection.old) (state S.Store connection.new) (λ _. ⊥) }
+{
+    let mut entries = Vec::new(alloc);
+    let mut rows = connection.query(sql, &[])?;
+    'rows: for _ in 0..MOST_ROWS {
+        let Some(row) = rows.next()? else {
+            return Ok(entries);
+        };
+        let entry = entry_of(row)?;
+        entries.push(entry)?;
+    }
+    Err(Refusal::Database)
+}
+
+/// Reads the items of `meta`.
+fn select_meta<S: Alter>(
+    alloc: Global,
+    connection: &mut Connection<S>,
+) -> Result<Vec<Bytes>, Refusal>
     requires { HasCleanDisk (state S.Store connection.old) → IsBookSchema (state S.Store connection.old).now.schema }
-    ensures rows { HasCleanDisk (state S.Store connection.new) → IfOk result (λ rows. AreItemsOf ((state S.Store connection.old).now.trees 0) rows.items) }
+    ensures found { HasCleanDisk (state S.Store connection.new) → IfOk result (λ items. IsPermutation (item_rows 0 items.items) ((state S.Store connection.old).now.trees 0)) }
     ensures same { HasCleanDisk (state S.Store connection.new) → OnOk result (IsUnchanged (state S.Store connection.old) (state S.Store connection.new)) }
     ensures crash { Survives (state S.Store connection.old) (state S.Store connection.new) (λ _. ⊥) }
 {
     let _sound = connection.schema();
-    connection.query_all(SELECT_META, &[])
+    show_items(alloc, connection, SELECT_META)
 }
 
-/// Reads the rows of `mutations`.
-fn select_mutations<S: Alter>(connection: &mut Connection<S>) -> Result<Vec<Row>, Error>
+/// Reads the places of the mutations.
+fn select_mutations<S: Alter>(
+    alloc: Global,
+    connection: &mut Connection<S>,
+) -> Result<Vec<Bytes>, Refusal>
     requires { HasCleanDisk (state S.Store connection.old) → IsBookSchema (state S.Store connection.old).now.schema }
-    ensures rows { HasCleanDisk (state S.Store connection.new) → IfOk result (λ rows. AreItemsOf ((state S.Store connection.old).now.trees 1) rows.items) }
+    ensures found { HasCleanDisk (state S.Store connection.new) → IfOk result (λ items. IsPermutation (item_rows 0 items.items) ((state S.Store connection.old).now.trees 1)) }
     ensures same { HasCleanDisk (state S.Store connection.new) → OnOk result (IsUnchanged (state S.Store connection.old) (state S.Store connection.new)) }
     ensures crash { Survives (state S.Store connection.old) (state S.Store connection.new) (λ _. ⊥) }
 {
     let _sound = connection.schema();
-    connection.query_all(SELECT_MUTATIONS, &[])
+    show_items(alloc, connection, SELECT_MUTATIONS)
 }
 
-/// Reads the rows of a table of items.
+/// Reads a table of items.
 pub(crate) fn select_items<S: Alter>(
+    alloc: Global,
     connection: &mut Connection<S>,
     table: ItemTable,
-) -> Result<Vec<Row>, Error>
+) -> Result<Vec<Bytes>, Refusal>
     requires { HasCleanDisk (state S.Store connection.old) → IsBookSchema (state S.Store connection.old).now.schema }
-    ensures rows { HasCleanDisk (state S.Store connection.new) → IfOk result (λ rows. AreItemsOf ((state S.Store connection.old).now.trees (tree_of table)) rows.items) }
+    ensures found { HasCleanDisk (state S.Store connection.new) → IfOk result (λ items. IsPermutation (item_rows 0 items.items) ((state S.Store connection.old).now.trees (tree_of table))) }
     ensures same { HasCleanDisk (state S.Store connection.new) → OnOk result (IsUnchanged (state S.Store connection.old) (state S.Store connection.new)) }
     ensures crash { Survives (state S.Store connection.old) (state S.Store connection.new) (λ _. ⊥) }
 {
     match table {
-        ItemTable::Meta => select_meta(connection),
-        ItemTable::Mutations => select_mutations(connection),
+        ItemTable::Meta => select_meta(alloc, connection),
+        ItemTable::Mutations => select_mutations(alloc, connection),
     }
 }
 
-/// Reads the rows of `journal`.
-pub(crate) fn select_entries<S: Alter>(connection: &mut Connection<S>) -> Result<Vec<Row>, Error>
+/// Reads the entries of `journal`.
+pub(crate) fn select_entries<S: Alter>(
+    alloc: Global,
+    connection: &mut Connection<S>,
+) -> Result<Vec<Entry>, Refusal>
     requires { HasCleanDisk (state S.Store connection.old) → IsBookSchema (state S.Store connection.old).now.schema }
-    ensures rows { HasCleanDisk (state S.Store connection.new) → IfOk result (λ rows. AreEntriesOf ((state S.Store connection.old).now.trees 2) rows.items) }
+    ensures found { HasCleanDisk (state S.Store connection.new) → IfOk result (λ entries. IsPermutation (map entry_row entries.items) ((state S.Store connection.old).now.trees 2)) }
     ensures same { HasCleanDisk (state S.Store connection.new) → OnOk result (IsUnchanged (state S.Store connection.old) (state S.Store connection.new)) }
     ensures crash { Survives (state S.Store connection.old) (state S.Store connection.new) (λ _. ⊥) }
 {
     let _sound = connection.schema();
-    connection.query_all(SELECT_JOURNAL, &[])
+    show_entries(alloc, connection, SELECT_JOURNAL)
 }

@@ -5,10 +5,16 @@
 //! file and the disk returns what was written. The book that it tells is that of the three tables, which
 //! the connection shows and has committed; it is told only while the keeper is settled. `faults` counts the
 //! calls that answered a fault, and stays at its type's end.
-ghost use Rattle.std.specs.Prelude.{◌≡◌, false, OnOk, IsOk, IsErrOf};
-ghost use Rattle.mcy_base.specs.Causes.{one_more};
+//!
+//! The calls of the keeper have the clauses of `Keeper`, and one more: none lets the connection go, since
+//! over none the clauses on books would say nothing.
+ghost use Rattle.std.specs.Prelude.{◌≡◌, ◌≢◌, [], true, false, Ok, Some, is_some, IsTrue, IfOk, OnOk, OnErr, IsOk, IsErrOf};
+ghost use Rattle.mcy_base.specs.Causes.{one_more, IsCaused};
+ghost use Rattle.mcy_keeper.specs.declared.book.Book.{Book as Pages};
+ghost use Rattle.mcy_keeper.specs.Books.{begun, with_entry, IsBlank, IsNext, Keeps, LeavesEither, LeavesNothingNew, TellsNone, TellsStill};
 ghost use Rattle.keeper_sqlite.specs.Stands.{Tells, Holds, Leaves};
-ghost use Rattle.keeper_sqlite.specs.Laws.{holds_one, holds_tells};
+ghost use Rattle.keeper_sqlite.specs.Making.{LoadsTables};
+ghost use Rattle.keeper_sqlite.specs.Laws.{holds_one, holds_tells, leaves_some};
 
 use crate::append::append_through;
 use crate::begin::begin_through;
@@ -58,6 +64,25 @@ impl<S: Alter> SqlKeeper<S> {
         self.faults = self.faults.saturating_add(1);
     }
 
+    /// The answer of a load, which settles the keeper where it ended well.
+    fn answer_load(&mut self, loaded: Result<Book, Refusal>) -> Result<Book, KeepError>
+        ensures ok { IfOk loaded (λ book. (self.new ≡ record self.old { settled = true }) × (result ≡ Ok book)) }
+        ensures memory { IsErrOf loaded Refusal.Memory → (self.new ≡ self.old) × IsErrOf result KeepError.Memory }
+        ensures fault { IsErrOf loaded Refusal.Database → (self.new ≡ record self.old { faults = one_more self.old.faults }) × IsErrOf result KeepError.Fault }
+    {
+        match loaded {
+            Ok(book) => {
+                self.settled = true;
+                Ok(book)
+            }
+            Err(Refusal::Memory) => Err(KeepError::Memory),
+            Err(Refusal::Database) => {
+                self.count_fault();
+                Err(KeepError::Fault)
+            }
+        }
+    }
+
     /// The answer of a write, which settles the keeper no more where the database failed.
     fn answer_write(&mut self, written: Result<(), Refusal>) -> Result<(), KeepError>
         ensures ok { OnOk written ((self.new ≡ self.old) × IsOk result) }
@@ -91,26 +116,59 @@ impl<S: Alter> Keeper for SqlKeeper<S> {
 
     ghost told = { λ k. holds_tells (record { view = S.Store.view; faults = S.Store.faults; recovers = S.Store.recovers; is_shielded = S.Store.is_shielded; is_step = S.Store.is_step; blamed = S.Store.blamed; names = S.Store.names }) k.connection k.settled };
 
-    fn load(&mut self) -> Result<Book, KeepError> {
-        match load_through(self.alloc, &mut self.connection) {
-            Ok(book) => {
-                self.settled = true;
-                Ok(book)
-            }
-            Err(Refusal::Memory) => Err(KeepError::Memory),
-            Err(Refusal::Database) => {
-                self.count_fault();
-                Err(KeepError::Fault)
-            }
-        }
+    ghost survives = { λ k. leaves_some (record { view = S.Store.view; faults = S.Store.faults; recovers = S.Store.recovers; is_shielded = S.Store.is_shielded; is_step = S.Store.is_step; blamed = S.Store.blamed; names = S.Store.names }) S.Store.survives k.connection };
+
+    fn load(&mut self) -> Result<Book, KeepError>
+        ensures connected { is_some self.new.connection ≡ is_some self.old.connection }
+        ensures tells { Tells S.Store self.new.connection → Tells S.Store self.old.connection }
+        ensures answer { Tells S.Store self.new.connection → IfOk result (Keeps (Holds S.Store self.new.connection self.new.settled) (Leaves S.Store self.new.connection)) }
+        ensures same { Tells S.Store self.new.connection → IfOk result (λ found. (was : Pages) → Holds S.Store self.old.connection self.old.settled was → found ≡ was) }
+        ensures allowed { Tells S.Store self.new.connection → IfOk result (λ found. Leaves S.Store self.old.connection (Some found)) }
+        ensures refused { Tells S.Store self.new.connection → OnErr result (LeavesNothingNew (Leaves S.Store self.old.connection) (Leaves S.Store self.new.connection)) }
+        ensures tables { Tells S.Store self.new.connection → OnOk result (LoadsTables self.old.connection self.new.connection) }
+        ensures settles { OnOk result (IsTrue self.new.settled) }
+        ensures stays { OnErr result (self.new.settled ≡ self.old.settled) }
+        ensures cause { IsCaused self.old.faults self.new.faults (IsErrOf result KeepError.Fault) }
+    {
+        let loaded = load_through(self.alloc, &mut self.connection);
+        self.answer_load(loaded)
     }
 
-    fn begin(&mut self, meta: &BytesList, mutations: &BytesList) -> Result<(), KeepError> {
+    fn begin(&mut self, meta: &BytesList, mutations: &BytesList) -> Result<(), KeepError>
+        requires settled { IsTrue self.old.settled }
+        requires empty { (was : Pages) → Holds S.Store self.old.connection self.old.settled was → IsBlank was }
+        requires meta { meta.now ≢ [] }
+        ensures connected { is_some self.new.connection ≡ is_some self.old.connection }
+        ensures tells { Tells S.Store self.new.connection → Tells S.Store self.old.connection }
+        ensures done { Tells S.Store self.new.connection → OnOk result ((was : Pages) → Holds S.Store self.old.connection self.old.settled was → Keeps (Holds S.Store self.new.connection self.new.settled) (Leaves S.Store self.new.connection) (begun meta.now mutations.now)) }
+        ensures either { Tells S.Store self.new.connection → IsErrOf result KeepError.Fault → (was : Pages) → Holds S.Store self.old.connection self.old.settled was → LeavesEither (Leaves S.Store self.new.connection) was (begun meta.now mutations.now) }
+        ensures untold { IsErrOf result KeepError.Fault → TellsNone (Holds S.Store self.new.connection self.new.settled) }
+        ensures same { Tells S.Store self.new.connection → IsErrOf result KeepError.Memory → TellsStill (Holds S.Store self.old.connection self.old.settled) (Holds S.Store self.new.connection self.new.settled) }
+        ensures refused { Tells S.Store self.new.connection → IsErrOf result KeepError.Memory → LeavesNothingNew (Leaves S.Store self.old.connection) (Leaves S.Store self.new.connection) }
+        ensures settles { OnOk result (IsTrue self.new.settled) }
+        ensures unsettled { IsErrOf result KeepError.Fault → self.new.settled ≡ false }
+        ensures stays { IsErrOf result KeepError.Memory → IsTrue self.new.settled }
+        ensures cause { IsCaused self.old.faults self.new.faults (IsErrOf result KeepError.Fault) }
+    {
         let written = begin_through(&mut self.connection, meta, mutations);
         self.answer_write(written)
     }
 
-    fn append(&mut self, entry: &Entry) -> Result<(), KeepError> {
+    fn append(&mut self, entry: &Entry) -> Result<(), KeepError>
+        requires settled { IsTrue self.old.settled }
+        requires next { (was : Pages) → Holds S.Store self.old.connection self.old.settled was → IsNext was entry.now }
+        ensures connected { is_some self.new.connection ≡ is_some self.old.connection }
+        ensures tells { Tells S.Store self.new.connection → Tells S.Store self.old.connection }
+        ensures done { Tells S.Store self.new.connection → OnOk result ((was : Pages) → Holds S.Store self.old.connection self.old.settled was → Keeps (Holds S.Store self.new.connection self.new.settled) (Leaves S.Store self.new.connection) (with_entry was entry.now)) }
+        ensures either { Tells S.Store self.new.connection → IsErrOf result KeepError.Fault → (was : Pages) → Holds S.Store self.old.connection self.old.settled was → LeavesEither (Leaves S.Store self.new.connection) was (with_entry was entry.now) }
+        ensures untold { IsErrOf result KeepError.Fault → TellsNone (Holds S.Store self.new.connection self.new.settled) }
+        ensures same { Tells S.Store self.new.connection → IsErrOf result KeepError.Memory → TellsStill (Holds S.Store self.old.connection self.old.settled) (Holds S.Store self.new.connection self.new.settled) }
+        ensures refused { Tells S.Store self.new.connection → IsErrOf result KeepError.Memory → LeavesNothingNew (Leaves S.Store self.old.connection) (Leaves S.Store self.new.connection) }
+        ensures settles { OnOk result (IsTrue self.new.settled) }
+        ensures unsettled { IsErrOf result KeepError.Fault → self.new.settled ≡ false }
+        ensures stays { IsErrOf result KeepError.Memory → IsTrue self.new.settled }
+        ensures cause { IsCaused self.old.faults self.new.faults (IsErrOf result KeepError.Fault) }
+    {
         let written = append_through(&mut self.connection, entry);
         self.answer_write(written)
     }

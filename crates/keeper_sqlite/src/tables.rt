@@ -2,7 +2,7 @@
 //!
 //! Each table has its columns, in their order, with their names and types, and no other table or view
 //! stands beside the three. Constraints are not compared: they may refuse a row, and never change what a
-//! row says.
+//! row says. So each schema of a book is taken, whatever its constraints are.
 ghost use Rattle.std.specs.Prelude.{◌≡◌, Some, false, true, [], ◌∷◌, codes, IsTrue};
 ghost use Rattle.sqlite.specs.declared.types.Value.TheVariants.{Null};
 ghost use Rattle.keeper_sqlite.specs.Tables.{key_column, number_column, blob_column, meta_columns, mutation_columns, journal_columns, rowid_table, constraints, IsTable, IsBookSchema, no_schema};
@@ -12,7 +12,8 @@ use sqlite_value::keys::Collation;
 use sqlite_value::value::Value;
 
 fn is_plain(column: &Column, name: &[u8]) -> bool
-    ensures { IsTrue result → column.now ≡ record column.now { name = name.now; is_strict = true; default = Null; collation = Collation.Binary } }
+    ensures is { IsTrue result → column.now ≡ record column.now { name = name.now; is_strict = true; default = Null; collation = Collation.Binary } }
+    ensures taken { column.now ≡ record column.now { name = name.now; is_strict = true; default = Null; collation = Collation.Binary } → IsTrue result }
 {
     column.name.as_slice() == name
         && column.is_strict
@@ -21,32 +22,37 @@ fn is_plain(column: &Column, name: &[u8]) -> bool
 }
 
 fn is_key(column: &Column, name: &[u8]) -> bool
-    ensures { IsTrue result → column.now ≡ key_column name.now }
+    ensures is { IsTrue result → column.now ≡ key_column name.now }
+    ensures taken { column.now ≡ key_column name.now → IsTrue result }
 {
     is_plain(column, name) && !column.not_null && matches!(column.kind, Kind::Integer)
 }
 
 fn is_number(column: &Column, name: &[u8]) -> bool
-    ensures { IsTrue result → column.now ≡ number_column name.now }
+    ensures is { IsTrue result → column.now ≡ number_column name.now }
+    ensures taken { column.now ≡ number_column name.now → IsTrue result }
 {
     is_plain(column, name) && column.not_null && matches!(column.kind, Kind::Integer)
 }
 
 fn is_blob(column: &Column, name: &[u8]) -> bool
-    ensures { IsTrue result → column.now ≡ blob_column name.now }
+    ensures is { IsTrue result → column.now ≡ blob_column name.now }
+    ensures taken { column.now ≡ blob_column name.now → IsTrue result }
 {
     is_plain(column, name) && column.not_null && matches!(column.kind, Kind::Blob)
 }
 
 fn is_unstamped(stamps: &Stamps) -> bool
-    ensures { IsTrue result → stamps.now ≡ record { places = []; terms = []; formats = [] } }
+    ensures is { IsTrue result → stamps.now ≡ record { places = []; terms = []; formats = [] } }
+    ensures taken { stamps.now ≡ record { places = []; terms = []; formats = [] } → IsTrue result }
 {
     let terms = &stamps.terms;
     stamps.places.is_empty() && terms.roots.is_empty() && stamps.formats.is_empty()
 }
 
 fn is_table(table: &Table, name: &[u8], tree: u32) -> bool
-    ensures { IsTrue result → IsTable table.now name.now tree }
+    ensures is { IsTrue result → IsTable table.now name.now tree }
+    ensures taken { IsTable table.now name.now tree → IsTrue result }
 {
     let key_is_first = matches!(table.key, Some(0));
     table.name.as_slice() == name
@@ -59,7 +65,8 @@ fn is_table(table: &Table, name: &[u8], tree: u32) -> bool
 }
 
 fn are_meta_columns(columns: &[Column]) -> bool
-    ensures { IsTrue result → columns.now ≡ meta_columns }
+    ensures is { IsTrue result → columns.now ≡ meta_columns }
+    ensures taken { columns.now ≡ meta_columns → IsTrue result }
 {
     match columns {
         [item, body] => is_key(item, b"item") && is_blob(body, b"body"),
@@ -68,7 +75,8 @@ fn are_meta_columns(columns: &[Column]) -> bool
 }
 
 fn are_mutation_columns(columns: &[Column]) -> bool
-    ensures { IsTrue result → columns.now ≡ mutation_columns }
+    ensures is { IsTrue result → columns.now ≡ mutation_columns }
+    ensures taken { columns.now ≡ mutation_columns → IsTrue result }
 {
     match columns {
         [number, place] => is_key(number, b"number") && is_blob(place, b"place"),
@@ -77,7 +85,8 @@ fn are_mutation_columns(columns: &[Column]) -> bool
 }
 
 fn are_journal_columns(columns: &[Column]) -> bool
-    ensures { IsTrue result → columns.now ≡ journal_columns }
+    ensures is { IsTrue result → columns.now ≡ journal_columns }
+    ensures taken { columns.now ≡ journal_columns → IsTrue result }
 {
     let [seq, mutation, test, word, mark, tags] = columns else {
         return false;
@@ -95,26 +104,30 @@ fn are_journal_columns(columns: &[Column]) -> bool
 }
 
 fn is_meta(table: &Table) -> bool
-    ensures { IsTrue result → table.now ≡ rowid_table (codes "meta") 0 meta_columns (constraints table.now) }
+    ensures is { IsTrue result → table.now ≡ rowid_table (codes "meta") 0 meta_columns (constraints table.now) }
+    ensures taken { table.now ≡ rowid_table (codes "meta") 0 meta_columns (constraints table.now) → IsTrue result }
 {
     is_table(table, b"meta", 0) && are_meta_columns(table.columns.as_slice())
 }
 
 fn is_mutations(table: &Table) -> bool
-    ensures { IsTrue result → table.now ≡ rowid_table (codes "mutations") 1 mutation_columns (constraints table.now) }
+    ensures is { IsTrue result → table.now ≡ rowid_table (codes "mutations") 1 mutation_columns (constraints table.now) }
+    ensures taken { table.now ≡ rowid_table (codes "mutations") 1 mutation_columns (constraints table.now) → IsTrue result }
 {
     is_table(table, b"mutations", 1) && are_mutation_columns(table.columns.as_slice())
 }
 
 fn is_journal(table: &Table) -> bool
-    ensures { IsTrue result → table.now ≡ rowid_table (codes "journal") 2 journal_columns (constraints table.now) }
+    ensures is { IsTrue result → table.now ≡ rowid_table (codes "journal") 2 journal_columns (constraints table.now) }
+    ensures taken { table.now ≡ rowid_table (codes "journal") 2 journal_columns (constraints table.now) → IsTrue result }
 {
     is_table(table, b"journal", 2) && are_journal_columns(table.columns.as_slice())
 }
 
 /// Whether the tables are those of a book.
 pub fn is_book_schema(schema: &Schema) -> bool
-    ensures { IsTrue result → IsBookSchema schema.now }
+    ensures is { IsTrue result → IsBookSchema schema.now }
+    ensures taken { IsBookSchema schema.now → IsTrue result }
 {
     let [meta, mutations, journal] = schema.tables.as_slice() else {
         return false;
@@ -127,7 +140,8 @@ pub fn is_book_schema(schema: &Schema) -> bool
 
 /// Whether there is no table, no index and no view.
 pub fn is_no_schema(schema: &Schema) -> bool
-    ensures { IsTrue result → schema.now ≡ no_schema }
+    ensures is { IsTrue result → schema.now ≡ no_schema }
+    ensures taken { schema.now ≡ no_schema → IsTrue result }
 {
     schema.tables.is_empty() && schema.indexes.is_empty() && schema.views.is_empty()
 }

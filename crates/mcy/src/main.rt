@@ -4,14 +4,15 @@
 //! `mcy_main`'s.
 #![tactic(auto)]
 
-ghost use Rattle.std.specs.Prelude.{◌≡◌, ◌<◌};
+ghost use Rattle.std.specs.Prelude.{◌≡◌, ◌<◌, []};
+ghost use Rattle.sqlite.specs.Files.{AreFoundIn};
 
-use keeper_sqlite::SqlKeeper;
+use keeper_opening::{DatabaseFault, OpenError, Opener, OpeningKeeper};
 use mcy_base::Steps;
 use mcy_keeper::Keeper;
 use mcy_outside::{RealFiles, RealSink, Sink, SourceFiles};
-use mcy_top::{Outcome, exit_status, fault_line, mcy_main, read_words};
-use sqlite::{Connection, Error, ErrorCode, File, FileStore};
+use mcy_top::{Outcome, exit_status, fault_line, mcy_main};
+use sqlite::{Connection, Error, ErrorCode, File, FileStore, Unknown};
 use std::alloc::{AllocError, Global};
 use std::env::{self, Env};
 use std::io;
@@ -31,19 +32,42 @@ fn words_of<R: Env + Alloc<A = Global>>(rt: &R) -> io::Result<Vec<String>> {
     Ok(words)
 }
 
-/// The database, where it can be opened. Words that are no command open none, so that they leave no
-/// file behind.
-fn open_database(
-    rt: &HostRuntime,
-    words: &[String],
-) -> Result<Option<Connection<FileStore<File>>>, AllocError> {
-    if read_words(words)?.is_none() {
-        return Ok(None);
+/// The database, which is opened at the first load, so that a call which ends before it touches no file.
+#[derive(Drop)]
+struct Database {
+    rt: HostRuntime,
+}
+
+impl Opener<FileStore<File>> for Database {
+    /// As files that hold nothing; of others the clauses say nothing (`Unknown`).
+    ghost found = { λ _. AreFoundIn (record { log = []; db = [] }) };
+
+    fn open(self) -> Result<Connection<FileStore<File>>, OpenError> {
+        match Connection::open_from(&self.rt, DATABASE, false, Unknown) {
+            Ok(connection) => Ok(connection),
+            Err((error, _)) => Err(open_error(error)),
+        }
     }
-    match Connection::open(rt, DATABASE) {
-        Ok(connection) => Ok(Some(connection)),
-        Err(Error::SqliteFailure(ErrorCode::OutOfMemory)) => Err(AllocError),
-        Err(_) => Ok(None),
+}
+
+/// Why the database was not opened.
+fn open_error(error: Error) -> OpenError {
+    match error {
+        Error::SqliteFailure(ErrorCode::OutOfMemory) => OpenError::Memory,
+        Error::SqliteFailure(ErrorCode::DatabaseBusy) => OpenError::Refused(DatabaseFault::Locked),
+        Error::SqliteFailure(ErrorCode::NotADatabase | ErrorCode::DatabaseCorrupt) => {
+            OpenError::Refused(DatabaseFault::NoBook)
+        }
+        _ => OpenError::Refused(DatabaseFault::NoAccess),
+    }
+}
+
+/// The line that tells why the database has failed, behind the one of the outcome.
+fn database_line(fault: DatabaseFault) -> &'static str {
+    match fault {
+        DatabaseFault::Locked => "mcy: mcy.db: locked\n",
+        DatabaseFault::NoBook => "mcy: mcy.db: another program's, or damaged\n",
+        DatabaseFault::NoAccess => "mcy: mcy.db: cannot be read or written\n",
     }
 }
 
@@ -75,40 +99,52 @@ fn call<F: SourceFiles, K: Keeper, O: Sink>(
     call_with::<F, K, O, Brand>(alloc, words, files, keeper, out, Blank::new(1))
 }
 
-/// Copies the database's log into its file, so that the file alone has all rows.
-fn close_database(keeper: SqlKeeper<FileStore<File>>) {
+/// How a call has ended.
+#[derive(Drop)]
+struct Ended {
+    outcome: Outcome,
+    /// Why the database has failed, if it has.
+    fault: Option<DatabaseFault>,
+}
+
+/// The call over the real files, standard output and the database. It then copies the database's log into
+/// its file, so that the file alone has all rows.
+fn call_here(rt: HostRuntime, words: &[String]) -> Ended {
+    let alloc = rt.alloc();
+    let mut keeper = OpeningKeeper::new(alloc, Database { rt });
+    let mut out = RealSink::new(rt.stdout());
+    let mut files = RealFiles::new(alloc, rt);
+    let outcome = call(alloc, words, &mut files, &mut keeper, &mut out);
+    let fault = keeper.fault();
     if let Some(connection) = keeper.into_connection() {
         // A log that was not copied stays beside the file, and the next call finds its rows.
         let _closed = connection.close();
     }
+    Ended { outcome, fault }
 }
 
-/// The call over the real files, standard output and the database.
-fn call_here(rt: HostRuntime) -> Outcome {
-    let alloc = rt.alloc();
-    let words = match words_of(&rt) {
-        Ok(words) => words,
-        Err(error) if error.kind() == io::ErrorKind::OutOfMemory => return Outcome::Memory,
-        Err(_) => return Outcome::Usage,
+/// The call over the words that the program was called with.
+fn call_of_words(rt: HostRuntime) -> Ended {
+    let outcome = match words_of(&rt) {
+        Ok(words) => return call_here(rt, &words),
+        Err(error) if error.kind() == io::ErrorKind::OutOfMemory => Outcome::Memory,
+        Err(_) => Outcome::Usage,
     };
-    let Ok(connection) = open_database(&rt, &words) else {
-        return Outcome::Memory;
-    };
-    let mut keeper = SqlKeeper::adopt(alloc, connection);
-    let mut out = RealSink::new(rt.stdout());
-    let mut files = RealFiles::new(alloc, rt);
-    let outcome = call(alloc, &words, &mut files, &mut keeper, &mut out);
-    close_database(keeper);
-    outcome
+    Ended {
+        outcome,
+        fault: None,
+    }
 }
 
 fn main(rt: HostRuntime) -> ExitCode {
-    let alloc = rt.alloc();
     let mut errors = RealSink::new(rt.stderr());
-    let outcome = call_here(rt);
-    if let Ok(line) = fault_line(alloc, &outcome) {
-        // The status tells the outcome where the line cannot be written.
+    let Ended { outcome, fault } = call_of_words(rt);
+    // The status tells the outcome where a line cannot be written.
+    if let Ok(line) = fault_line(rt.alloc(), &outcome) {
         let _written = errors.write_all(line.as_slice());
+    }
+    if let Some(fault) = fault {
+        let _written = errors.write_all(database_line(fault).as_bytes());
     }
     ExitCode::from(exit_status(&outcome))
 }

@@ -1,8 +1,8 @@
 //! A keeper in memory that never fails.
 //!
 //! `book` is the book that it keeps, and what a crash would leave; `settled` is whether it was loaded.
-ghost use Rattle.std.specs.Prelude.{◌≡◌, false};
-ghost use Rattle.std.proofs.Common.{sym, ◌∙◌};
+ghost use Rattle.std.specs.Prelude.{◌≡◌, Some, false};
+ghost use Rattle.std.proofs.Common.{refl, sym, ◌∙◌};
 ghost use Rattle.mcy_keeper.specs.Books.{blank};
 
 use crate::book::{Book, Entry};
@@ -52,7 +52,7 @@ impl Keeper for CleanKeeper {
 
     ghost holds = { λ k b. b ≡ k.book };
 
-    ghost leaves = { λ k b. b ≡ k.book };
+    ghost leaves = { λ k b. b ≡ Some k.book };
 
     ghost is_settled = { λ k. k.settled };
 
@@ -61,6 +61,8 @@ impl Keeper for CleanKeeper {
     ghost one = { λ k a b p q. p ∙ sym q };
 
     ghost told = { λ k b h. tt };
+
+    ghost survives = { λ k t none. none (Some k.book) refl };
 
     fn load(&mut self) -> Result<Book, KeepError> {
         let copy = self.book.copy(self.alloc)?;

@@ -1,17 +1,18 @@
 //! Who keeps a book, and what is known of it after each call and after a crash.
 //!
 //! A keeper `tells` where nobody else writes to its place and the place returns what was written. It
-//! then says by `holds` which book it keeps, one at most, and by `leaves` which books a crash at this
-//! moment may leave: after a call that ended well that book alone, after one that failed the book from
-//! before or the one from after, whole. Where it does not tell, only `is_settled` and `faults` speak.
+//! then says by `holds` which book it keeps, one at most, and by `leaves` what a crash at this moment may
+//! leave: a book, or None where what is left stands for no book. After a call that ended well it is that
+//! book alone, after one that failed the book from before or the one from after, whole, and never None.
+//! It leaves something always. Where it does not tell, only `is_settled` and `faults` speak.
 //!
 //! A keeper is settled from a load that ended well until a `begin` or an `append` fails; these two
 //! calls ask for a settled keeper. `faults` never falls, and rises in each call that answers `Fault`.
-ghost use Rattle.std.specs.Prelude.{◌≡◌, ◌≢◌, ℕ, Bool, false, [], IsTrue, IfOk, OnOk, OnErr, IsErrOf};
+ghost use Rattle.std.specs.Prelude.{◌≡◌, ◌≢◌, ℕ, Bool, false, [], Option, Some, IsTrue, IfOk, OnOk, OnErr, IsErrOf};
 ghost use Rattle.mcy_base.specs.Causes.{IsCaused};
 ghost use Rattle.mcy_keeper.specs.declared.book.Book.{Book as Pages};
 ghost use Rattle.mcy_keeper.specs.declared.keeper.KeepError.TheVariants.{Memory};
-ghost use Rattle.mcy_keeper.specs.Books.{begun, with_entry, IsBlank, IsNext, Keeps, LeavesEither, LeavesNothingNew, TellsNone, TellsStill};
+ghost use Rattle.mcy_keeper.specs.Books.{begun, with_entry, IsBlank, IsNext, Keeps, LeavesEither, LeavesNothingNew, LeavesSome, TellsNone, TellsStill};
 
 use crate::book::{Book, Entry};
 use mcy_base::BytesList;
@@ -42,8 +43,8 @@ pub trait Keeper {
     /// The keeper tells that it keeps this book.
     ghost holds: { Self → Pages → Type 0 };
 
-    /// A crash at this moment may leave this book.
-    ghost leaves: { Self → Pages → Type 0 };
+    /// A crash at this moment may leave this: a book, or None where what is left stands for no book.
+    ghost leaves: { Self → Option Pages → Type 0 };
 
     /// Whether a load has ended well, and no write has failed since.
     ghost is_settled: { Self → Bool };
@@ -56,7 +57,7 @@ pub trait Keeper {
         ensures tells { tells self.new → tells self.old }
         ensures answer { tells self.new → IfOk result (Keeps (holds self.new) (leaves self.new)) }
         ensures same { tells self.new → IfOk result (λ found. (was : Pages) → holds self.old was → found ≡ was) }
-        ensures allowed { tells self.new → IfOk result (leaves self.old) }
+        ensures allowed { tells self.new → IfOk result (λ found. leaves self.old (Some found)) }
         ensures refused { tells self.new → OnErr result (LeavesNothingNew (leaves self.old) (leaves self.new)) }
         ensures settles { OnOk result (IsTrue (is_settled self.new)) }
         ensures stays { OnErr result (is_settled self.new ≡ is_settled self.old) }
@@ -104,4 +105,7 @@ pub trait Keeper {
 
     /// It tells a book only where it tells.
     ghost told: { (k : Self) (b : Pages) → holds k b → tells k };
+
+    /// Where it tells, a crash leaves something.
+    ghost survives: { (k : Self) → tells k → LeavesSome (leaves k) };
 }

@@ -6,7 +6,7 @@
 //! book all the same; `next` is the number of the next call, `None` once no `u64` numbers it; `faults` is
 //! how many calls have failed.
 ghost use Rattle.std.specs.Prelude.{◌≡◌, Some, true, false, IsTrue};
-ghost use Rattle.std.proofs.Common.{sym, ◌∙◌};
+ghost use Rattle.std.proofs.Common.{refl, sym, ◌∙◌};
 ghost use Rattle.mcy_base.specs.Causes.{one_more};
 ghost use Rattle.mcy_keeper.specs.Books.{begun, blank, with_entry};
 ghost use Rattle.mcy_keeper.specs.MemoryKeeper.{Loads, Writes, called, failure};
@@ -103,7 +103,7 @@ impl Keeper for MemoryKeeper {
 
     ghost holds = { λ k b. IsTrue k.told × (b ≡ k.book) };
 
-    ghost leaves = { λ k b. b ≡ k.book };
+    ghost leaves = { λ k b. b ≡ Some k.book };
 
     ghost is_settled = { λ k. k.settled };
 
@@ -112,6 +112,8 @@ impl Keeper for MemoryKeeper {
     ghost one = { λ k a b p q. p.1 ∙ sym q.1 };
 
     ghost told = { λ k b h. tt };
+
+    ghost survives = { λ k t none. none (Some k.book) refl };
 
     fn load(&mut self) -> Result<Book, KeepError>
         ensures { Loads self.old self.new result }

@@ -2,17 +2,18 @@
 //!
 //! Nothing is known of what they hold, so they do not tell it: contracts see the count of faults alone.
 //! What is read from a reader whose bytes are known is proved of `read_within`.
-ghost use Rattle.std.specs.Prelude.{◌≡◌, None, [], option_map, Some};
+ghost use Rattle.std.specs.Prelude.{◌≡◌, ◌↔◌, None, [], option_map, Some};
 ghost use Rattle.mcy_outside.specs.Files.{Reads};
 
 use crate::files::{FileError, SourceFiles};
 use std::alloc::Global;
-use std::fs::File;
+use std::fs::{self, File};
 use std::io::{ErrorKind, Read};
 use std::marker::Model;
 use std::rt::Files;
 
-/// The real files. A name is a path from the current folder.
+/// The real files. A name is a path from the current folder. What is there and is no regular file, as a
+/// folder, a FIFO or a device, is a failed read.
 #[derive(Drop)]
 pub struct RealFiles<R> {
     alloc: Global,
@@ -40,16 +41,27 @@ impl<R: Files> RealFiles<R> {
         }
     }
 
-    /// All bytes of the file of this name, of which there may be `max`.
+    /// All bytes of the file of this name, of which there may be `max`. What is no regular file is not
+    /// opened: a FIFO would wait for its writer, and a device may have no end.
     fn read_file(&self, name: &str, max: u32) -> Result<Vec<u8>, FileError> {
-        match File::open(&self.files, name) {
-            Ok(file) => read_within(self.alloc, file, max),
-            Err(error) => Err(match error.kind() {
-                ErrorKind::NotFound => FileError::Missing,
-                ErrorKind::OutOfMemory => FileError::Memory,
-                _ => FileError::Failed,
-            }),
+        let metadata = fs::metadata(&self.files, name).map_err(|error| open_error(error.kind()))?;
+        if !metadata.is_file() {
+            return Err(FileError::Failed);
         }
+        let file = File::open(&self.files, name).map_err(|error| open_error(error.kind()))?;
+        read_within(self.alloc, file, max)
+    }
+}
+
+/// Why a file cannot be opened.
+fn open_error(kind: ErrorKind) -> FileError
+    ensures missing { (result ≡ FileError.Missing) ↔ (kind ≡ ErrorKind.NotFound) }
+    ensures memory { (result ≡ FileError.Memory) ↔ (kind ≡ ErrorKind.OutOfMemory) }
+{
+    match kind {
+        ErrorKind::NotFound => FileError::Missing,
+        ErrorKind::OutOfMemory => FileError::Memory,
+        _ => FileError::Failed,
     }
 }
 

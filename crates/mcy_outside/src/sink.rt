@@ -2,7 +2,7 @@
 //!
 //! `written` is all that it has taken, where the sink tells it. `faults` counts the writes that failed: it
 //! never falls, and rises in each write that fails. Such a write has taken a first part of its piece.
-ghost use Rattle.std.specs.Prelude.{ℕ, List, Option, None, OnOk, OnErr, IsErr};
+ghost use Rattle.std.specs.Prelude.{◌≡◌, ℕ, List, Option, None, OnOk, OnErr, IsErr};
 ghost use Rattle.mcy_base.specs.Causes.{IsCaused};
 ghost use Rattle.mcy_outside.specs.Written.{Appends, AppendsPart};
 
@@ -31,7 +31,9 @@ pub struct CleanSink;
 
 impl CleanSink {
     /// The sink.
-    pub fn new() -> CleanSink {
+    pub fn new() -> CleanSink
+        ensures { ⟦<CleanSink as Sink>⟧.faults result ≡ 0 }
+    {
         CleanSink
     }
 }

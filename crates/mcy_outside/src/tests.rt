@@ -62,8 +62,8 @@ fn memory_files_fail_at_the_numbered_reads(rt: HostRuntime) -> Result<(), Fail> 
     Ok(())
 }
 
-/// A file of this folder is read whole, up to a limit that is exact. A folder is no file, and a device
-/// without an end is too large.
+/// A file of this folder is read whole, up to a limit that is exact. The reads of a folder and of a device
+/// fail.
 #[test]
 fn real_files_are_read_up_to_the_limit(rt: HostRuntime) -> Result<(), Fail> {
     fs::write(&rt, "a.v", b"wire\xff\0")?;
@@ -74,7 +74,7 @@ fn real_files_are_read_up_to_the_limit(rt: HostRuntime) -> Result<(), Fail> {
         ("a.v", 5, Err(FileError::TooLarge)),
         ("b.v", 6, Err(FileError::Missing)),
         (".", 6, Err(FileError::Failed)),
-        ("/dev/zero", 6, Err(FileError::TooLarge)),
+        ("/dev/zero", 6, Err(FileError::Failed)),
     ] {
         assert!(rt; reads(&mut files, name, max, wanted), "{name} up to {max}");
     }

@@ -6,8 +6,6 @@ use Rattle.mcy_outside.specs.Files.{Held, Gives, IsLarge}
 use Rattle.result_book.specs.declared.check.BookError.{BookError}
 use Rattle.result_book.specs.declared.check.BookError.TheVariants.{Stray, Memory as NoMemoryFor}
 use Rattle.result_book.specs.Rows.{IsWellFormed}
-use Rattle.mcy_top.specs.declared.equal.TheConstants.{MAX_FREE_BITS}
-use Rattle.mcy_top.specs.declared.prepared.TheConstants.{MAX_BYTES}
 use Rattle.mcy_top.specs.declared.command.Command.{Command}
 use Rattle.mcy_top.specs.declared.command.Command.TheVariants.{Init, Run, Status}
 use Rattle.mcy_top.specs.declared.prepared.Prepared.{Prepared}
@@ -19,6 +17,7 @@ use Rattle.mcy_top.specs.declared.outcome.BookRefusal.{BookRefusal}
 use Rattle.mcy_top.specs.declared.outcome.BookRefusal.TheVariants.{NoCampaign as RefusedNone, AlreadyBegun as RefusedBegun, BookBad as RefusedBook, Memory as NoMemory}
 use Rattle.mcy_top.specs.declared.outcome.Outcome.{Outcome}
 use Rattle.mcy_top.specs.declared.outcome.Outcome.TheVariants.{Done, Unfinished, Usage, SourceBad, Missing, TooLarge, NoCampaign, AlreadyBegun, BookBad, ReadFault, KeeperFault, WriteFault, Memory, Unbuilt}
+use Rattle.mcy_top.specs.Limits.{max_bytes, max_free_bits}
 use Rattle.mcy_top.specs.Commands.{stop_of}
 use Rattle.mcy_top.specs.Projects.{IsProject}
 use Rattle.mcy_top.specs.ThinModules.{IsSource, input_names}
@@ -34,31 +33,31 @@ given_same : (held : Option (List ℕ)) (max : ℕ) (a b : List ℕ) → Gives h
 given_same held max a b one two = let is : Some a ≡ Some b = sym one.same ∙ two.same in cc
 
 -- what a readable map rules out
-lacks_not : (map : Held) (name bytes : List ℕ) → Gives (map name) MAX_BYTES bytes → ¬ Lacks (Some map) name
+lacks_not : (map : Held) (name bytes : List ℕ) → Gives (map name) max_bytes bytes → ¬ Lacks (Some map) name
 lacks_not map name bytes given none = let is : Some bytes ≡ None = sym given.same ∙ none in cc
 
-exceeds_not : (map : Held) (name bytes : List ℕ) → Gives (map name) MAX_BYTES bytes → ¬ Exceeds (Some map) name
+exceeds_not : (map : Held) (name bytes : List ℕ) → Gives (map name) max_bytes bytes → ¬ Exceeds (Some map) name
 exceeds_not map name bytes given large =
-    let more : IsLarge (Some bytes) MAX_BYTES = subst (λ (o : Option (List ℕ)). IsLarge o MAX_BYTES) given.same large in
-    let few : length bytes ≤ MAX_BYTES = given.few in omega arith
+    let more : IsLarge (Some bytes) max_bytes = subst (λ (o : Option (List ℕ)). IsLarge o max_bytes) given.same large in
+    let few : length bytes ≤ max_bytes = given.few in omega arith
 
 -- each file that is read is there
-given_at : (held : Option Held) (r : IsReadable held) (name : List ℕ) → IsRead (Some r.map) name → (bytes : List ℕ) × Gives (r.map name) MAX_BYTES bytes
-given_at held r name (inl is) = (r.config, subst (λ (n : List ℕ). Gives (r.map n) MAX_BYTES r.config) (sym is) r.got_config)
-given_at held r name (inr is) = (r.bytes, subst (λ (n : List ℕ). Gives (r.map n) MAX_BYTES r.bytes) (sym is.0) r.got_source)
+given_at : (held : Option Held) (r : IsReadable held) (name : List ℕ) → IsRead (Some r.map) name → (bytes : List ℕ) × Gives (r.map name) max_bytes bytes
+given_at held r name (inl is) = (r.config, subst (λ (n : List ℕ). Gives (r.map n) max_bytes r.config) (sym is) r.got_config)
+given_at held r name (inr is) = (r.bytes, subst (λ (n : List ℕ). Gives (r.map n) max_bytes r.bytes) (sym is.0) r.got_source)
 
 -- files that are accepted are refused for faults of reading and want of memory alone
 unmade_not : (held : Option Held) (r : IsReadable held) (refusal : Refusal) → IsUnmade (Some r.map) refusal → ((name : List ℕ) → refusal ≢ RefusedRead name) → refusal ≡ RefusedMemory
 unmade_not held r (RefusedMissing name) why fault = let at = given_at held r name why.0 in absurd (lacks_not r.map name at.0 at.1 why.1)
 unmade_not held r (RefusedTooLarge name) why fault = let at = given_at held r name why.0 in absurd (exceeds_not r.map name at.0 at.1 why.1)
 unmade_not held r (RefusedRead name) why fault = absurd (fault name refl)
-unmade_not held r (RefusedUnbuilt Project) (config, got, bad) fault = absurd (bad (subst IsProject (given_same (r.map config_name) MAX_BYTES r.config config r.got_config got) r.project))
-unmade_not held r (RefusedUnbuilt Source) (source, got, bad) fault = absurd (bad r.parsed (subst (λ (b : List ℕ). IsSource b r.parsed) (given_same (r.map source_name) MAX_BYTES r.bytes source r.got_source got.got) r.text))
+unmade_not held r (RefusedUnbuilt Project) (config, got, bad) fault = absurd (bad (subst IsProject (given_same (r.map config_name) max_bytes r.config config r.got_config got) r.project))
+unmade_not held r (RefusedUnbuilt Source) (source, got, bad) fault = absurd (bad r.parsed (subst (λ (b : List ℕ). IsSource b r.parsed) (given_same (r.map source_name) max_bytes r.bytes source r.got_source got.got) r.text))
 unmade_not held r (RefusedSource error) why fault =
-    let bytes : r.bytes ≡ why.source = given_same (r.map source_name) MAX_BYTES r.bytes why.source r.got_source why.got.got in
+    let bytes : r.bytes ≡ why.source = given_same (r.map source_name) max_bytes r.bytes why.source r.got_source why.got.got in
     let same : r.parsed ≡ why.parsed = source_once why.source r.parsed why.parsed (subst (λ (b : List ℕ). IsSource b r.parsed) bytes r.text) why.text in
-    let many : MAX_FREE_BITS < length (input_names why.parsed.ports) = why.many in
-    let few : length (input_names why.parsed.ports) ≤ MAX_FREE_BITS = subst (λ (m : ThinModule). length (input_names m.ports) ≤ MAX_FREE_BITS) same r.few in
+    let many : max_free_bits < length (input_names why.parsed.ports) = why.many in
+    let few : length (input_names why.parsed.ports) ≤ max_free_bits = subst (λ (m : ThinModule). length (input_names m.ports) ≤ max_free_bits) same r.few in
     absurd (omega arith)
 unmade_not held r RefusedMemory why fault = refl
 
@@ -111,7 +110,7 @@ taken_not_refused command c book RefusedBegun plan takes refuses = absurd (begun
 taken_not_refused command c book (RefusedBook error) plan takes refuses = absurd (bad_not c book error plan (taken_as command c book takes) refuses.0)
 taken_not_refused command c book NoMemory plan takes refuses = refl
 
-pub completes : (words : List (List ℕ)) (held : Option Held) (holds leaves leaves' : Book → Type 0) (written written' : Option (List ℕ)) (taken taken' f f' k k' s s' : ℕ) (command : Command) (o : Outcome)
+pub completes : (words : List (List ℕ)) (held : Option Held) (holds : Book → Type 0) (leaves leaves' : Option Book → Type 0) (written written' : Option (List ℕ)) (taken taken' f f' k k' s s' : ℕ) (command : Command) (o : Outcome)
     → IsReady words held holds leaves command → NoneRose f f' k k' s s' → Answered words held o → HasCause f f' k k' s s' o
     → Early leaves leaves' taken taken' o ⊎ Life words held holds leaves leaves' written written' taken taken' o → Completes command o
 completes words held holds leaves leaves' written written' taken taken' f f' k k' s s' command o ready none answer cause (inl early) = go o answer cause early.early

@@ -5,8 +5,6 @@ use Rattle.mcy_keeper.specs.declared.book.Book.{Book}
 use Rattle.mcy_outside.specs.Files.{Held, Gives, IsLarge}
 use Rattle.result_book.specs.declared.check.BookError.{BookError}
 use Rattle.result_book.specs.declared.check.BookError.TheVariants.{Stray, Memory as NoMemoryFor}
-use Rattle.mcy_top.specs.declared.equal.TheConstants.{MAX_FREE_BITS}
-use Rattle.mcy_top.specs.declared.prepared.TheConstants.{MAX_BYTES}
 use Rattle.mcy_top.specs.declared.command.Command.{Command}
 use Rattle.mcy_top.specs.declared.prepared.Prepared.{Prepared}
 use Rattle.mcy_top.specs.declared.thin.ThinModule.{ThinModule}
@@ -19,6 +17,7 @@ use Rattle.mcy_top.specs.declared.outcome.BookRefusal.{BookRefusal}
 use Rattle.mcy_top.specs.declared.outcome.BookRefusal.TheVariants.{NoCampaign as RefusedNone, AlreadyBegun as RefusedBegun, BookBad as RefusedBook, Memory as NoMemory}
 use Rattle.mcy_top.specs.declared.outcome.Outcome.{Outcome}
 use Rattle.mcy_top.specs.declared.outcome.Outcome.TheVariants.{Done, Unfinished, Usage, SourceBad, Missing, TooLarge, NoCampaign, AlreadyBegun, BookBad, ReadFault, KeeperFault, WriteFault, Memory, Unbuilt}
+use Rattle.mcy_top.specs.Limits.{max_bytes, max_free_bits}
 use Rattle.mcy_top.specs.Commands.{command_of}
 use Rattle.mcy_top.specs.Projects.{IsProject}
 use Rattle.mcy_top.specs.ThinModules.{IsSource, input_names}
@@ -40,19 +39,19 @@ data Found : Type 0 where
 
 abbrev IsFound : Option (List ℕ) → Found → Type 0
 IsFound held Nothing = held ≡ None
-IsFound held TooMuch = IsLarge held MAX_BYTES
-IsFound held (Bytes bytes) = Gives held MAX_BYTES bytes
+IsFound held TooMuch = IsLarge held max_bytes
+IsFound held (Bytes bytes) = Gives held max_bytes bytes
 
-large_not_none : (held : Option (List ℕ)) → held ≡ None → ¬ IsLarge held MAX_BYTES
-large_not_none held none large = subst (λ (o : Option (List ℕ)). IsLarge o MAX_BYTES) none large
+large_not_none : (held : Option (List ℕ)) → held ≡ None → ¬ IsLarge held max_bytes
+large_not_none held none large = subst (λ (o : Option (List ℕ)). IsLarge o max_bytes) none large
 
-given_not_none : (held : Option (List ℕ)) (bytes : List ℕ) → held ≡ None → ¬ Gives held MAX_BYTES bytes
+given_not_none : (held : Option (List ℕ)) (bytes : List ℕ) → held ≡ None → ¬ Gives held max_bytes bytes
 given_not_none held bytes none given = let is : Some bytes ≡ None = sym given.same ∙ none in cc
 
-given_not_large : (held : Option (List ℕ)) (bytes : List ℕ) → IsLarge held MAX_BYTES → ¬ Gives held MAX_BYTES bytes
+given_not_large : (held : Option (List ℕ)) (bytes : List ℕ) → IsLarge held max_bytes → ¬ Gives held max_bytes bytes
 given_not_large held bytes large given =
-    let more : IsLarge (Some bytes) MAX_BYTES = subst (λ (o : Option (List ℕ)). IsLarge o MAX_BYTES) given.same large in
-    let few : length bytes ≤ MAX_BYTES = given.few in omega arith
+    let more : IsLarge (Some bytes) max_bytes = subst (λ (o : Option (List ℕ)). IsLarge o max_bytes) given.same large in
+    let few : length bytes ≤ max_bytes = given.few in omega arith
 
 found_once : (held : Option (List ℕ)) (a b : Found) → IsFound held a → IsFound held b → a ≡ b
 found_once held Nothing Nothing h k = refl
@@ -80,7 +79,7 @@ record AtConfig (map : Held) (r : Refusal) : Type 0 where
 record HasMany (source : List ℕ) (r : Refusal) : Type 0 where
   parsed : ThinModule
   text : IsSource source parsed
-  many : MAX_FREE_BITS < length (input_names parsed.ports)
+  many : max_free_bits < length (input_names parsed.ports)
   is : r ≡ RefusedSource (record { file = []; fault = TooMany FreeBits })
 
 abbrev RefusesSource : Found → Refusal → Type 0
@@ -98,8 +97,8 @@ record AtSource (map : Held) (r : Refusal) : Type 0 where
 place_of : (map : Held) (r : Refusal) → IsUnmade (Some map) r → (¬ IsCutShort (outcome_of r)) → AtConfig map r ⊎ AtSource map r
 place_of map (RefusedMissing name) (inl at, none) whole = inl (record { found = Nothing; is = subst (λ (n : List ℕ). map n ≡ None) at none; why = ap (λ (n : List ℕ). RefusedMissing n) at })
 place_of map (RefusedMissing name) (inr at, none) whole = inr (record { project = at.1; found = Nothing; is = subst (λ (n : List ℕ). map n ≡ None) at.0 none; why = ap (λ (n : List ℕ). RefusedMissing n) at.0 })
-place_of map (RefusedTooLarge name) (inl at, large) whole = inl (record { found = TooMuch; is = subst (λ (n : List ℕ). IsLarge (map n) MAX_BYTES) at large; why = ap (λ (n : List ℕ). RefusedTooLarge n) at })
-place_of map (RefusedTooLarge name) (inr at, large) whole = inr (record { project = at.1; found = TooMuch; is = subst (λ (n : List ℕ). IsLarge (map n) MAX_BYTES) at.0 large; why = ap (λ (n : List ℕ). RefusedTooLarge n) at.0 })
+place_of map (RefusedTooLarge name) (inl at, large) whole = inl (record { found = TooMuch; is = subst (λ (n : List ℕ). IsLarge (map n) max_bytes) at large; why = ap (λ (n : List ℕ). RefusedTooLarge n) at })
+place_of map (RefusedTooLarge name) (inr at, large) whole = inr (record { project = at.1; found = TooMuch; is = subst (λ (n : List ℕ). IsLarge (map n) max_bytes) at.0 large; why = ap (λ (n : List ℕ). RefusedTooLarge n) at.0 })
 place_of map (RefusedRead name) why whole = absurd (whole tt)
 place_of map RefusedMemory why whole = absurd (whole tt)
 place_of map (RefusedUnbuilt Project) (config, got, bad) whole = inl (record { found = Bytes config; is = got; why = (refl, bad) })
@@ -147,8 +146,8 @@ made_not map r c made (inr at) = go (subst (λ (f : Found). RefusesSource f r) (
     go (inl h) = h.1 made.made.parsed made.made.text
     go (inr h) =
         let same : h.parsed ≡ made.made.parsed = source_once made.bytes h.parsed made.made.parsed h.text made.made.text in
-        let many : MAX_FREE_BITS < length (input_names made.made.parsed.ports) = subst (λ (m : ThinModule). MAX_FREE_BITS < length (input_names m.ports)) same h.many in
-        let few : length (input_names made.made.parsed.ports) ≤ MAX_FREE_BITS = made.made.few in
+        let many : max_free_bits < length (input_names made.made.parsed.ports) = subst (λ (m : ThinModule). max_free_bits < length (input_names m.ports)) same h.many in
+        let few : length (input_names made.made.parsed.ports) ≤ max_free_bits = made.made.few in
         omega arith
 
 pub refused_not_made : (map : Held) (r : Refusal) (c : Prepared) → RefusesFiles map r → ¬ IsMade (Some map) c

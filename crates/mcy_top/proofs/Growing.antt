@@ -1,5 +1,8 @@
 -- Rows, one more at the end.
-use Rattle.std.proofs.Common.{◌≡◌, ◌⊎◌, inl, inr, ℕ, ◌+◌, List, [], ◌∷◌, ◌++◌, length, refl, sym, ap, subst, ◌∙◌, append_assoc, length-append, Result, Ok, Err, OnOk, OnErr, IsErrOf}
+use Rattle.std.proofs.Common.{◌≡◌, ◌⊎◌, inl, inr, arith, ℕ, ◌+◌, false, None, List, [], ◌∷◌, ◌++◌, length, Option, Some, refl, sym, ap, subst, ◌∙◌, append_assoc, length-append, Result, Ok, Err, OnOk, OnErr, IsErrOf}
+use Rattle.std.specs.Option.{option_eq}
+use Rattle.std.proofs.Math.Dec.{eqb}
+use Rattle.std.proofs.lemmas.Bool.{eqb-false}
 use Rattle.mcy_keeper.specs.declared.book.Entry.{Entry}
 use Rattle.mcy_keeper.specs.declared.book.Book.{Book}
 use Rattle.mcy_keeper.specs.declared.keeper.KeepError.{KeepError}
@@ -8,8 +11,10 @@ use Rattle.mcy_keeper.specs.Books.{AreNumbered, IsNext, Keeps, LeavesEither, Lea
 use Rattle.mcy_top.specs.declared.prepared.Prepared.{Prepared}
 use Rattle.result_book.specs.Rows.{AreRows, IsPair, IsRow, IsWellFormed}
 use Rattle.mcy_top.specs.Rows.{AreTrue, IsNextRow, IsTrueWord}
+use Rattle.mcy_top.specs.Commands.{IsWithin}
 use Rattle.mcy_top.specs.Changes.{Course, IsChange}
 use Rattle.mcy_top.specs.Running.{book_of, AddsRow, LeavesNext, Ran}
+use Rattle.mcy_top.proofs.Crashes.{either_books, only_books}
 
 pub append-nil : {X : Type 0} (xs : List X) → xs ++ [] ≡ xs
 append-nil [] = refl
@@ -64,22 +69,20 @@ ran_more c start rows e ran next = record {
 }
 
 -- where one of two books is left, the book or one with the next row is left
-pub either_next : (leaves : Book → Type 0) (c : Prepared) (book : Book) (e : Entry) → IsNextRow c book e → LeavesEither leaves book (with_entry book e) → LeavesNext leaves c book
-either_next leaves c book e next either other is = go (either other is)
-  where
-    go : (other ≡ book) ⊎ (other ≡ with_entry book e) → (other ≡ book) ⊎ ((f : Entry) × IsNextRow c book f × (other ≡ with_entry book f))
-    go (inl same) = inl same
-    go (inr more) = inr (e, next, more)
+pub either_next : (leaves : Option Book → Type 0) (c : Prepared) (book : Book) (e : Entry) → IsNextRow c book e → LeavesEither leaves book (with_entry book e) → LeavesNext leaves c book
+either_next leaves c book e next either =
+    either_books leaves (λ other. (other ≡ book) ⊎ ((f : Entry) × IsNextRow c book f × (other ≡ with_entry book f))) book (with_entry book e) either (inl refl) (inr (e, next, refl))
 
 pub length_more : (rows : List Entry) (e : Entry) → length (rows ++ e ∷ []) ≡ length rows + 1
 length_more rows e = length-append rows (e ∷ [])
 
 -- what a refused append leaves
-pub append_left : (holds leaves leaves' : Book → Type 0) (result : Result (Unit {0}) KeepError) (c : Prepared) (book : Book) (e : Entry) → IsNextRow c book e → Keeps holds leaves book
+pub append_left : (holds : Book → Type 0) (leaves leaves' : Option Book → Type 0) (result : Result (Unit {0}) KeepError) (c : Prepared) (book : Book) (e : Entry) → IsNextRow c book e → Keeps holds leaves book
     → (IsErrOf result Fault → (was : Book) → holds was → LeavesEither leaves' was (with_entry was e)) → (IsErrOf result Memory → LeavesNothingNew leaves leaves') → OnErr result (LeavesNext leaves' c book)
 append_left holds leaves leaves' (Ok done) c book e next kept either refused = tt
 append_left holds leaves leaves' (Err Fault) c book e next kept either refused = either_next leaves' c book e next (either refl book kept.told)
-append_left holds leaves leaves' (Err Memory) c book e next kept either refused = λ other is. inl (kept.crash.nothing_else other (refused refl other is))
+append_left holds leaves leaves' (Err Memory) c book e next kept either refused = λ left is.
+    only_books leaves (λ other. (other ≡ book) ⊎ ((f : Entry) × IsNextRow c book f × (other ≡ with_entry book f))) book kept.crash (inl refl) left (refused refl left is)
 
 -- a fact that holds anyway
 pub on_ok : {T E : Type 0} (result : Result T E) (P : Type 0) → P → OnOk result P
@@ -92,6 +95,13 @@ ran_added c start old new m ran added = subst (λ (rows : List Entry). Ran c sta
 
 pub length_added : (c : Prepared) (old new : List Entry) (m : ℕ) → AddsRow c old new m → length new ≡ length old + 1
 length_added c old new m added = ap length added.is ∙ length_more old added.row
+
+-- where the number that was asked for is not reached yet, one more is within it
+pub within_spare : (stop : Option ℕ) (start rows gained : ℕ) → rows ≡ start + gained → option_eq eqb stop (Some gained) ≡ false → IsWithin stop start rows → IsWithin stop start (rows + 1)
+within_spare None start rows gained same other within = tt
+within_spare (Some n) start rows gained same other within =
+    let differ : n ≡ gained → ⊥ = eqb-false n gained other in
+    omega (arith, same, differ, within)
 
 pub next_row_of : (c : Prepared) (rows : List Entry) (e : Entry) (m t word : ℕ) → IsRow c.campaign rows e → IsPair m t e → e.word ≡ word → IsTrueWord c m word → IsNextRow c (book_of c rows) e
 next_row_of c rows e m t word row pair is right = record { row = row; word_true = rw (pair.0, is) right }

@@ -1,17 +1,19 @@
 -- Lists of calls over one keeper.
-use Rattle.std.proofs.Common.{◌≡◌, inl, inr, ℕ, zero, suc, List, [], ◌∷◌, take, refl, subst}
+use Rattle.std.proofs.Common.{◌≡◌, inl, inr, ℕ, zero, suc, List, [], ◌∷◌, take, refl, sym, subst, Option, Some, IsSomeAnd}
 use Rattle.mcy_keeper.specs.declared.book.Book.{Book}
-use Rattle.mcy_keeper.specs.Books.{blank, IsBlank}
+use Rattle.mcy_keeper.specs.Books.{blank, IsBlank, LeavesSome}
 use Rattle.mcy_top.specs.declared.prepared.Prepared.{Prepared}
 use Rattle.mcy_top.specs.declared.outcome.Outcome.TheVariants.{Done}
 use Rattle.mcy_top.specs.Commands.{Runs}
 use Rattle.mcy_top.specs.Campaigns.{IsPlan}
 use Rattle.mcy_top.specs.Changes.{Course, IsNear}
 use Rattle.mcy_top.specs.Rows.{IsBlankOrGood}
+use Rattle.mcy_top.specs.Crashes.{LeavesBooks}
 use Rattle.mcy_top.specs.Texts.{text_of}
 use Rattle.mcy_top.specs.Life.{Answers, IsWhole, Wrote}
 use Rattle.mcy_top.specs.Lives.{AreSafe, IsHistory}
-use Rattle.mcy_top.specs.Histories.{AllTellTrue, AreTurns, Call, Cut, CutEarly, Ended, last_of, lives_of, Loads, Turn, WroteFinalText}
+use Rattle.mcy_top.specs.Histories.{AllFindBooks, AllTellTrue, AreTurns, Call, Cut, CutEarly, Ended, entry_of, IsNew, IsTurn, last_of, Left, lives_of, Loads, TellsTrue, Turn, WroteFinalText}
+use Rattle.mcy_top.proofs.Crashes.{weaker_books}
 use Rattle.mcy_top.proofs.Living.{course_good, lives_safe, near_good}
 
 -- the changes up to a cut lead to the book at that moment
@@ -21,49 +23,52 @@ cut_course c start [] end (suc count) course = refl
 cut_course c start (next ∷ more) end (suc count) course = (course.0, cut_course c next more end count course.1)
 
 -- the plan of a call that has loaded a book
-plan_of : {K : Type 0} (holds leaves : K → Book → Type 0) (call : Call K) (life : Loads holds leaves call) → IsPlan life.prepared
+plan_of : {K : Type 0} (holds : K → Book → Type 0) (leaves : K → Option Book → Type 0) (call : Call K) (life : Loads holds leaves call) → IsPlan life.prepared
 plan_of holds leaves call life = record { config = life.made.config; bytes = life.made.bytes; made = life.made.made }
 
 -- Where each book that is found satisfies P, as some book does, the lives go on from such a book.
-goes_on : {K : Type 0} (holds leaves : K → Book → Type 0) (P : Book → Type 0) (some : Book) → P some → (found : Book → Type 0) → ((book : Book) → found book → P book)
+goes_on : {K : Type 0} (holds : K → Book → Type 0) (leaves : K → Option Book → Type 0) (P : Book → Type 0) (some : Book) → P some → (found : Option Book → Type 0) → LeavesBooks found P
     → (turns : List (Turn K)) (are : AreTurns holds leaves found turns) → (next : Book) × P next × IsHistory next (lives_of holds leaves found turns are)
 goes_on holds leaves P some has found within [] are = (some, has, tt)
 goes_on holds leaves P some has found within (Ended call ∷ more) (old, (inl early, rest)) =
-    goes_on holds leaves P some has (leaves call.after) (λ book left. within book (old book (early.leaves_is book left))) more rest
+    goes_on holds leaves P some has (leaves call.after) (λ left is. within left (old left (early.leaves_is left is))) more rest
 goes_on holds leaves P some has found within (Ended call ∷ more) (old, (inr life, rest)) = (
   life.loaded,
-  within life.loaded (old life.loaded life.allowed),
+  within (Some life.loaded) (old (Some life.loaded) life.allowed),
   (
     refl,
     record { plan = plan_of holds leaves call life; course = life.work.book.course },
     goes_on holds leaves (IsNear life.prepared life.work.sure) life.work.sure (inl refl) (leaves call.after) life.work.book.near more rest,
   ),
 )
-goes_on holds leaves P some has found within (CutEarly call ∷ more) (old, (is, rest)) =
-    goes_on holds leaves P some has (leaves call.before) (λ book left. within book (old book left)) more rest
+goes_on holds leaves P some has found within (CutEarly call ∷ more) (old, (cut, rest)) =
+    goes_on holds leaves P some has (leaves call.before) (λ left is. within left (old left is)) more rest
 goes_on holds leaves P some has found within (Cut call count ∷ more) (old, (life, rest)) =
     let changes : List Book = take count life.work.book.changes in
     let sure : Book = last_of life.loaded changes in (
       life.loaded,
-      within life.loaded (old life.loaded life.allowed),
+      within (Some life.loaded) (old (Some life.loaded) life.allowed),
       (
         refl,
         record { plan = plan_of holds leaves call life; course = cut_course life.prepared life.loaded life.work.book.changes life.work.sure count life.work.book.course },
-        goes_on holds leaves (IsNear life.prepared sure) sure (inl refl) (IsNear life.prepared sure) (λ book near. near) more rest,
+        goes_on holds leaves (IsNear life.prepared sure) sure (inl refl) (λ left. IsSomeAnd left (IsNear life.prepared sure)) (λ left near. near) more rest,
       ),
     )
 
-pub calls_history : {K : Type 0} (holds leaves : K → Book → Type 0) (turns : List (Turn K)) (are : AreTurns holds leaves IsBlank turns) → IsHistory blank (lives_of holds leaves IsBlank turns are)
-calls_history holds leaves turns are =
-    let begin = goes_on holds leaves IsBlank blank refl IsBlank (λ book is. is) turns are in
-    subst (λ (book : Book). IsHistory book (lives_of holds leaves IsBlank turns are)) begin.1 begin.2
+new_blank : LeavesBooks IsNew IsBlank
+new_blank left is = subst (λ (o : Option Book). IsSomeAnd o IsBlank) (sym is) refl
 
-pub calls_safe : {K : Type 0} (holds leaves : K → Book → Type 0) (turns : List (Turn K)) (are : AreTurns holds leaves IsBlank turns) → AreSafe (lives_of holds leaves IsBlank turns are)
-calls_safe holds leaves turns are = lives_safe (lives_of holds leaves IsBlank turns are) (calls_history holds leaves turns are)
+pub calls_history : {K : Type 0} (holds : K → Book → Type 0) (leaves : K → Option Book → Type 0) (turns : List (Turn K)) (are : AreTurns holds leaves IsNew turns) → IsHistory blank (lives_of holds leaves IsNew turns are)
+calls_history holds leaves turns are =
+    let begin = goes_on holds leaves IsBlank blank refl IsNew new_blank turns are in
+    subst (λ (book : Book). IsHistory book (lives_of holds leaves IsNew turns are)) begin.1 begin.2
+
+pub calls_safe : {K : Type 0} (holds : K → Book → Type 0) (leaves : K → Option Book → Type 0) (turns : List (Turn K)) (are : AreTurns holds leaves IsNew turns) → AreSafe (lives_of holds leaves IsNew turns are)
+calls_safe holds leaves turns are = lives_safe (lives_of holds leaves IsNew turns are) (calls_history holds leaves turns are)
 
 -- Texts.
 
-tells_true : {K : Type 0} (holds leaves : K → Book → Type 0) (call : Call K) (life : Loads holds leaves call) → IsBlankOrGood life.loaded
+tells_true : {K : Type 0} (holds : K → Book → Type 0) (leaves : K → Option Book → Type 0) (call : Call K) (life : Loads holds leaves call) → IsBlankOrGood life.loaded
     → call.outcome ≡ Done → Runs life.command → WroteFinalText call.written_before call.written_after life.prepared life.work.sure
 tells_true holds leaves call life was done runs =
     let answer : Answers life.command life.prepared life.loaded life.work.sure Done = subst (Answers life.command life.prepared life.loaded life.work.sure) done life.work.answer in
@@ -76,25 +81,52 @@ tells_true holds leaves call life was done runs =
       final = whole.final was;
     }
 
-all_tell : {K : Type 0} (holds leaves : K → Book → Type 0) (found : Book → Type 0) → ((book : Book) → found book → IsBlankOrGood book)
+turn_tells : {K : Type 0} (holds : K → Book → Type 0) (leaves : K → Option Book → Type 0) (turn : Turn K) (is : IsTurn holds leaves turn) → LeavesBooks (leaves (entry_of turn)) IsBlankOrGood → TellsTrue holds leaves turn is
+turn_tells holds leaves (Ended call) (inl early) was = tt
+turn_tells holds leaves (Ended call) (inr life) was = tells_true holds leaves call life (was (Some life.loaded) life.allowed)
+turn_tells holds leaves (CutEarly call) cut was = tt
+turn_tells holds leaves (Cut call count) life was = tt
+
+-- What is found stays empty or good.
+
+end_good : {K : Type 0} (holds : K → Book → Type 0) (leaves : K → Option Book → Type 0) (call : Call K) (life : Loads holds leaves call) → IsBlankOrGood life.loaded → IsBlankOrGood life.work.sure
+end_good holds leaves call life was = course_good life.prepared life.loaded life.work.book.changes life.work.sure (plan_of holds leaves call life) life.work.book.course was
+
+cut_good : {K : Type 0} (holds : K → Book → Type 0) (leaves : K → Option Book → Type 0) (call : Call K) (count : ℕ) (life : Loads holds leaves call) → IsBlankOrGood life.loaded → IsBlankOrGood (last_of life.loaded (take count life.work.book.changes))
+cut_good holds leaves call count life was =
+    let changes : List Book = take count life.work.book.changes in
+    course_good life.prepared life.loaded changes (last_of life.loaded changes) (plan_of holds leaves call life) (cut_course life.prepared life.loaded life.work.book.changes life.work.sure count life.work.book.course) was
+
+left_good : {K : Type 0} (holds : K → Book → Type 0) (leaves : K → Option Book → Type 0) (turn : Turn K) (is : IsTurn holds leaves turn) → LeavesBooks (leaves (entry_of turn)) IsBlankOrGood → LeavesBooks (Left holds leaves turn is) IsBlankOrGood
+left_good holds leaves (Ended call) (inl early) was = λ left is. was left (early.leaves_is left is)
+left_good holds leaves (Ended call) (inr life) was =
+    let end : IsBlankOrGood life.work.sure = end_good holds leaves call life (was (Some life.loaded) life.allowed) in
+    weaker_books (leaves call.after) (IsNear life.prepared life.work.sure) IsBlankOrGood (λ book near. near_good life.prepared life.work.sure book (plan_of holds leaves call life) near end) life.work.book.near
+left_good holds leaves (CutEarly call) cut was = was
+left_good holds leaves (Cut call count) life was =
+    let sure : Book = last_of life.loaded (take count life.work.book.changes) in
+    let end : IsBlankOrGood sure = cut_good holds leaves call count life (was (Some life.loaded) life.allowed) in
+    weaker_books (λ left. IsSomeAnd left (IsNear life.prepared sure)) (IsNear life.prepared sure) IsBlankOrGood (λ book near. near_good life.prepared sure book (plan_of holds leaves call life) near end) (λ left near. near)
+
+all_find : {K : Type 0} (tells : K → Type 0) (holds : K → Book → Type 0) (leaves : K → Option Book → Type 0) → ((k : K) → tells k → LeavesSome (leaves k)) → (found : Option Book → Type 0) → LeavesBooks found IsBlankOrGood
+    → (turns : List (Turn K)) (are : AreTurns holds leaves found turns) → AllFindBooks tells holds leaves found turns are
+all_find tells holds leaves survives found good [] are = good
+all_find tells holds leaves survives found good (turn ∷ more) (old, (is, rest)) =
+    let here : LeavesBooks (leaves (entry_of turn)) IsBlankOrGood = λ left was. good left (old left was) in
+    (record { good = here; some = survives (entry_of turn) }, all_find tells holds leaves survives (Left holds leaves turn is) (left_good holds leaves turn is here) more rest)
+
+all_tell : {K : Type 0} (holds : K → Book → Type 0) (leaves : K → Option Book → Type 0) (found : Option Book → Type 0) → LeavesBooks found IsBlankOrGood
     → (turns : List (Turn K)) (are : AreTurns holds leaves found turns) → AllTellTrue holds leaves found turns are
 all_tell holds leaves found good [] are = tt
-all_tell holds leaves found good (Ended call ∷ more) (old, (inl early, rest)) =
-    (tt, all_tell holds leaves (leaves call.after) (λ book left. good book (old book (early.leaves_is book left))) more rest)
-all_tell holds leaves found good (Ended call ∷ more) (old, (inr life, rest)) =
-    let was : IsBlankOrGood life.loaded = good life.loaded (old life.loaded life.allowed) in
-    let plan : IsPlan life.prepared = plan_of holds leaves call life in
-    let end : IsBlankOrGood life.work.sure = course_good life.prepared life.loaded life.work.book.changes life.work.sure plan life.work.book.course was in
-    (tells_true holds leaves call life was, all_tell holds leaves (leaves call.after) (λ book left. near_good life.prepared life.work.sure book plan (life.work.book.near book left) end) more rest)
-all_tell holds leaves found good (CutEarly call ∷ more) (old, (is, rest)) =
-    (tt, all_tell holds leaves (leaves call.before) (λ book left. good book (old book left)) more rest)
-all_tell holds leaves found good (Cut call count ∷ more) (old, (life, rest)) =
-    let was : IsBlankOrGood life.loaded = good life.loaded (old life.loaded life.allowed) in
-    let plan : IsPlan life.prepared = plan_of holds leaves call life in
-    let changes : List Book = take count life.work.book.changes in
-    let sure : Book = last_of life.loaded changes in
-    let end : IsBlankOrGood sure = course_good life.prepared life.loaded changes sure plan (cut_course life.prepared life.loaded life.work.book.changes life.work.sure count life.work.book.course) was in
-    (tt, all_tell holds leaves (IsNear life.prepared sure) (λ book near. near_good life.prepared sure book plan near end) more rest)
+all_tell holds leaves found good (turn ∷ more) (old, (is, rest)) =
+    let here : LeavesBooks (leaves (entry_of turn)) IsBlankOrGood = λ left was. good left (old left was) in
+    (turn_tells holds leaves turn is here, all_tell holds leaves (Left holds leaves turn is) (left_good holds leaves turn is here) more rest)
 
-pub calls_tell : {K : Type 0} (holds leaves : K → Book → Type 0) (turns : List (Turn K)) (are : AreTurns holds leaves IsBlank turns) → AllTellTrue holds leaves IsBlank turns are
-calls_tell holds leaves turns are = all_tell holds leaves IsBlank (λ book is. inl is) turns are
+new_good : LeavesBooks IsNew IsBlankOrGood
+new_good = weaker_books IsNew IsBlank IsBlankOrGood (λ book is. inl is) new_blank
+
+pub calls_tell : {K : Type 0} (holds : K → Book → Type 0) (leaves : K → Option Book → Type 0) (turns : List (Turn K)) (are : AreTurns holds leaves IsNew turns) → AllTellTrue holds leaves IsNew turns are
+calls_tell holds leaves turns are = all_tell holds leaves IsNew new_good turns are
+
+pub calls_find : {K : Type 0} (tells : K → Type 0) (holds : K → Book → Type 0) (leaves : K → Option Book → Type 0) → ((k : K) → tells k → LeavesSome (leaves k)) → (turns : List (Turn K)) (are : AreTurns holds leaves IsNew turns) → AllFindBooks tells holds leaves IsNew turns are
+calls_find tells holds leaves survives turns are = all_find tells holds leaves survives IsNew new_good turns are

@@ -19,10 +19,12 @@ pub mod InputLemmas
 pub mod TrialLemmas
 pub mod Solved
 pub mod SitesListed
+pub mod Crashes
 pub mod Asking
 pub mod Growing
 pub mod Counting
 pub mod Plans
+pub mod PlanLaws
 pub mod Advancing
 pub mod Finishing
 pub mod Working

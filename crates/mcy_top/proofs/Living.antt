@@ -1,5 +1,5 @@
 -- Lists of lives.
-use Rattle.std.proofs.Common.{◌≡◌, inl, inr, arith, ℕ, ◌+◌, ◌≤◌, List, [], ◌∷◌, ◌++◌, length, refl, sym, ap, subst, ◌∙◌, append_assoc, length-append, Option}
+use Rattle.std.proofs.Common.{◌≡◌, inl, inr, arith, ℕ, ◌+◌, ◌≤◌, List, [], ◌∷◌, ◌++◌, length, refl, sym, ap, subst, ◌∙◌, append_assoc, length-append, Option, Some}
 use Rattle.std.specs.List.{All, AllPairs, Contains}
 use Rattle.std.proofs.lemmas.List.Elements.{All-cons, All-contains, All-nil, All-weaker, Contains-append_left, Contains-push}
 use Rattle.std.proofs.lemmas.List.Kept.{AllPairs-cons}
@@ -13,9 +13,11 @@ use Rattle.mcy_top.specs.Campaigns.{IsPlan}
 use Rattle.mcy_top.specs.Changes.{Course, IsChange, IsNear}
 use Rattle.result_book.specs.Rows.{AreRows, IsPair}
 use Rattle.mcy_top.specs.Rows.{AreTrue, GoesOn, IsBlankOrGood, IsGood, IsPrefix, IsWithinOne}
+use Rattle.mcy_top.specs.Crashes.{LeavesBooks}
 use Rattle.mcy_top.specs.Life.{Life}
 use Rattle.mcy_top.specs.Lives.{books_of, AreSafe, HasFinalText, HasPairsOnce, IsHistory, Lived}
 use Rattle.mcy_top.specs.Calls.{IsCovered, IsLived, IsSureBook}
+use Rattle.mcy_top.proofs.Crashes.{weaker_books}
 use Rattle.mcy_top.proofs.Growing.{form_more, true_more}
 use Rattle.mcy_top.proofs.Advancing.{good_of, opened_form, within_itself}
 use Rattle.mcy_top.proofs.Finishing.{final_is}
@@ -172,15 +174,19 @@ part_good book part good on = record {
 
 -- What a call is sure of.
 
-pub covered : (leaves : Book → Type 0) (sure book : Book) → ((other : Book) → leaves other → IsWithinOne sure other) → IsSureBook leaves book → IsCovered leaves sure book
+covered : (leaves : Option Book → Type 0) (sure book : Book) → LeavesBooks leaves (IsWithinOne sure) → IsSureBook leaves book → IsCovered leaves sure book
 covered leaves sure book within longest =
-    let before : IsPrefix sure book = longest.longest sure (λ other is. (within other is).prefix) in
+    let before : IsPrefix sure book = longest.longest sure (λ other is. (within (Some other) is).prefix) in
     record {
       prefix = before;
-      one = λ other is. omega (arith, (within other is).one, prefix_few sure book before);
+      one = weaker_books leaves (IsWithinOne sure) (λ other. length other.journal ≤ length book.journal + 1) (λ other one. omega (arith, one.one, prefix_few sure book before)) within;
     }
 
-pub lived_of : (words : List (List ℕ)) (held : Option Held) (holds leaves leaves' : Book → Type 0) (written written' : Option (List ℕ)) (taken taken' : ℕ) (outcome : Outcome)
+pub call_covered : (words : List (List ℕ)) (held : Option Held) (holds : Book → Type 0) (leaves leaves' : Option Book → Type 0) (written written' : Option (List ℕ)) (taken taken' : ℕ) (outcome : Outcome)
+    → (life : Life words held holds leaves leaves' written written' taken taken' outcome) → (book : Book) → IsSureBook leaves' book → IsCovered leaves' life.work.sure book
+call_covered words held holds leaves leaves' written written' taken taken' outcome life book longest = covered leaves' life.work.sure book life.work.book.within_one longest
+
+pub lived_of : (words : List (List ℕ)) (held : Option Held) (holds : Book → Type 0) (leaves leaves' : Option Book → Type 0) (written written' : Option (List ℕ)) (taken taken' : ℕ) (outcome : Outcome)
     → (life : Life words held holds leaves leaves' written written' taken taken' outcome) → IsLived leaves leaves' life.prepared life.loaded life.work.sure
 lived_of words held holds leaves leaves' written written' taken taken' outcome life = record {
   changes = life.work.book.changes;

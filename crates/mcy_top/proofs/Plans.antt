@@ -17,8 +17,7 @@ use Rattle.std.specs.List.{All}
 use Rattle.std.specs.Prelude.{IsSomeAnd}
 use Rattle.mcy_top.specs.declared.netlist.RawNetlist.{RawNetlist}
 use Rattle.result_book.specs.declared.campaign.Campaign.{Campaign}
-use Rattle.result_book.specs.declared.campaign.TheConstants.{EQ_KIND}
-use Rattle.result_book.specs.Campaigns.{IsEqWord, IsFit, IsKind, IsWordOf, IsWordOfKind}
+use Rattle.result_book.specs.Campaigns.{eq_kind, IsEqWord, IsFit, IsKind, IsWordOf, IsWordOfKind}
 use Rattle.mcy_top.specs.SiteTexts.{site_text}
 use Rattle.mcy_top.specs.SiteLines.{site_line}
 use Rattle.mcy_top.specs.Campaigns.{campaign_of, meta_of, source_name, IsPlan}
@@ -61,7 +60,7 @@ plan_count c plan =
     let parsed : ThinModule = plan.made.parsed in
     ap (λ (k : Campaign). length k.mutations) plan.made.campaign ∙ length-map (sites (netlist_of parsed)) (site_text (netlist_of parsed) source_name) ∙ sym (ap length plan.made.places)
 
-are_kinds : All IsKind (EQ_KIND ∷ [])
+are_kinds : All IsKind (eq_kind ∷ [])
 are_kinds zero d below = inl refl
 are_kinds (suc k) d below = absurd (omega (arith, below))
 
@@ -93,7 +92,7 @@ plan_few_items c plan = let three : length c.campaign.meta ≡ 3 = ap length (pl
 -- the one test is an equivalence test
 pub plan_word : (c : Prepared) (m word : ℕ) → IsPlan c → IsTrueWord c m word → IsWordOf c.campaign 0 word
 plan_word c m word plan right =
-    let kinds : c.campaign.kinds ≡ EQ_KIND ∷ [] = ap (λ (k : Campaign). k.kinds) plan.made.campaign in
+    let kinds : c.campaign.kinds ≡ eq_kind ∷ [] = ap (λ (k : Campaign). k.kinds) plan.made.campaign in
     subst (λ (l : List ℕ). IsSomeAnd (slice_get l 0) (λ kind. IsWordOfKind kind word)) (sym kinds) (inl (refl, eq_word c.netlist.raw (slice_get c.sites m) word right))
   where
     eq_word : (netlist : RawNetlist) (site : Option Site) (word : ℕ) → IsTrueWordAt netlist site word → IsEqWord word

@@ -23,7 +23,7 @@ use Rattle.mcy_top.specs.declared.outcome.BookRefusal.{BookRefusal}
 use Rattle.mcy_top.specs.declared.outcome.BookRefusal.TheVariants.{NoCampaign as RefusedNone, AlreadyBegun as RefusedBegun, BookBad as RefusedBook, Memory as RefusedMemory}
 use Rattle.mcy_top.specs.declared.outcome.Outcome.{Outcome}
 use Rattle.mcy_top.specs.declared.outcome.Outcome.TheVariants.{Done, Unfinished, NoCampaign, AlreadyBegun, BookBad, KeeperFault, WriteFault, Memory}
-use Rattle.mcy_top.specs.Commands.{OnlyReads, Runs}
+use Rattle.mcy_top.specs.Commands.{stop_of, IsWithin, OnlyReads, Runs}
 use Rattle.mcy_top.specs.Campaigns.{IsPlan}
 use Rattle.mcy_top.specs.Rows.{AreTrue, IsBlankOrGood, IsGood, IsNextRow, IsPrefix, IsWithinOne}
 use Rattle.mcy_top.specs.Changes.{Course, IsNear, opened}
@@ -35,8 +35,9 @@ use Rattle.mcy_top.specs.Endings.{ended_outcome, failed_outcome, run_outcome, De
 use Rattle.mcy_top.specs.Life.{finished_count, Answers, Carried, Grew, Takes, Work, Wrote}
 use Rattle.mcy_top.proofs.Advancing.{good_of, opened_form, within_itself, within_more}
 use Rattle.mcy_top.proofs.Counting.{all_counted, counted_all, counted_few}
+use Rattle.mcy_top.proofs.Crashes.{either_books, only_books, weaker_books}
 use Rattle.mcy_top.proofs.Finishing.{final_is}
-use Rattle.mcy_top.proofs.Growing.{form_more, true_more}
+use Rattle.mcy_top.proofs.Growing.{form_more, length_more, true_more}
 use Rattle.mcy_top.proofs.Once.{true_of}
 use Rattle.mcy_top.proofs.Plans.{plan_meta}
 
@@ -48,28 +49,34 @@ pub form_meta : (c : Prepared) (book : Book) → IsPlan c → IsWellFormed c.cam
 form_meta c book plan form none = plan_begun c plan (sym form.meta ∙ none)
 
 -- a crash leaves the sure book and nothing else
-grew_exact : (leaves : Book → Type 0) (command : Command) (c : Prepared) (loaded sure : Book) (changes : List Book) (outcome : Outcome) → Course c loaded changes sure → LeavesOnly leaves sure → IsPrefix loaded sure
-    → (IsBlankOrGood loaded → IsGood sure ⊎ (IsBlank sure × IsBlank loaded)) → (OnlyReads command → sure ≡ loaded) → (¬ Runs command → sure.journal ≡ loaded.journal) → (Carried outcome → sure.meta ≢ []) → Grew leaves command c loaded sure outcome
-grew_exact leaves command c loaded sure changes outcome course only grown good reads idle meta = record {
+grew_exact : (leaves : Option Book → Type 0) (command : Command) (c : Prepared) (loaded sure : Book) (changes : List Book) (outcome : Outcome) → Course c loaded changes sure → LeavesOnly leaves sure → IsPrefix loaded sure
+    → (IsBlankOrGood loaded → IsGood sure ⊎ (IsBlank sure × IsBlank loaded)) → (OnlyReads command → sure ≡ loaded) → (¬ Runs command → sure.journal ≡ loaded.journal) → IsWithin (stop_of command) (length loaded.journal) (length sure.journal) → (Carried outcome → sure.meta ≢ []) → Grew leaves command c loaded sure outcome
+grew_exact leaves command c loaded sure changes outcome course only grown good reads idle within meta = record {
   grown = grown;
-  within_one = λ other is. subst (λ (b : Book). IsWithinOne sure b) (sym (only.nothing_else other is)) (within_itself sure);
-  good = λ was other is. subst (λ (b : Book). IsGood b ⊎ (IsBlank b × IsBlank loaded)) (sym (only.nothing_else other is)) (good was);
+  within_one = only_books leaves (IsWithinOne sure) sure only (within_itself sure);
+  good = λ was. only_books leaves (λ b. IsGood b ⊎ (IsBlank b × IsBlank loaded)) sure only (good was);
   reads = λ h. subst (λ (b : Book). LeavesOnly leaves b) (reads h) only;
-  no_entry = λ h other is. ap (λ (b : Book). b.journal) (only.nothing_else other is) ∙ idle h;
+  no_entry = λ h. only_books leaves (λ b. b.journal ≡ loaded.journal) sure only (idle h);
+  gained = within;
+  stops = only_books leaves (λ b. IsWithin (stop_of command) (length loaded.journal) (length b.journal)) sure only within;
   exact = λ h. only;
   is_begun = meta;
   changes = changes;
   course = course;
-  near = λ other is. inl (only.nothing_else other is);
+  near = only_books leaves (IsNear c sure) sure only (inl refl);
 }
 
+within_same : (stop : Option ℕ) (n : ℕ) → IsWithin stop n n
+within_same None n = tt
+within_same (Some stop) n = omega arith
+
 -- the loaded book stays
-pub work_kept : (holds leaves : Book → Type 0) (written written' : Option (List ℕ)) (n : ℕ) (command : Command) (c : Prepared) (loaded : Book) (outcome : Outcome) → Keeps holds leaves loaded
+pub work_kept : (holds : Book → Type 0) (leaves : Option Book → Type 0) (written written' : Option (List ℕ)) (n : ℕ) (command : Command) (c : Prepared) (loaded : Book) (outcome : Outcome) → Keeps holds leaves loaded
     → Wrote written written' (text_of command c loaded) outcome → Answers command c loaded loaded outcome → (Carried outcome → loaded.meta ≢ []) → Work leaves written written' n n command c loaded outcome
 work_kept holds leaves written written' n command c loaded outcome kept wrote answer meta = record {
   sure = loaded;
-  book = grew_exact leaves command c loaded loaded [] outcome refl kept.crash (within_itself loaded).prefix stays (λ h. refl) (λ h. refl) meta;
-  steps = record { bound = omega arith; equal = λ is. refl; idle = λ h. refl };
+  book = grew_exact leaves command c loaded loaded [] outcome refl kept.crash (within_itself loaded).prefix stays (λ h. refl) (λ h. refl) (within_same (stop_of command) (length loaded.journal)) meta;
+  steps = record { bound = omega arith; equal = λ is. refl; stops = within_same (stop_of command) n; idle = λ h. refl };
   text = wrote;
   answer = answer;
 }
@@ -79,14 +86,14 @@ work_kept holds leaves written written' n command c loaded outcome kept wrote an
     stays (inr good) = inl good
 
 -- the loaded book is refused
-pub work_refused : (holds leaves : Book → Type 0) (written : Option (List ℕ)) (n : ℕ) (command : Command) (c : Prepared) (loaded : Book) (refusal : BookRefusal) → Keeps holds leaves loaded → RefusesBook command c loaded refusal → Work leaves written written n n command c loaded (book_outcome refusal)
+pub work_refused : (holds : Book → Type 0) (leaves : Option Book → Type 0) (written : Option (List ℕ)) (n : ℕ) (command : Command) (c : Prepared) (loaded : Book) (refusal : BookRefusal) → Keeps holds leaves loaded → RefusesBook command c loaded refusal → Work leaves written written n n command c loaded (book_outcome refusal)
 work_refused holds leaves written n command c loaded RefusedNone kept why = work_kept holds leaves written written n command c loaded NoCampaign kept refl why (λ h. absurd h)
 work_refused holds leaves written n command c loaded RefusedBegun kept why = work_kept holds leaves written written n command c loaded AlreadyBegun kept refl why (λ h. absurd h)
 work_refused holds leaves written n command c loaded (RefusedBook error) kept why = work_kept holds leaves written written n command c loaded (BookBad error) kept refl why (λ h. absurd h)
 work_refused holds leaves written n command c loaded RefusedMemory kept why = work_kept holds leaves written written n command c loaded Memory kept refl tt (λ h. absurd h)
 
 -- the status of a book
-pub work_status : (holds leaves : Book → Type 0) (written written' : Option (List ℕ)) (n : ℕ) (c : Prepared) (loaded : Book) (ending : Ending) → IsPlan c → IsWellFormed c.campaign loaded → Keeps holds leaves loaded
+pub work_status : (holds : Book → Type 0) (leaves : Option Book → Type 0) (written written' : Option (List ℕ)) (n : ℕ) (c : Prepared) (loaded : Book) (ending : Ending) → IsPlan c → IsWellFormed c.campaign loaded → Keeps holds leaves loaded
     → Delivers written written' (status_text c.campaign loaded.journal) ending → Work leaves written written' n n Status c loaded (ended_outcome Done ending)
 work_status holds leaves written written' n c loaded Written plan form kept wrote = work_kept holds leaves written written' n Status c loaded Done kept wrote (form, form, λ h. absurd h) (λ h. form_meta c loaded plan form)
 work_status holds leaves written written' n c loaded Refused plan form kept wrote = work_kept holds leaves written written' n Status c loaded WriteFault kept wrote form (λ h. absurd h)
@@ -96,126 +103,125 @@ work_status holds leaves written written' n c loaded NoMemory plan form kept wro
 opened_good : (c : Prepared) → IsPlan c → IsGood (opened c)
 opened_good c plan = good_of c (opened c) plan (opened_form c) tt
 
-work_begun : (holds leaves : Book → Type 0) (written written' : Option (List ℕ)) (n : ℕ) (c : Prepared) (outcome : Outcome) → IsPlan c → Keeps holds leaves (opened c)
+work_begun : (holds : Book → Type 0) (leaves : Option Book → Type 0) (written written' : Option (List ℕ)) (n : ℕ) (c : Prepared) (outcome : Outcome) → IsPlan c → Keeps holds leaves (opened c)
     → Wrote written written' (init_text c) outcome → Answers Init c blank (opened c) outcome → Work leaves written written' n n Init c blank outcome
 work_begun holds leaves written written' n c outcome plan kept wrote answer = record {
   sure = opened c;
-  book = grew_exact leaves Init c blank (opened c) (opened c ∷ []) outcome (inl (refl, refl), refl) kept.crash (inl refl) (λ was. inl (opened_good c plan)) (λ h. absurd h) (λ h. refl) (λ h. plan_begun c plan);
-  steps = record { bound = omega arith; equal = λ is. refl; idle = λ h. refl };
+  book = grew_exact leaves Init c blank (opened c) (opened c ∷ []) outcome (inl (refl, refl), refl) kept.crash (inl refl) (λ was. inl (opened_good c plan)) (λ h. absurd h) (λ h. refl) tt (λ h. plan_begun c plan);
+  steps = record { bound = omega arith; equal = λ is. refl; stops = tt; idle = λ h. refl };
   text = wrote;
   answer = answer;
 }
 
-pub work_init : (holds leaves : Book → Type 0) (written written' : Option (List ℕ)) (n : ℕ) (c : Prepared) (ending : Ending) → IsPlan c → Keeps holds leaves (opened c)
+pub work_init : (holds : Book → Type 0) (leaves : Option Book → Type 0) (written written' : Option (List ℕ)) (n : ℕ) (c : Prepared) (ending : Ending) → IsPlan c → Keeps holds leaves (opened c)
     → Delivers written written' (init_text c) ending → Work leaves written written' n n Init c blank (ended_outcome Done ending)
 work_init holds leaves written written' n c Written plan kept wrote = work_begun holds leaves written written' n c Done plan kept wrote (refl, opened_form c, λ h. absurd h)
 work_init holds leaves written written' n c Refused plan kept wrote = work_begun holds leaves written written' n c WriteFault plan kept wrote refl
 work_init holds leaves written written' n c NoMemory plan kept wrote = work_begun holds leaves written written' n c Memory plan kept wrote tt
 
 -- what a begin leaves that failed
-pub begin_left : (holds leaves leaves' : Book → Type 0) (result : Result (Unit {0}) KeepError) (c : Prepared) → Keeps holds leaves blank
+pub begin_left : (holds : Book → Type 0) (leaves leaves' : Option Book → Type 0) (result : Result (Unit {0}) KeepError) (c : Prepared) → Keeps holds leaves blank
     → (IsErrOf result KeepFault → (was : Book) → holds was → LeavesEither leaves' was (opened c)) → (IsErrOf result KeepMemory → LeavesNothingNew leaves leaves') → OnErr result (LeavesEither leaves' blank (opened c))
 begin_left holds leaves leaves' (Ok done) c kept either refused = tt
 begin_left holds leaves leaves' (Err KeepFault) c kept either refused = either refl blank kept.told
-begin_left holds leaves leaves' (Err KeepMemory) c kept either refused = λ other is. inl (kept.crash.nothing_else other (refused refl other is))
-
-fault_not_done : KeeperFault ≢ Done
-fault_not_done is = cc
-
-memory_not_done : Memory ≢ Done
-memory_not_done is = cc
+begin_left holds leaves leaves' (Err KeepMemory) c kept either refused = λ left is. inl (kept.crash.nothing_else left (refused refl left is))
 
 -- the begin was cut short
-grew_unopened : (leaves : Book → Type 0) (command : Command) (c : Prepared) (outcome : Outcome) → IsPlan c → ¬ OnlyReads command → ¬ Carried outcome → LeavesEither leaves blank (opened c) → Grew leaves command c blank blank outcome
+grew_unopened : (leaves : Option Book → Type 0) (command : Command) (c : Prepared) (outcome : Outcome) → IsPlan c → ¬ OnlyReads command → ¬ Carried outcome → LeavesEither leaves blank (opened c) → Grew leaves command c blank blank outcome
 grew_unopened leaves command c outcome plan writes not either = record {
   grown = inl refl;
-  within_one = λ other is. within other (either other is);
-  good = λ was other is. good other (either other is);
+  within_one = either_books leaves (IsWithinOne blank) blank (opened c) either (within_itself blank) (record { prefix = inl refl; one = omega arith });
+  good = λ was. either_books leaves (λ b. IsGood b ⊎ (IsBlank b × IsBlank blank)) blank (opened c) either (inr (refl, refl)) (inl (opened_good c plan));
   reads = λ h. absurd (writes h);
-  no_entry = λ h other is. rows other (either other is);
+  no_entry = λ h. either_books leaves (λ b. b.journal ≡ []) blank (opened c) either refl refl;
+  gained = within_same (stop_of command) 0;
+  stops = either_books leaves (λ b. IsWithin (stop_of command) 0 (length b.journal)) blank (opened c) either (within_same (stop_of command) 0) (within_same (stop_of command) 0);
   exact = λ h. absurd (not h);
   is_begun = λ h. absurd (not h);
   changes = [];
   course = refl;
-  near = λ other is. near other (either other is);
+  near = either_books leaves (IsNear c blank) blank (opened c) either (inl refl) (inr (inl (refl, refl)));
 }
-  where
-    within : (other : Book) → (other ≡ blank) ⊎ (other ≡ opened c) → IsWithinOne blank other
-    within other (inl same) = subst (λ (b : Book). IsWithinOne blank b) (sym same) (within_itself blank)
-    within other (inr made) = record { prefix = inl refl; one = let none : length other.journal ≡ 0 = ap (λ (b : Book). length b.journal) made in omega arith }
 
-    good : (other : Book) → (other ≡ blank) ⊎ (other ≡ opened c) → IsGood other ⊎ (IsBlank other × IsBlank blank)
-    good other (inl same) = inr (same, refl)
-    good other (inr made) = inl (subst IsGood (sym made) (opened_good c plan))
-
-    rows : (other : Book) → (other ≡ blank) ⊎ (other ≡ opened c) → other.journal ≡ []
-    rows other (inl same) = ap (λ (b : Book). b.journal) same
-    rows other (inr made) = ap (λ (b : Book). b.journal) made
-
-    near : (other : Book) → (other ≡ blank) ⊎ (other ≡ opened c) → IsNear c blank other
-    near other (inl same) = inl same
-    near other (inr made) = inr (inl (refl, made))
-
-pub work_unopened : (leaves : Book → Type 0) (written : Option (List ℕ)) (n : ℕ) (command : Command) (c : Prepared) (e : KeepError) → IsPlan c → ¬ OnlyReads command → Takes command c blank → LeavesEither leaves blank (opened c) → Work leaves written written n n command c blank (failed_outcome e)
+pub work_unopened : (leaves : Option Book → Type 0) (written : Option (List ℕ)) (n : ℕ) (command : Command) (c : Prepared) (e : KeepError) → IsPlan c → ¬ OnlyReads command → Takes command c blank → LeavesEither leaves blank (opened c) → Work leaves written written n n command c blank (failed_outcome e)
 work_unopened leaves written n command c KeepFault plan writes takes either = record {
   sure = blank;
   book = grew_unopened leaves command c KeeperFault plan writes (λ h. h) either;
-  steps = record { bound = omega arith; equal = λ is. absurd (fault_not_done is); idle = λ h. refl };
+  steps = record { bound = omega arith; equal = λ is. absurd is; stops = within_same (stop_of command) n; idle = λ h. refl };
   text = refl;
   answer = takes;
 }
 work_unopened leaves written n command c KeepMemory plan writes takes either = record {
   sure = blank;
   book = grew_unopened leaves command c Memory plan writes (λ h. h) either;
-  steps = record { bound = omega arith; equal = λ is. absurd (memory_not_done is); idle = λ h. refl };
+  steps = record { bound = omega arith; equal = λ is. absurd is; stops = within_same (stop_of command) n; idle = λ h. refl };
   text = refl;
   answer = tt;
 }
 
+within_less : (stop : Option ℕ) (before now : ℕ) → IsWithin stop before (now + 1) → IsWithin stop before now
+within_less None before now within = tt
+within_less (Some stop) before now within = omega (arith, within)
+
+-- as many steps as rows, or one more
+within_steps : (stop : Option ℕ) (start rows before now : ℕ) → now + start ≤ before + rows → IsWithin stop start rows → IsWithin stop before now
+within_steps None start rows before now steps within = tt
+within_steps (Some stop) start rows before now steps within = omega (arith, steps, within)
+
 -- a run that want of memory or an error of the keeper ended
-grew_broke : (leaves : Book → Type 0) (stop : Option ℕ) (c : Prepared) (start : List Entry) (before now : ℕ) (outcome : Outcome) → IsPlan c → IsWellFormed c.campaign (book_of c start) → (b : Broke leaves c start before now) → ¬ Carried outcome → Grew leaves (Run stop) c (book_of c start) (book_of c b.rows) outcome
+grew_broke : (leaves : Option Book → Type 0) (stop : Option ℕ) (c : Prepared) (start : List Entry) (before now : ℕ) (outcome : Outcome) → IsPlan c → IsWellFormed c.campaign (book_of c start) → (b : Broke leaves c stop start before now) → ¬ Carried outcome → Grew leaves (Run stop) c (book_of c start) (book_of c b.rows) outcome
 grew_broke leaves stop c start before now outcome plan form b not = record {
   grown = inr b.ran.goes_on;
-  within_one = λ other is. within other (b.left other is);
-  good = λ was other is. inl (good (b.ran.words_true (true_of c (book_of c start) plan form was)) other (b.left other is));
+  within_one = weaker_books leaves Next (IsWithinOne sure) within b.left;
+  good = λ was. weaker_books leaves Next (λ x. IsGood x ⊎ (IsBlank x × IsBlank (book_of c start))) (λ other next. inl (good (b.ran.words_true (true_of c (book_of c start) plan form was)) other next)) b.left;
   reads = λ h. absurd h;
   no_entry = λ h. absurd (h tt);
+  gained = within_less stop (length start) (length b.rows) b.within;
+  stops = weaker_books leaves Next (λ x. IsWithin stop (length start) (length x.journal)) stops b.left;
   exact = λ h. absurd (not h);
   is_begun = λ h. absurd (not h);
   changes = b.ran.changes;
   course = b.ran.course;
-  near = λ other is. near other (b.left other is);
+  near = weaker_books leaves Next (IsNear c sure) near b.left;
 }
   where
-    Next : Book → Type 0
-    Next other = (other ≡ book_of c b.rows) ⊎ ((e : Entry) × IsNextRow c (book_of c b.rows) e × (other ≡ with_entry (book_of c b.rows) e))
+    sure : Book
+    sure = book_of c b.rows
 
-    within : (other : Book) → Next other → IsWithinOne (book_of c b.rows) other
-    within other (inl same) = subst (λ (x : Book). IsWithinOne (book_of c b.rows) x) (sym same) (within_itself (book_of c b.rows))
-    within other (inr (e, next, more)) = subst (λ (x : Book). IsWithinOne (book_of c b.rows) x) (sym more) (within_more (book_of c b.rows) e)
+    Next : Book → Type 0
+    Next other = (other ≡ sure) ⊎ ((e : Entry) × IsNextRow c sure e × (other ≡ with_entry sure e))
+
+    within : (other : Book) → Next other → IsWithinOne sure other
+    within other (inl same) = subst (λ (x : Book). IsWithinOne sure x) (sym same) (within_itself sure)
+    within other (inr (e, next, more)) = subst (λ (x : Book). IsWithinOne sure x) (sym more) (within_more sure e)
 
     good : AreTrue c b.rows → (other : Book) → Next other → IsGood other
-    good right other (inl same) = subst IsGood (sym same) (good_of c (book_of c b.rows) plan b.ran.form right)
+    good right other (inl same) = subst IsGood (sym same) (good_of c sure plan b.ran.form right)
     good right other (inr (e, next, more)) =
-        subst IsGood (sym more) (good_of c (with_entry (book_of c b.rows) e) plan (form_more c (book_of c b.rows) e b.ran.form next) (true_more c b.rows e right next.word_true))
+        subst IsGood (sym more) (good_of c (with_entry sure e) plan (form_more c sure e b.ran.form next) (true_more c b.rows e right next.word_true))
 
-    near : (other : Book) → Next other → IsNear c (book_of c b.rows) other
+    stops : (other : Book) → Next other → IsWithin stop (length start) (length other.journal)
+    stops other (inl same) = subst (λ (x : Book). IsWithin stop (length start) (length x.journal)) (sym same) (within_less stop (length start) (length b.rows) b.within)
+    stops other (inr (e, next, more)) =
+        subst (λ (x : Book). IsWithin stop (length start) (length x.journal)) (sym more) (subst (λ (n : ℕ). IsWithin stop (length start) n) (sym (length_more b.rows e)) b.within)
+
+    near : (other : Book) → Next other → IsNear c sure other
     near other (inl same) = inl same
     near other (inr (e, next, more)) = inr (inr (b.ran.form, (e, next, more)))
 
-pub work_broke : (leaves : Book → Type 0) (written written' : Option (List ℕ)) (before now : ℕ) (stop : Option ℕ) (c : Prepared) (start : List Entry) (e : KeepError) → IsPlan c → IsWellFormed c.campaign (book_of c start)
-    → Broke leaves c start before now → written' ≡ written → Work leaves written written' before now (Run stop) c (book_of c start) (failed_outcome e)
+pub work_broke : (leaves : Option Book → Type 0) (written written' : Option (List ℕ)) (before now : ℕ) (stop : Option ℕ) (c : Prepared) (start : List Entry) (e : KeepError) → IsPlan c → IsWellFormed c.campaign (book_of c start)
+    → Broke leaves c stop start before now → written' ≡ written → Work leaves written written' before now (Run stop) c (book_of c start) (failed_outcome e)
 work_broke leaves written written' before now stop c start KeepFault plan form b same = record {
   sure = book_of c b.rows;
   book = grew_broke leaves stop c start before now KeeperFault plan form b (λ h. h);
-  steps = record { bound = b.steps; equal = λ is. absurd (fault_not_done is); idle = λ h. absurd (h tt) };
+  steps = record { bound = b.steps; equal = λ is. absurd is; stops = within_steps stop (length start) (length b.rows + 1) before now (omega (arith, b.steps)) b.within; idle = λ h. absurd (h tt) };
   text = same;
   answer = inr form;
 }
 work_broke leaves written written' before now stop c start KeepMemory plan form b same = record {
   sure = book_of c b.rows;
   book = grew_broke leaves stop c start before now Memory plan form b (λ h. h);
-  steps = record { bound = b.steps; equal = λ is. absurd (memory_not_done is); idle = λ h. absurd (h tt) };
+  steps = record { bound = b.steps; equal = λ is. absurd is; stops = within_steps stop (length start) (length b.rows + 1) before now (omega (arith, b.steps)) b.within; idle = λ h. absurd (h tt) };
   text = same;
   answer = tt;
 }
@@ -226,6 +232,7 @@ pub record Went (c : Prepared) (stop : Option ℕ) (start rows : List Entry) : T
   pub form : IsWellFormed c.campaign (book_of c start)
   pub ran : Ran c start rows
   pub ends : IsFinished c.campaign (book_of c rows) ⊎ Reached stop start rows
+  pub within : IsWithin stop (length start) (length rows)
 
 abbrev pub count : Prepared → List Entry → ℕ
 count c rows = finished_count c (book_of c rows)
@@ -270,13 +277,13 @@ ran_answer c stop start rows went = elim (eqb_tells (length c.campaign.mutations
 ran_wrote : (written written' : Option (List ℕ)) (c : Prepared) (rows : List Entry) → Delivers written written' (status_text c.campaign rows) Written → Wrote written written' (status_text c.campaign rows) (run_outcome c rows)
 ran_wrote written written' c rows wrote = elim (eqb_tells (length c.campaign.mutations) (count c rows)) [ inl h ↦ rw h.0 wrote | inr h ↦ rw h.0 wrote ]
 
-pub work_ran : (holds leaves : Book → Type 0) (written written' : Option (List ℕ)) (before now : ℕ) (stop : Option ℕ) (c : Prepared) (start rows : List Entry) (ending : Ending) → Went c stop start rows → Keeps holds leaves (book_of c rows)
+pub work_ran : (holds : Book → Type 0) (leaves : Option Book → Type 0) (written written' : Option (List ℕ)) (before now : ℕ) (stop : Option ℕ) (c : Prepared) (start rows : List Entry) (ending : Ending) → Went c stop start rows → Keeps holds leaves (book_of c rows)
     → now + length start ≡ before + length rows → Delivers written written' (status_text c.campaign rows) ending → Work leaves written written' before now (Run stop) c (book_of c start) (ended_outcome (run_outcome c rows) ending)
 work_ran holds leaves written written' before now stop c start rows ending went kept steps wrote = record {
   sure = book_of c rows;
   book = grew_exact leaves (Run stop) c (book_of c start) (book_of c rows) went.ran.changes (ended_outcome (run_outcome c rows) ending) went.ran.course kept.crash (inr went.ran.goes_on)
-      (λ was. inl (good_of c (book_of c rows) went.plan went.ran.form (went.ran.words_true (true_of c (book_of c start) went.plan went.form was)))) (λ h. absurd h) (λ h. absurd (h tt)) (λ h. plan_begun c went.plan);
-  steps = record { bound = omega (arith, steps); equal = λ is. steps; idle = λ h. absurd (h tt) };
+      (λ was. inl (good_of c (book_of c rows) went.plan went.ran.form (went.ran.words_true (true_of c (book_of c start) went.plan went.form was)))) (λ h. absurd h) (λ h. absurd (h tt)) went.within (λ h. plan_begun c went.plan);
+  steps = record { bound = omega (arith, steps); equal = λ is. steps; stops = within_steps stop (length start) (length rows) before now (omega (arith, steps)) went.within; idle = λ h. absurd (h tt) };
   text = text ending wrote;
   answer = answer ending;
 }
@@ -310,23 +317,25 @@ opened_answer stop c sure WriteFault plan answer = inl refl
 opened_answer stop c sure Memory plan answer = tt
 opened_answer stop c sure outcome plan answer = absurd answer
 
-pub work_opened : (leaves : Book → Type 0) (written written' : Option (List ℕ)) (before now : ℕ) (stop : Option ℕ) (c : Prepared) (outcome : Outcome) → IsPlan c
+pub work_opened : (leaves : Option Book → Type 0) (written written' : Option (List ℕ)) (before now : ℕ) (stop : Option ℕ) (c : Prepared) (outcome : Outcome) → IsPlan c
     → Work leaves written written' before now (Run stop) c (opened c) outcome → Work leaves written written' before now (Run stop) c blank outcome
 work_opened leaves written written' before now stop c outcome plan w = record {
   sure = w.sure;
   book = record {
     grown = inl refl;
     within_one = w.book.within_one;
-    good = λ was other is. good other (w.book.good (inr (opened_good c plan)) other is);
+    good = λ was. weaker_books leaves (λ b. IsGood b ⊎ (IsBlank b × IsBlank (opened c))) (λ b. IsGood b ⊎ (IsBlank b × IsBlank blank)) good (w.book.good (inr (opened_good c plan)));
     reads = λ h. absurd h;
     no_entry = λ h. absurd (h tt);
+    gained = w.book.gained;
+    stops = w.book.stops;
     exact = w.book.exact;
     is_begun = w.book.is_begun;
     changes = opened c ∷ w.book.changes;
     course = (inl (refl, refl), w.book.course);
     near = w.book.near;
   };
-  steps = record { bound = w.steps.bound; equal = w.steps.equal; idle = λ h. absurd (h tt) };
+  steps = record { bound = w.steps.bound; equal = w.steps.equal; stops = w.steps.stops; idle = λ h. absurd (h tt) };
   text = w.text;
   answer = opened_answer stop c w.sure outcome plan w.answer;
 }

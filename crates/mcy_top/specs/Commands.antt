@@ -1,5 +1,5 @@
 -- The commands, by the words after the program's name.
-use Rattle.std.specs.Prelude.{ℕ, Bool, ◌&&◌, List, [], ◌∷◌, length, drop, Option, None, Some, ⊤, if◌then◌else◌, bytes_eq, codes, nat_le, nat_eq}
+use Rattle.std.specs.Prelude.{ℕ, ◌+◌, ◌≤◌, Bool, ◌&&◌, List, [], ◌∷◌, length, drop, Option, None, Some, ⊤, if◌then◌else◌, bytes_eq, codes, nat_le, nat_eq}
 use Rattle.std.specs.Char.{is_ascii_digit}
 use Rattle.std.specs.List.{list_all, starts_with}
 use Rattle.std.specs.Str.Parse.{digits_value}
@@ -61,6 +61,11 @@ abbrev pub stop_of : Command → Option ℕ
 stop_of Init = None
 stop_of (Run stop_after) = stop_after
 stop_of Status = None
+
+-- it grew by no more than was asked for, if a number was
+abbrev pub IsWithin : Option ℕ → ℕ → ℕ → Type 0
+IsWithin None before now = ⊤
+IsWithin (Some stop) before now = now ≤ before + stop
 
 -- the command runs tests
 abbrev pub Runs : Command → Type 0

@@ -1,8 +1,8 @@
 -- Laws of lists of calls over one keeper: what the contract of `mcy_main` says of each call makes them lives.
-use Rattle.std.specs.Prelude.{◌≡◌, ◌⊎◌, ℕ, List, [], ◌∷◌, ◌++◌, take, Option, ⊤}
+use Rattle.std.specs.Prelude.{◌≡◌, ◌⊎◌, ℕ, List, [], ◌∷◌, ◌++◌, take, Option, Some, IsSomeAnd, ⊤}
 use mathlib.Core.Logic.{inl, inr}
 use Rattle.mcy_keeper.specs.declared.book.Book.{Book}
-use Rattle.mcy_keeper.specs.Books.{blank, IsBlank, LeavesNothingNew}
+use Rattle.mcy_keeper.specs.Books.{blank, LeavesNothingNew, LeavesSome}
 use Rattle.mcy_outside.specs.Files.{Held}
 use Rattle.mcy_outside.specs.Written.{Appends}
 use Rattle.result_book.specs.Rows.{IsFinished}
@@ -10,6 +10,8 @@ use Rattle.mcy_top.specs.declared.prepared.Prepared.{Prepared}
 use Rattle.mcy_top.specs.declared.outcome.Outcome.{Outcome}
 use Rattle.mcy_top.specs.declared.outcome.Outcome.TheVariants.{Done}
 use Rattle.mcy_top.specs.Commands.{Runs}
+use Rattle.mcy_top.specs.Rows.{IsBlankOrGood}
+use Rattle.mcy_top.specs.Crashes.{LeavesBooks}
 use Rattle.mcy_top.specs.Changes.{IsNear}
 use Rattle.mcy_top.specs.Defined.{given_up, IsFinalText}
 use Rattle.mcy_top.specs.Life.{Early, Life}
@@ -29,11 +31,11 @@ pub record Call (K : Type 0) : Type 0 where
   pub outcome : Outcome
 
 -- the two cases of its clause `life`: it has loaded no book,
-abbrev pub LoadsNone : {K : Type 0} → (K → Book → Type 0) → Call K → Type 0
+abbrev pub LoadsNone : {K : Type 0} → (K → Option Book → Type 0) → Call K → Type 0
 LoadsNone leaves call = Early (leaves call.before) (leaves call.after) call.taken_before call.taken_after call.outcome
 
 -- or it has loaded one
-abbrev pub Loads : {K : Type 0} → (K → Book → Type 0) → (K → Book → Type 0) → Call K → Type 0
+abbrev pub Loads : {K : Type 0} → (K → Book → Type 0) → (K → Option Book → Type 0) → Call K → Type 0
 Loads holds leaves call =
     Life call.words call.held (holds call.before) (leaves call.before) (leaves call.after) call.written_before call.written_after call.taken_before call.taken_after call.outcome
 
@@ -52,7 +54,7 @@ entry_of (CutEarly call) = call.before
 entry_of (Cut call count) = call.before
 
 -- the contract of `mcy_main` speaks of its call
-abbrev pub IsTurn : {K : Type 0} → (K → Book → Type 0) → (K → Book → Type 0) → Turn K → Type 0
+abbrev pub IsTurn : {K : Type 0} → (K → Book → Type 0) → (K → Option Book → Type 0) → Turn K → Type 0
 IsTurn holds leaves (Ended call) = LoadsNone leaves call ⊎ Loads holds leaves call
 IsTurn holds leaves (CutEarly call) = ⊤
 IsTurn holds leaves (Cut call count) = Loads holds leaves call
@@ -63,16 +65,16 @@ last_of start [] = start
 last_of start (next ∷ more) = last_of next more
 
 -- the life of a call that has loaded a book
-abbrev pub whole_life : {K : Type 0} (holds leaves : K → Book → Type 0) (call : Call K) → Loads holds leaves call → Lived
+abbrev pub whole_life : {K : Type 0} (holds : K → Book → Type 0) (leaves : K → Option Book → Type 0) (call : Call K) → Loads holds leaves call → Lived
 whole_life holds leaves call life = record { prepared = life.prepared; start = life.loaded; changes = life.work.book.changes; sure = life.work.sure }
 
 -- that life cut off after so many of its changes
-abbrev pub cut_life : {K : Type 0} (holds leaves : K → Book → Type 0) (call : Call K) → ℕ → Loads holds leaves call → Lived
+abbrev pub cut_life : {K : Type 0} (holds : K → Book → Type 0) (leaves : K → Option Book → Type 0) (call : Call K) → ℕ → Loads holds leaves call → Lived
 cut_life holds leaves call count life =
     record { prepared = life.prepared; start = life.loaded; changes = take count life.work.book.changes; sure = last_of life.loaded (take count life.work.book.changes) }
 
 -- the life of a turn, if it had loaded a book
-abbrev pub life_of : {K : Type 0} (holds leaves : K → Book → Type 0) (turn : Turn K) → IsTurn holds leaves turn → List Lived
+abbrev pub life_of : {K : Type 0} (holds : K → Book → Type 0) (leaves : K → Option Book → Type 0) (turn : Turn K) → IsTurn holds leaves turn → List Lived
 life_of holds leaves (Ended call) (inl early) = []
 life_of holds leaves (Ended call) (inr life) = whole_life holds leaves call life ∷ []
 life_of holds leaves (CutEarly call) is = []
@@ -80,29 +82,33 @@ life_of holds leaves (Cut call count) life = cut_life holds leaves call count li
 
 -- What a restart may find after a turn: what the keeper leaves where the call ended, and what it left at the entry where
 -- no book was loaded; else the book at that moment, or that with the one change that was under way.
-abbrev pub Left : {K : Type 0} (holds leaves : K → Book → Type 0) (turn : Turn K) → IsTurn holds leaves turn → Book → Type 0
+abbrev pub Left : {K : Type 0} (holds : K → Book → Type 0) (leaves : K → Option Book → Type 0) (turn : Turn K) → IsTurn holds leaves turn → Option Book → Type 0
 Left holds leaves (Ended call) is = leaves call.after
 Left holds leaves (CutEarly call) is = leaves call.before
-Left holds leaves (Cut call count) life = IsNear life.prepared (last_of life.loaded (take count life.work.book.changes))
+Left holds leaves (Cut call count) life = λ left. IsSomeAnd left (IsNear life.prepared (last_of life.loaded (take count life.work.book.changes)))
 
--- The keeper at the first entry leaves only books that were found, and that at each next entry only what the turn
--- before may have left.
-abbrev pub AreTurns : {K : Type 0} → (K → Book → Type 0) → (K → Book → Type 0) → (Book → Type 0) → List (Turn K) → Type 0
+-- at first there is the empty book
+abbrev pub IsNew : Option Book → Type 0
+IsNew left = left ≡ Some blank
+
+-- The keeper at the first entry leaves only what was found, and that at each next entry only what the turn before may
+-- have left.
+abbrev pub AreTurns : {K : Type 0} → (K → Book → Type 0) → (K → Option Book → Type 0) → (Option Book → Type 0) → List (Turn K) → Type 0
 AreTurns holds leaves found [] = ⊤
 AreTurns holds leaves found (turn ∷ more) = LeavesNothingNew found (leaves (entry_of turn)) × ((is : IsTurn holds leaves turn) × AreTurns holds leaves (Left holds leaves turn is) more)
 
 -- the lives of turns, in their order
-abbrev pub lives_of : {K : Type 0} (holds leaves : K → Book → Type 0) (found : Book → Type 0) (turns : List (Turn K)) → AreTurns holds leaves found turns → List Lived
+abbrev pub lives_of : {K : Type 0} (holds : K → Book → Type 0) (leaves : K → Option Book → Type 0) (found : Option Book → Type 0) (turns : List (Turn K)) → AreTurns holds leaves found turns → List Lived
 lives_of holds leaves found [] are = []
 lives_of holds leaves found (turn ∷ more) are = life_of holds leaves turn are.1.0 ++ lives_of holds leaves (Left holds leaves turn are.1.0) more are.1.1
 
 -- A list of calls that begins with the empty book is a list of lives,
-abbrev pub CallsAreAHistory : {K : Type 0} → (K → Book → Type 0) → (K → Book → Type 0) → Type 0
-CallsAreAHistory {K} holds leaves = (turns : List (Turn K)) (are : AreTurns holds leaves IsBlank turns) → IsHistory blank (lives_of holds leaves IsBlank turns are)
+abbrev pub CallsAreAHistory : {K : Type 0} → (K → Book → Type 0) → (K → Option Book → Type 0) → Type 0
+CallsAreAHistory {K} holds leaves = (turns : List (Turn K)) (are : AreTurns holds leaves IsNew turns) → IsHistory blank (lives_of holds leaves IsNew turns are)
 
 -- and so these are safe.
-abbrev pub CallsAreSafe : {K : Type 0} → (K → Book → Type 0) → (K → Book → Type 0) → Type 0
-CallsAreSafe {K} holds leaves = (turns : List (Turn K)) (are : AreTurns holds leaves IsBlank turns) → AreSafe (lives_of holds leaves IsBlank turns are)
+abbrev pub CallsAreSafe : {K : Type 0} → (K → Book → Type 0) → (K → Option Book → Type 0) → Type 0
+CallsAreSafe {K} holds leaves = (turns : List (Turn K)) (are : AreTurns holds leaves IsNew turns) → AreSafe (lives_of holds leaves IsNew turns are)
 
 -- The book is finished, and the text that was written is the one that the campaign defines with the pairs that the book
 -- gave up.
@@ -113,16 +119,30 @@ pub record WroteFinalText (before now : Option (List ℕ)) (c : Prepared) (book 
   pub final : IsFinalText c (given_up book.journal) text
 
 -- If the turn is a `run` that ended with Done, it has written that text of its last book.
-abbrev pub TellsTrue : {K : Type 0} (holds leaves : K → Book → Type 0) (turn : Turn K) → IsTurn holds leaves turn → Type 0
+abbrev pub TellsTrue : {K : Type 0} (holds : K → Book → Type 0) (leaves : K → Option Book → Type 0) (turn : Turn K) → IsTurn holds leaves turn → Type 0
 TellsTrue holds leaves (Ended call) (inl early) = ⊤
 TellsTrue holds leaves (Ended call) (inr life) = call.outcome ≡ Done → Runs life.command → WroteFinalText call.written_before call.written_after life.prepared life.work.sure
 TellsTrue holds leaves (CutEarly call) is = ⊤
 TellsTrue holds leaves (Cut call count) life = ⊤
 
-abbrev pub AllTellTrue : {K : Type 0} (holds leaves : K → Book → Type 0) (found : Book → Type 0) (turns : List (Turn K)) → AreTurns holds leaves found turns → Type 0
+abbrev pub AllTellTrue : {K : Type 0} (holds : K → Book → Type 0) (leaves : K → Option Book → Type 0) (found : Option Book → Type 0) (turns : List (Turn K)) → AreTurns holds leaves found turns → Type 0
 AllTellTrue holds leaves found [] are = ⊤
 AllTellTrue holds leaves found (turn ∷ more) are = TellsTrue holds leaves turn are.1.0 × AllTellTrue holds leaves (Left holds leaves turn are.1.0) more are.1.1
 
 -- Each `run` of such a list that ends with Done has written its campaign's text.
-abbrev pub DoneRunsTellTrue : {K : Type 0} → (K → Book → Type 0) → (K → Book → Type 0) → Type 0
-DoneRunsTellTrue {K} holds leaves = (turns : List (Turn K)) (are : AreTurns holds leaves IsBlank turns) → AllTellTrue holds leaves IsBlank turns are
+abbrev pub DoneRunsTellTrue : {K : Type 0} → (K → Book → Type 0) → (K → Option Book → Type 0) → Type 0
+DoneRunsTellTrue {K} holds leaves = (turns : List (Turn K)) (are : AreTurns holds leaves IsNew turns) → AllTellTrue holds leaves IsNew turns are
+
+-- A restart finds a book that is empty or good, always: whatever is left is one, and where the keeper tells something is.
+pub record FindsBook {K : Type 0} (tells : K → Type 0) (leaves : K → Option Book → Type 0) (k : K) : Type 0 where
+  pub good : LeavesBooks (leaves k) IsBlankOrGood
+  pub some : tells k → LeavesSome (leaves k)
+
+-- so it is at each entry, and after the last turn
+abbrev pub AllFindBooks : {K : Type 0} (tells : K → Type 0) (holds : K → Book → Type 0) (leaves : K → Option Book → Type 0) (found : Option Book → Type 0) (turns : List (Turn K)) → AreTurns holds leaves found turns → Type 0
+AllFindBooks tells holds leaves found [] are = LeavesBooks found IsBlankOrGood
+AllFindBooks tells holds leaves found (turn ∷ more) are = FindsBook tells leaves (entry_of turn) × AllFindBooks tells holds leaves (Left holds leaves turn are.1.0) more are.1.1
+
+-- Each restart in such a list finds a book.
+abbrev pub RestartsFindBooks : {K : Type 0} → (K → Type 0) → (K → Book → Type 0) → (K → Option Book → Type 0) → Type 0
+RestartsFindBooks {K} tells holds leaves = (turns : List (Turn K)) (are : AreTurns holds leaves IsNew turns) → AllFindBooks tells holds leaves IsNew turns are

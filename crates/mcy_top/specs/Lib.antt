@@ -33,10 +33,12 @@ pub mod Changes
 pub mod BookRefusals
 pub mod Life
 pub mod Complete
+pub mod Crashes
 pub mod Running
 pub mod Endings
 pub mod Once
 pub mod Exact
+pub mod Limits
 pub mod Lives
 pub mod Calls
 pub mod Histories

@@ -14,11 +14,12 @@ use Rattle.mcy_top.specs.declared.outcome.Refusal.TheVariants.{SourceBad as Refu
 use Rattle.mcy_top.specs.declared.outcome.BookRefusal.TheVariants.{NoCampaign as RefusedNone, AlreadyBegun as RefusedBegun, BookBad as RefusedBook}
 use Rattle.mcy_top.specs.declared.outcome.Outcome.{Outcome}
 use Rattle.mcy_top.specs.declared.outcome.Outcome.TheVariants.{Done, Unfinished, Usage, SourceBad, Missing, TooLarge, NoCampaign, AlreadyBegun, BookBad, ReadFault, KeeperFault, WriteFault, Memory, Unbuilt}
-use Rattle.mcy_top.specs.Commands.{command_of, slots_of, stop_of, OnlyReads, Runs}
+use Rattle.mcy_top.specs.Commands.{command_of, slots_of, stop_of, IsWithin, OnlyReads, Runs}
 use Rattle.mcy_top.specs.Campaigns.{IsMade}
 use Rattle.mcy_top.specs.Reads.{IsUnmade}
 use Rattle.mcy_top.specs.BookRefusals.{RefusesBook}
 use Rattle.mcy_top.specs.Rows.{IsGood, IsBlankOrGood, IsPrefix, IsWithinOne}
+use Rattle.mcy_top.specs.Crashes.{LeavesBooks}
 use Rattle.mcy_top.specs.Changes.{Course, IsNear}
 use Rattle.mcy_top.specs.Texts.{text_of}
 use Rattle.mcy_top.specs.Defined.{given_up, IsFinalText}
@@ -118,29 +119,39 @@ Carried Done = ⊤
 Carried (Unfinished left) = ⊤
 Carried outcome = ⊥
 
--- The sure book has the loaded one as its first part, and every crash leaves the sure book with one entry more at
--- most. It was reached by changes, and every crash leaves it or the book after one change more.
-pub record Grew (leaves : Book → Type 0) (command : Command) (c : Prepared) (loaded sure : Book) (outcome : Outcome) : Type 0 where
+-- The sure book has the loaded one as its first part, and every crash leaves a book: the sure one, with one entry more
+-- at most, and no more entries than were asked for. The sure book was reached by changes, and every crash leaves it or
+-- the book after one change more.
+pub record Grew (leaves : Option Book → Type 0) (command : Command) (c : Prepared) (loaded sure : Book) (outcome : Outcome) : Type 0 where
   pub grown : IsPrefix loaded sure
-  pub within_one : (other : Book) → leaves other → IsWithinOne sure other
-  pub good : IsBlankOrGood loaded → (other : Book) → leaves other → IsGood other ⊎ (IsBlank other × IsBlank loaded)
+  pub within_one : LeavesBooks leaves (IsWithinOne sure)
+  pub good : IsBlankOrGood loaded → LeavesBooks leaves (λ other. IsGood other ⊎ (IsBlank other × IsBlank loaded))
   pub reads : OnlyReads command → LeavesOnly leaves loaded
-  pub no_entry : ¬ Runs command → (other : Book) → leaves other → other.journal ≡ loaded.journal
+  pub no_entry : ¬ Runs command → LeavesBooks leaves (λ other. other.journal ≡ loaded.journal)
+  pub gained : IsWithin (stop_of command) (length loaded.journal) (length sure.journal)
+  pub stops : LeavesBooks leaves (λ other. IsWithin (stop_of command) (length loaded.journal) (length other.journal))
   pub exact : Carried outcome → LeavesOnly leaves sure
   pub is_begun : Carried outcome → sure.meta ≢ []
   pub changes : List Book
   pub course : Course c loaded changes sure
-  pub near : (other : Book) → leaves other → IsNear c sure other
+  pub near : LeavesBooks leaves (IsNear c sure)
 
--- The steps are at most the entries that the sure book gained and the slots, and at Done exactly the entries. A command
--- that runs no tests takes none.
+-- each test that was started has its entry
+abbrev pub IsCounted : Outcome → Type 0
+IsCounted KeeperFault = ⊥
+IsCounted Memory = ⊥
+IsCounted outcome = ⊤
+
+-- The steps are at most the entries that the sure book gained and the slots, and exactly the entries unless the keeper or
+-- memory failed: a refused call takes none. They are no more than were asked for. A command that runs no tests takes none.
 pub record Stepped (command : Command) (loaded sure : Book) (before now : ℕ) (outcome : Outcome) : Type 0 where
   pub bound : now + length loaded.journal ≤ before + length sure.journal + slots_of command
-  pub equal : outcome ≡ Done → now + length loaded.journal ≡ before + length sure.journal
+  pub equal : IsCounted outcome → now + length loaded.journal ≡ before + length sure.journal
+  pub stops : IsWithin (stop_of command) before now
   pub idle : ¬ Runs command → now ≡ before
 
 -- what a call does after it has loaded a book
-pub record Work (leaves : Book → Type 0) (written written' : Option (List ℕ)) (taken taken' : ℕ) (command : Command) (c : Prepared) (loaded : Book) (outcome : Outcome) : Type 0 where
+pub record Work (leaves : Option Book → Type 0) (written written' : Option (List ℕ)) (taken taken' : ℕ) (command : Command) (c : Prepared) (loaded : Book) (outcome : Outcome) : Type 0 where
   pub sure : Book
   pub book : Grew leaves command c loaded sure outcome
   pub steps : Stepped command loaded sure taken taken' outcome
@@ -148,18 +159,18 @@ pub record Work (leaves : Book → Type 0) (written written' : Option (List ℕ)
   pub answer : Answers command c loaded sure outcome
 
 -- A call that has loaded a book: the one that was told at entry, else one that a crash could have left then.
-pub record Life (words : List (List ℕ)) (held : Option Held) (holds leaves leaves' : Book → Type 0) (written written' : Option (List ℕ)) (taken taken' : ℕ) (outcome : Outcome) : Type 0 where
+pub record Life (words : List (List ℕ)) (held : Option Held) (holds : Book → Type 0) (leaves leaves' : Option Book → Type 0) (written written' : Option (List ℕ)) (taken taken' : ℕ) (outcome : Outcome) : Type 0 where
   pub command : Command
   pub prepared : Prepared
   pub loaded : Book
   pub asked : command_of words ≡ Some command
   pub made : IsMade held prepared
   pub found : (was : Book) → holds was → loaded ≡ was
-  pub allowed : leaves loaded
+  pub allowed : leaves (Some loaded)
   pub work : Work leaves' written written' taken taken' command prepared loaded outcome
 
 -- A call that has loaded no book.
-pub record Early (leaves leaves' : Book → Type 0) (taken taken' : ℕ) (outcome : Outcome) : Type 0 where
+pub record Early (leaves leaves' : Option Book → Type 0) (taken taken' : ℕ) (outcome : Outcome) : Type 0 where
   pub early : EndsEarly outcome
   pub leaves_is : LeavesNothingNew leaves leaves'
   pub steps_is : taken' ≡ taken

@@ -3,13 +3,13 @@ use Rattle.std.specs.Prelude.{◌≡◌, ◌⊎◌, ℕ, ◌<◌, List, [], leng
 use Rattle.mcy_base.specs.declared.kind.Kind.TheVariants.{FreeBits}
 use Rattle.mcy_base.specs.Causes.{Rose}
 use Rattle.mcy_outside.specs.Files.{Held}
-use Rattle.mcy_top.specs.declared.equal.TheConstants.{MAX_FREE_BITS}
 use Rattle.mcy_top.specs.declared.thin.ThinModule.{ThinModule}
 use Rattle.mcy_top.specs.declared.outcome.Part.TheVariants.{Project, Source}
 use Rattle.mcy_top.specs.declared.outcome.SourceFault.TheVariants.{TooMany}
 use Rattle.mcy_top.specs.declared.outcome.SourceError.{SourceError}
 use Rattle.mcy_top.specs.declared.outcome.Refusal.{Refusal}
 use Rattle.mcy_top.specs.declared.outcome.Refusal.TheVariants.{SourceBad, Missing, TooLarge, ReadFault, Memory, Unbuilt}
+use Rattle.mcy_top.specs.Limits.{max_free_bits}
 use Rattle.mcy_top.specs.Projects.{IsProject}
 use Rattle.mcy_top.specs.ThinModules.{IsSource, input_names}
 use Rattle.mcy_top.specs.Campaigns.{config_name, source_name, Got, Lacks, Exceeds}
@@ -33,7 +33,7 @@ pub record IsTooWide (held : Option Held) (error : SourceError) : Type 0 where
   pub got : GotSource held source
   pub parsed : ThinModule
   pub text : IsSource source parsed
-  pub many : MAX_FREE_BITS < length (input_names parsed.ports)
+  pub many : max_free_bits < length (input_names parsed.ports)
   pub is : error ≡ record { file = []; fault = TooMany FreeBits }
 
 -- why the files make no campaign

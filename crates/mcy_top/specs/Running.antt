@@ -6,6 +6,8 @@ use Rattle.mcy_keeper.specs.Books.{with_entry}
 use Rattle.result_book.specs.Rows.{IsWellFormed}
 use Rattle.mcy_top.specs.declared.prepared.Prepared.{Prepared}
 use Rattle.mcy_top.specs.Rows.{AreTrue, GoesOn, IsNextRow}
+use Rattle.mcy_top.specs.Commands.{IsWithin}
+use Rattle.mcy_top.specs.Crashes.{LeavesBooks}
 use Rattle.mcy_top.specs.Changes.{Course}
 
 -- the book of the campaign with these rows
@@ -21,14 +23,16 @@ pub record Ran (c : Prepared) (start end : List Entry) : Type 0 where
   pub course : Course c (book_of c start) changes (book_of c end)
 
 -- a crash leaves the book, or the book with the next row
-abbrev pub LeavesNext : (Book → Type 0) → Prepared → Book → Type 0
-LeavesNext leaves c sure = (other : Book) → leaves other → (other ≡ sure) ⊎ ((e : Entry) × IsNextRow c sure e × (other ≡ with_entry sure e))
+abbrev pub LeavesNext : (Option Book → Type 0) → Prepared → Book → Type 0
+LeavesNext leaves c sure = LeavesBooks leaves (λ other. (other ≡ sure) ⊎ ((e : Entry) × IsNextRow c sure e × (other ≡ with_entry sure e)))
 
--- what a run leaves that want of memory or an error of the keeper ended
-pub record Broke (leaves : Book → Type 0) (c : Prepared) (start : List Entry) (before now : ℕ) : Type 0 where
+-- what a run leaves that want of memory or an error of the keeper ended: the row that may be left is within the rows that
+-- were asked for
+pub record Broke (leaves : Option Book → Type 0) (c : Prepared) (stop : Option ℕ) (start : List Entry) (before now : ℕ) : Type 0 where
   pub rows : List Entry
   pub ran : Ran c start rows
   pub left : LeavesNext leaves c (book_of c rows)
+  pub within : IsWithin stop (length start) (length rows + 1)
   pub steps : now + length start ≤ before + length rows + 1
 
 -- one row of the mutation was added

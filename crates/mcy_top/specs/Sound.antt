@@ -86,7 +86,8 @@ abbrev pub AllCellsFit : ℕ → List Cell → Type 0
 AllCellsFit limit [] = Unit {0}
 AllCellsFit limit (cell ∷ more) = CellFits limit cell × AllCellsFit limit more
 
--- Each net has one driver at most, each net that is read has one, each cell reads what stands before it, and all fits.
+-- Each net has one driver at most, each net that is read has one, each cell reads only nets that are driven before it, so
+-- that there is no loop, and all fits.
 pub record IsSound (plan : Plan) : Type 0 where
   pub inputs : AllPortsFresh no_net plan.raw.inputs
   pub cells : AreOrdered (entered plan.raw) plan.raw.cells

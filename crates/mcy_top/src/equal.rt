@@ -5,6 +5,7 @@
 ghost use Rattle.std.specs.Prelude.{◌≡◌, ℕ, ◌≤◌, ◌<◌, ◌^◌, ◌↔◌, length, IfOk, IsTrue};
 ghost use Rattle.std.specs.List.{Contains};
 ghost use Rattle.mcy_top.specs.declared.inverted.Inverted.TheVariants.{Nowhere};
+ghost use Rattle.mcy_top.specs.Limits.{max_free_bits};
 ghost use Rattle.mcy_top.specs.Sound.{AllPortsFit};
 ghost use Rattle.mcy_top.specs.Sites.{sites};
 ghost use Rattle.mcy_top.specs.Equal.{design, mutant, OneStepEqual, EqualOnAllRuns};
@@ -33,7 +34,7 @@ pub(crate) fn one_step_equal(
     site: &Site,
 ) -> Result<bool, AllocError>
     requires site { Contains (sites netlist.now.raw) site.now }
-    requires small { input_bits netlist.now.raw ≤ MAX_FREE_BITS }
+    requires small { input_bits netlist.now.raw ≤ max_free_bits }
     ensures equal { IfOk result (λ same. IsTrue same
         ↔ OneStepEqual (design netlist.now.raw) (mutant netlist.now.raw site.now)) }
     ensures all_runs { IfOk result (λ same. IsTrue same
@@ -77,7 +78,7 @@ impl Trial<'_> {
     fn is_equal(&self, first: &mut [bool], second: &mut [bool]) -> bool
         requires room { length first.old ≡ self.now.netlist.now.nets }
         requires mutant_room { length second.old ≡ self.now.netlist.now.nets }
-        requires small { input_bits self.now.netlist.now.raw ≤ MAX_FREE_BITS }
+        requires small { input_bits self.now.netlist.now.raw ≤ max_free_bits }
         ensures { let raw = self.now.netlist.now.raw in
             IsTrue result ↔ OneStepEqual (design raw) (inverted_machine raw self.now.inverted) }
     {
@@ -124,6 +125,3 @@ fn shows_same(outputs: &[BitList], first: &[bool], inverted: Inverted, second: &
         }
     }
 }
-
-#[cfg(test)]
-mod tests;

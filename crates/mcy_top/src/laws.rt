@@ -1,11 +1,12 @@
 //! What follows from the contract of the one call and its definitions, each law as the contract of a
 //! function that does nothing: each refusal comes exactly where its cause holds, a project has one
 //! campaign and that one text, and no call that is cut off loses or repeats what was acknowledged.
+ghost use Rattle.mcy_keeper.specs.Books.{LeavesSome};
 ghost use Rattle.mcy_top.specs.Once.{AnswersAreOne, CampaignsAreOne, FinalTextsAreOne, FinishedTextsAreOne};
 ghost use Rattle.mcy_top.specs.Exact.{BookRefusalsAreExact, FileRefusalsAreExact, FilesHaveOneCause, RefusedFilesMakeNone, UsageIsExact};
 ghost use Rattle.mcy_top.specs.Lives.{LivesAreSafe, PartsAreGood};
 ghost use Rattle.mcy_top.specs.Calls.{CallIsALife, EarlyCallLeavesNothingNew, SureBookHasAll};
-ghost use Rattle.mcy_top.specs.Histories.{CallsAreAHistory, CallsAreSafe, DoneRunsTellTrue};
+ghost use Rattle.mcy_top.specs.Histories.{CallsAreAHistory, CallsAreSafe, DoneRunsTellTrue, RestartsFindBooks};
 
 use mcy_keeper::Keeper;
 
@@ -42,10 +43,12 @@ pub fn lives_are_safe()
     ensures parts { PartsAreGood }
 {}
 
-/// What a call is sure of is a first part of the keeper's sure book, the longest that is a first part
-/// of every book that a crash may leave, and no such book has more than one entry beyond that one.
-pub fn sure_book_has_all<K: Keeper>(keeper: &K)
-    ensures { SureBookHasAll (K.leaves keeper.now) }
+/// After a call that has loaded a book, a crash leaves something, and always a book. What the call is sure of
+/// is a first part of the keeper's sure book, the longest that is a first part of every book that a crash may
+/// leave, and no such book has more than one entry beyond that one.
+pub fn sure_book_has_all<K: Keeper>(before: &K, after: &K)
+    ensures covered { SureBookHasAll (K.holds before.now) (K.leaves before.now) (K.leaves after.now) }
+    ensures some { K.tells after.now → LeavesSome (K.leaves after.now) }
 {}
 
 /// A call that has loaded a book is a life: it begins with a book that a crash could leave before,
@@ -60,9 +63,11 @@ pub fn call_is_a_life<K: Keeper>(before: &K, after: &K)
 /// at any moment, and whose next call starts from nothing but what the one before may have left: the calls that have
 /// loaded a book are lives, these are safe, and each `run` that ended with Done has written the text that its campaign
 /// defines. Of a call that ended the law takes what the clause `life` of `mcy_main` says where the keeper tells. A call
-/// that was cut off leaves the book after one of its changes, or that with the one change that was under way.
+/// that was cut off leaves the book after one of its changes, or that with the one change that was under way. So each
+/// restart finds a book, empty or good.
 pub fn calls_are_a_history<K: Keeper>(_keeper: &K)
     ensures history { CallsAreAHistory K.holds K.leaves }
     ensures safe { CallsAreSafe K.holds K.leaves }
     ensures texts { DoneRunsTellTrue K.holds K.leaves }
+    ensures restarts { RestartsFindBooks K.tells K.holds K.leaves }
 {}

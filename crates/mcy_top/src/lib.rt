@@ -17,20 +17,12 @@ mod outcome;
 mod prepared;
 mod project;
 mod reading;
-#[cfg(test)]
-mod restart_tests;
 mod running;
-#[cfg(test)]
-mod sequence_tests;
 mod settle;
 mod site;
 mod site_line;
 mod site_text;
 mod sites;
-#[cfg(test)]
-mod sound;
-#[cfg(test)]
-mod tests;
 mod thin;
 mod view;
 mod work;

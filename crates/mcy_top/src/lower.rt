@@ -175,28 +175,3 @@ fn has_direction(port: &PortDecl, direction: Direction) -> bool
 {
     port.direction == direction
 }
-
-#[cfg(test)]
-mod tests {
-    use super::*;
-    use crate::thin::read_source;
-    use std::test::Fail;
-
-    #[test]
-    fn a_cell_stands_at_its_operator(rt: HostRuntime) -> Result<(), Fail> {
-        let source = "module g(input a, input b, output y);\n  assign y = a & b;\nendmodule\n";
-        let thin = read_source(rt.alloc(), source.as_bytes())?.ok_or("not thin")?;
-        assert!(rt; input_count(thin.ports.as_slice()) <= 8);
-        let netlist = lower(rt.alloc(), &thin)?;
-        let cell = netlist.raw().cells.as_slice().first().ok_or("no cell")?;
-        assert_eq!(rt;
-            cell.span,
-            Span {
-                file: 0,
-                line: 2,
-                col: 16
-            }
-        );
-        Ok(())
-    }
-}

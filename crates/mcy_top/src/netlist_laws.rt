@@ -1,5 +1,5 @@
 //! Laws of netlists and their mutants, each as the contract of a function that does nothing.
-ghost use Rattle.mcy_top.specs.NetlistLaws.{OneStepEqualityLasts, DesignsHaveOneSolution, MutantsHaveOneSolution};
+ghost use Rattle.mcy_top.specs.NetlistLaws.{CampaignsAreSound, CampaignsHaveOneSolution, DesignsHaveOneSolution, MutantsHaveOneSolution, OneStepEqualityLasts};
 
 /// Machines that are equal in one step have equal outputs on every list of inputs.
 pub fn one_step_equality_lasts()
@@ -14,4 +14,11 @@ pub fn designs_have_one_solution()
 /// The mutant of a sound netlist at one of its sites has exactly one solution for all inputs that fit.
 pub fn mutants_have_one_solution()
     ensures { MutantsHaveOneSolution }
+{}
+
+/// The netlist of a campaign is sound: it has no loop, and each net has one driver. So it has exactly one solution for
+/// all inputs that fit, and each of its mutants has: no PASS and no FAIL is an answer on machines that have none.
+pub fn campaigns_have_one_solution()
+    ensures sound { CampaignsAreSound }
+    ensures solutions { CampaignsHaveOneSolution }
 {}

@@ -2,10 +2,10 @@
 //!
 //! `campaign` is what the book and the texts are made of. Mutation n of it is `netlist` broken at site n of `sites`.
 ghost use Rattle.std.specs.Prelude.{◌≡◌, ◌≤◌, [], ◌∷◌, IfOk, codes, length};
+ghost use Rattle.mcy_top.specs.Limits.{max_free_bits};
 ghost use Rattle.mcy_top.specs.Projects.{IsProject};
 ghost use Rattle.mcy_top.specs.ThinModules.{IsSource, input_names};
 
-use crate::equal::MAX_FREE_BITS;
 use crate::lower::lower;
 use crate::netlist::Netlist;
 use crate::site::Site;
@@ -93,7 +93,7 @@ pub(crate) fn prepare(
 ) -> Result<Prepared, AllocError>
     requires project { IsProject config.now }
     requires text { IsSource source.now parsed.now }
-    requires few { length (input_names parsed.now.ports) ≤ MAX_FREE_BITS }
+    requires few { length (input_names parsed.now.ports) ≤ max_free_bits }
     ensures { IfOk result (λ prepared. IsPrepared config.now source.now prepared) }
 {
     let netlist = lower(alloc, parsed)?;

@@ -3,6 +3,7 @@
 //! The project file is read first and has to be a project; then the source that it names is read.
 ghost use Rattle.std.specs.Prelude.{◌≡◌, ◌≤◌, [], length, IfOk, IfErr};
 ghost use Rattle.mcy_base.specs.Causes.{Rose};
+ghost use Rattle.mcy_top.specs.Limits.{max_free_bits};
 ghost use Rattle.mcy_top.specs.Projects.{IsProject};
 ghost use Rattle.mcy_top.specs.ThinModules.{IsSource, input_names};
 ghost use Rattle.mcy_top.specs.Campaigns.{config_name, Got, IsMade};
@@ -71,7 +72,7 @@ fn read_module<F: SourceFiles>(
     ensures same { F.held files.new ≡ F.held files.old }
     ensures got { IfOk result (λ read. GotSource (F.held files.old) read.0.items) }
     ensures text { IfOk result (λ read. IsSource read.0.items read.1) }
-    ensures few { IfOk result (λ read. length (input_names read.1.ports) ≤ MAX_FREE_BITS) }
+    ensures few { IfOk result (λ read. length (input_names read.1.ports) ≤ max_free_bits) }
     ensures refused { IfErr result (IsUnmade (F.held files.old)) }
     ensures later { F.faults files.old ≤ F.faults files.new }
     ensures cause { IfErr result (HasReadCause (F.faults files.old) (F.faults files.new)) }

@@ -7,6 +7,7 @@ ghost use Rattle.result_book.specs.Scripts.{word_code};
 ghost use Rattle.result_book.specs.Rows.{ask_on, IsFinished};
 ghost use Rattle.result_book.specs.States.{IsStateOf};
 ghost use Rattle.mcy_top.specs.Campaigns.{IsPlan};
+ghost use Rattle.mcy_top.specs.Commands.{IsWithin};
 ghost use Rattle.mcy_top.specs.Rows.{IsTrueWord};
 ghost use Rattle.mcy_top.specs.Running.{book_of, AddsRow, Broke, LeavesNext, Ran, Reached};
 
@@ -62,10 +63,7 @@ fn test_mutation<K: Keeper, L: Ledger>(
     let word = run_test(alloc, prepared, mutation)?.code();
     state.reserve(1)?;
     let entry = state.entry_for(&prepared.campaign, mutation, test, word);
-    match keeper.append(&entry) {
-        Ok(()) => {}
-        Err(error) => return Err(error),
-    }
+    keeper.append(&entry)?;
     state.add(&prepared.campaign, &entry);
     Ok(())
 }
@@ -88,7 +86,8 @@ pub(crate) fn run_tests<K: Keeper, L: Ledger>(
     ensures ran { OnOk result (Ran prepared.now state.old.rows state.new.rows) }
     ensures state { OnOk result (IsStateOf prepared.now.campaign state.new.rows state.new) }
     ensures kept { K.tells keeper.new → OnOk result (Keeps (K.holds keeper.new) (K.leaves keeper.new) (book_of prepared.now state.new.rows)) }
-    ensures broke { K.tells keeper.new → OnErr result (Broke (K.leaves keeper.new) prepared.now state.old.rows steps.old steps.new) }
+    ensures broke { K.tells keeper.new → OnErr result (Broke (K.leaves keeper.new) prepared.now stop_after state.old.rows steps.old steps.new) }
+    ensures within { OnOk result (IsWithin stop_after (length state.old.rows) (length state.new.rows)) }
     ensures steps { OnOk result (steps.new + length state.old.rows ≡ steps.old + length state.new.rows) }
     ensures ends { OnOk result (IsFinished prepared.now.campaign (book_of prepared.now state.new.rows) ⊎ Reached stop_after state.old.rows state.new.rows) }
     ensures later { K.faults keeper.old ≤ K.faults keeper.new }
@@ -101,10 +100,8 @@ pub(crate) fn run_tests<K: Keeper, L: Ledger>(
             return Ok(());
         }
         if let Ask::Need(test) = state.ask_of(mutation) {
-            match test_mutation(alloc, prepared, mutation, test, state, keeper, steps) {
-                Ok(()) => gained += 1,
-                Err(error) => return Err(error),
-            }
+            test_mutation(alloc, prepared, mutation, test, state, keeper, steps)?;
+            gained += 1;
         }
     }
     Ok(())

@@ -2,8 +2,6 @@
 //! names (docs/PROFILE.md).
 mod reader;
 mod rules;
-#[cfg(test)]
-mod tests;
 mod text;
 
 use mcy_base::{Bytes, Items};

@@ -4,7 +4,7 @@ ghost use Rattle.mcy_base.specs.Causes.{Rose};
 ghost use Rattle.mcy_keeper.specs.Books.{blank, IsBlank, Keeps};
 ghost use Rattle.result_book.specs.Rows.{IsWellFormed};
 ghost use Rattle.result_book.specs.States.{IsStateOf};
-ghost use Rattle.source_report.specs.Texts.{number_line, status_text};
+ghost use Rattle.source_report.specs.Texts.{status_text};
 ghost use Rattle.mcy_top.specs.Texts.{init_text};
 ghost use Rattle.mcy_top.specs.Campaigns.{IsPlan};
 ghost use Rattle.mcy_top.specs.BookRefusals.{told, RefusesBook};
@@ -23,7 +23,7 @@ use mcy_keeper::{Book, KeepError, Keeper};
 use mcy_outside::Sink;
 use result_book::book_laws::refused_books_are_ill_formed;
 use result_book::{BookError, State, check_book};
-use source_report::status_text;
+use source_report::{add_number, status_text};
 use std::alloc::{AllocError, Global};
 use std::sync::ledger::Ledger;
 
@@ -85,13 +85,6 @@ fn report<O: Sink>(alloc: Global, prepared: &Prepared, state: &State, out: &mut 
         Ok(text) => deliver(text.as_slice(), out),
         Err(_) => Ending::NoMemory,
     }
-}
-
-/// Adds a line of a name and a number.
-fn add_number(text: &mut String, name: &str, number: usize) -> Result<(), AllocError>
-    ensures { OnOk result (string_bytes text.new ≡ string_bytes text.old ++ number_line name.now number) }
-{
-    writeln!(text, "{name}: {number}")
 }
 
 /// The text of `init`.

@@ -2,13 +2,19 @@
 use Rattle.std.specs.Prelude.{◌≡◌, ◌≢◌, ◌⊎◌, ℕ, ◌≤◌, [], length, slice_get, IsSomeAnd}
 use Rattle.std.specs.List.{All}
 use Rattle.result_book.specs.declared.campaign.Campaign.{Campaign}
-use Rattle.result_book.specs.declared.campaign.TheConstants.{EQ_KIND, SIM_KIND}
 use Rattle.result_book.specs.declared.script.TestWord.TheVariants.{Pass, Fail, Hang, Unknown}
 use Rattle.result_book.specs.Scripts.{word_code}
 
+-- the codes of the kinds of tests: an equivalence test, and a simulation
+abbrev pub eq_kind : ℕ
+eq_kind = 0
+
+abbrev pub sim_kind : ℕ
+sim_kind = 1
+
 -- a kind of test
 abbrev pub IsKind : ℕ → Type 0
-IsKind kind = (kind ≡ EQ_KIND) ⊎ (kind ≡ SIM_KIND)
+IsKind kind = (kind ≡ eq_kind) ⊎ (kind ≡ sim_kind)
 
 -- The campaign is within the limits, and each list has one element for each mutation or test that it goes by.
 pub record IsFit (c : Campaign) : Type 0 where
@@ -31,7 +37,7 @@ IsSimWord word = (word ≡ word_code Pass) ⊎ (word ≡ word_code Fail) ⊎ (wo
 
 -- the word is one of this kind of test
 abbrev pub IsWordOfKind : ℕ → ℕ → Type 0
-IsWordOfKind kind word = ((kind ≡ EQ_KIND) × IsEqWord word) ⊎ ((kind ≡ SIM_KIND) × IsSimWord word)
+IsWordOfKind kind word = ((kind ≡ eq_kind) × IsEqWord word) ⊎ ((kind ≡ sim_kind) × IsSimWord word)
 
 -- there is such a test, and the word is one of its kind
 abbrev pub IsWordOf : Campaign → ℕ → ℕ → Type 0

@@ -3,11 +3,11 @@
 use Rattle.std.specs.Prelude.{ℕ, ◌+◌, ◌^◌, Bool, true, false, ◌==◌, List, [], ◌∷◌, ◌++◌, length, count_by, Option, None, Some, codes, decimal, if◌then◌else◌}
 use Rattle.mcy_keeper.specs.declared.book.Entry.{Entry}
 use Rattle.result_book.specs.declared.campaign.Campaign.{Campaign}
-use Rattle.result_book.specs.declared.campaign.TheConstants.{EQ_KIND}
 use Rattle.result_book.specs.declared.script.TestWord.{TestWord}
 use Rattle.result_book.specs.declared.script.TestWord.TheVariants.{Pass, Fail, Hang, Unknown}
 use Rattle.result_book.specs.declared.script.Ask.{Ask}
 use Rattle.result_book.specs.declared.script.Ask.TheVariants.{AssertFailed, Unexpected}
+use Rattle.result_book.specs.Campaigns.{eq_kind}
 use Rattle.result_book.specs.Scripts.{Answer, ask, has_tag, is_ended, word_code, word_in}
 use Rattle.result_book.specs.Rows.{groups}
 use Rattle.source_report.specs.declared.counts.End.{End}
@@ -21,7 +21,7 @@ word_name Unknown = codes "UNKNOWN"
 
 -- the word that a kind of test has beside PASS and FAIL
 abbrev pub third_word : ℕ → TestWord
-third_word kind = if kind == EQ_KIND then Unknown else Hang
+third_word kind = if kind == eq_kind then Unknown else Hang
 
 -- a test answered with this word
 abbrev pub is_word : TestWord → Option ℕ → Bool

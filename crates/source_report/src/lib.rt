@@ -4,7 +4,7 @@
 mod counts;
 mod status;
 
-pub use status::status_text;
+pub use status::{add_number, status_text};
 
 #[cfg(test)]
 mod tests;

@@ -20,17 +20,25 @@ pub fn status_text(alloc: Global, campaign: &Campaign, state: &State) -> Result<
     let asserts = end_count(campaign, state, End::Assert);
     let unexpected = end_count(campaign, state, End::Word);
     let mut text = String::new(alloc);
-    add_number(&mut text, "Mutations", mutation_count(campaign, state))?;
-    add_number(&mut text, "Finished", finished_count(campaign, state))?;
+    add_number(
+        &mut text,
+        "Mutations",
+        mutation_count(campaign, state) as usize,
+    )?;
+    add_number(
+        &mut text,
+        "Finished",
+        finished_count(campaign, state) as usize,
+    )?;
     add_tests(&mut text, campaign, state)?;
     add_tags(&mut text, campaign, state)?;
-    add_number(&mut text, "Asserts", asserts)?;
-    add_number(&mut text, "Unexpected", unexpected)?;
+    add_number(&mut text, "Asserts", asserts as usize)?;
+    add_number(&mut text, "Unexpected", unexpected as usize)?;
     Ok(Bytes::from_vec(text.into_bytes()))
 }
 
 /// Adds a line of a name and a number.
-fn add_number(text: &mut String, name: &str, number: u32) -> Result<(), AllocError>
+pub fn add_number(text: &mut String, name: &str, number: usize) -> Result<(), AllocError>
     ensures { OnOk result (string_bytes text.new ≡ string_bytes text.old ++ texts.number_line name.now number) }
 {
     writeln!(text, "{name}: {number}")

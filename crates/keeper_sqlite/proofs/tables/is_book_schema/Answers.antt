@@ -3,8 +3,8 @@ use Rattle.keeper_sqlite.specs.Tables.{rowid_table, constraints, meta_columns, m
 use Rattle.keeper_sqlite.proofs.Lists.{three}
 use Rattle.keeper_sqlite.proofs.tables.is_book_schema.Goals as goal
 
-pub returns : goal.returns
-returns c last =
+pub returns-clause-is : goal.returns-clause-is
+returns-clause-is c last =
     let schema = c.args.schema.now in
     let meta : c.meta-item.result ≡ rowid_table (codes "meta") 0 meta_columns (constraints c.meta-item.result) = search rules in
     let mutations : c.mutations-item.result ≡ rowid_table (codes "mutations") 1 mutation_columns (constraints c.mutations-item.result) = search rules in

@@ -3,6 +3,7 @@ use Rattle.mcy_keeper.specs.Books.{Keeps}
 use Rattle.result_book.specs.Scripts.{is_ended}
 use Rattle.result_book.specs.Rows.{ask_on}
 use Rattle.result_book.specs.States.{IsStateOf}
+use Rattle.mcy_top.specs.Commands.{IsWithin}
 use Rattle.mcy_top.specs.Running.{book_of, Ran}
 use Rattle.mcy_top.proofs.running.run_tests.Given as goal
 
@@ -16,6 +17,7 @@ invariant-tests g l = record {
   steps : l.steps + length l.initial.state.rows ≡ l.initial.steps + length l.state.rows;
   gained : length l.state.rows ≡ length l.initial.state.rows + l.gained;
   few : l.gained ≤ l.mutation;
+  within : IsWithin l.stop_after (length l.initial.state.rows) (length l.state.rows);
   finished : (m : ℕ) → m < l.mutation → is_ended (ask_on m l.state.rows) ≡ true;
   later : g.K.Keeper.faults l.initial.keeper ≤ g.K.Keeper.faults l.keeper;
 }

@@ -1,4 +1,5 @@
 use Rattle.std.proofs.Common.{List, refl, ap, sym, subst, Result, OnErr}
+use Rattle.std.proofs.lemmas.Result.{err_from_is_err_and}
 use Rattle.mcy_keeper.specs.declared.book.Book.{Book}
 use Rattle.mcy_keeper.specs.declared.book.Entry.{Entry}
 use Rattle.mcy_keeper.specs.declared.keeper.KeepError.{KeepError}
@@ -23,12 +24,13 @@ append-requires-clause-next g c was held =
     let next : IsNextRow c.args.prepared.now book c.entry_for-entry.result = next_row_of c.args.prepared.now c.args.state.now.rows c.entry_for-entry.result c.args.mutation c.args.test c.code-word.result (subst (λ (rows : List Entry). IsRow c.args.prepared.now.campaign rows c.entry_for-entry.result) (ap (λ (s : Progress). s.rows) c.in_ok-reserve.ensures.ok) c.entry_for-entry.ensures.row) c.entry_for-entry.ensures.pair c.entry_for-entry.ensures.word (rw c.code-word.ensures c.in_ok-run_test.ensures) in
     subst (λ (b : Book). IsNext b c.entry_for-entry.result) (sym same) (next_of c.args.prepared.now book c.entry_for-entry.result (record { meta = refl; mutations = refl; rows = c.requires.state.form }) next)
 
-pub returns-in-Err-clause-left : goal.returns-in-Err-clause-left
-returns-in-Err-clause-left g c tells =
+pub returns-in_err-append-clause-left : goal.returns-in_err-append-clause-left
+returns-in_err-append-clause-left g c tells =
     let book : Book = book_of c.args.prepared.now c.args.state.now.rows in
     let next : IsNextRow c.args.prepared.now book c.entry_for-entry.result = next_row_of c.args.prepared.now c.args.state.now.rows c.entry_for-entry.result c.args.mutation c.args.test c.code-word.result (subst (λ (rows : List Entry). IsRow c.args.prepared.now.campaign rows c.entry_for-entry.result) (ap (λ (s : Progress). s.rows) c.in_ok-reserve.ensures.ok) c.entry_for-entry.ensures.row) c.entry_for-entry.ensures.pair c.entry_for-entry.ensures.word (rw c.code-word.ensures c.in_ok-run_test.ensures) in
-    subst (λ (r : Result (Unit {0}) KeepError). OnErr r (LeavesNext (g.K.Keeper.leaves c.append.new.self) c.args.prepared.now book)) c.in-Err.is
-    (append_left (g.K.Keeper.holds c.args.keeper.now) (g.K.Keeper.leaves c.args.keeper.now) (g.K.Keeper.leaves c.append.new.self) c.append.result c.args.prepared.now book c.entry_for-entry.result next (c.requires.kept (c.append.ensures.tells tells)) (c.append.ensures.either tells) (c.append.ensures.refused tells))
+    let p = err_from_is_err_and c.from_residual-in_err-append.result c.from_residual-in_err-append.ensures.1 in
+    rw p.1 (subst (λ (r : Result (Unit {0}) KeepError). OnErr r (LeavesNext (g.K.Keeper.leaves c.append.new.self) c.args.prepared.now book)) c.in_err-append.was
+    (append_left (g.K.Keeper.holds c.args.keeper.now) (g.K.Keeper.leaves c.args.keeper.now) (g.K.Keeper.leaves c.append.new.self) c.append.result c.args.prepared.now book c.entry_for-entry.result next (c.requires.kept (c.append.ensures.tells tells)) (c.append.ensures.either tells) (c.append.ensures.refused tells)))
 
 pub add-requires-clause-fit : goal.add-requires-clause-fit
 add-requires-clause-fit g c = plan_fit c.args.prepared.now c.requires.plan

@@ -7,7 +7,7 @@ use Rattle.mcy_top.proofs.work.run.Goals as goal
 pub returns-in-Ok-clause-work : goal.returns-in-Ok-clause-work
 returns-in-Ok-clause-work g c tells =
     rw (c.outcome.ensures, c.run_outcome.ensures) (work_ran (g.K.Keeper.holds c.run_tests.new.keeper) (g.K.Keeper.leaves c.run_tests.new.keeper) (g.O.Sink.written c.args.out.now) (g.O.Sink.written c.report.new.out) c.args.steps.now c.run_tests.new.steps c.args.stop_after c.args.prepared.now c.args.state.rows c.run_tests.new.state.rows c.report.result
-    (record { plan = c.requires.plan; form = record { meta = refl; mutations = refl; rows = c.requires.state.form }; ran = c.in-Ok.ensures.ran; ends = c.in-Ok.ensures.ends }) (c.in-Ok.ensures.kept tells) c.in-Ok.ensures.steps c.report.ensures.wrote)
+    (record { plan = c.requires.plan; form = record { meta = refl; mutations = refl; rows = c.requires.state.form }; ran = c.in-Ok.ensures.ran; ends = c.in-Ok.ensures.ends; within = c.in-Ok.ensures.within }) (c.in-Ok.ensures.kept tells) c.in-Ok.ensures.steps c.report.ensures.wrote)
 
 pub returns-in-Ok-clause-ends : goal.returns-in-Ok-clause-ends
 returns-in-Ok-clause-ends g c =

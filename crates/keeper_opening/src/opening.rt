@@ -1,0 +1,179 @@
+//! A keeper of the book in a database that is opened at the first load.
+//!
+//! `place` is the opener before the first load, and after it the keeper over the connection, or over none where
+//! the opening was refused. Nothing is opened, made or read before the first load, so a call that ends without one
+//! touches no file. Before it the keeper tells no book, and a crash leaves what the opener may find. `fault` is why
+//! the first fault came.
+ghost use Rattle.std.specs.Prelude.{◌≡◌, IfOk, IsErr, None, false};
+ghost use Rattle.sqlite.specs.Tree.{Trees};
+ghost use Rattle.sqlite.specs.Held.{state};
+ghost use Rattle.keeper_opening.specs.declared.opening.Place.TheVariants.{Closed};
+ghost use Rattle.keeper_opening.specs.Found.{Finds};
+ghost use Rattle.keeper_opening.specs.Places.{is_settled, faults, PlaceTells, PlaceHolds, PlaceLeaves, Opens, place_one, place_survives, place_told};
+
+use keeper_sqlite::SqlKeeper;
+use mcy_base::BytesList;
+use mcy_keeper::{Book, Entry, KeepError, Keeper};
+use sqlite::{Alter, Connection};
+use std::alloc::{AllocError, Global};
+
+/// Why a database has failed.
+#[derive(Clone, Copy, Debug, PartialEq, Eq)]
+pub enum DatabaseFault {
+    /// Another program has it open.
+    Locked,
+    /// What is there is no database, is damaged, or holds no book.
+    NoBook,
+    /// It cannot be read or written.
+    NoAccess,
+}
+
+/// Why a database was not opened.
+#[derive(Clone, Copy, Debug, PartialEq, Eq)]
+pub enum OpenError {
+    /// There was no memory.
+    Memory,
+    /// The database was refused.
+    Refused(DatabaseFault),
+}
+
+/// What opens a database.
+pub trait Opener<S: Alter + Drop>: Drop {
+    /// The trees that may be found.
+    ghost found: { Self → Trees → Type 0 };
+
+    /// Opens the database, which it makes where there is none.
+    fn open(self) -> Result<Connection<S>, OpenError>
+        ensures { IfOk result (λ c. Finds (found self) (state S.Store c)) };
+}
+
+/// Before the first load, or after it.
+#[derive(Drop)]
+enum Place<S: Alter + Drop, O: Opener<S>> {
+    Closed(O),
+    Opened(SqlKeeper<S>),
+}
+
+/// A keeper of the book in a database that is opened at the first load.
+#[derive(Drop)]
+pub struct OpeningKeeper<S: Alter + Drop, O: Opener<S>> {
+    alloc: Global,
+    place: Place<S, O>,
+    fault: Option<DatabaseFault>,
+}
+
+impl<S: Alter + Drop, O: Opener<S>> Place<S, O> {
+    /// The keeper after the opening, and why a load of it answers a fault.
+    fn opened(self, alloc: Global) -> Result<(SqlKeeper<S>, DatabaseFault), AllocError>
+        ensures opens { IfOk result (λ it. Opens S.Store O.found self it.0) }
+        ensures closed { IsErr result → (is_settled self ≡ false) × (faults self ≡ 0) }
+    {
+        match self {
+            Place::Opened(keeper) => Ok((keeper, DatabaseFault::NoBook)),
+            Place::Closed(opener) => match opener.open() {
+                Ok(connection) => Ok((
+                    SqlKeeper::adopt(alloc, Some(connection)),
+                    DatabaseFault::NoBook,
+                )),
+                Err(OpenError::Memory) => Err(AllocError),
+                Err(OpenError::Refused(fault)) => Ok((SqlKeeper::adopt(alloc, None), fault)),
+            },
+        }
+    }
+}
+
+impl<S: Alter + Drop, O: Opener<S>> OpeningKeeper<S, O> {
+    /// The keeper, which has opened nothing. It takes no memory, and neither reads nor writes.
+    pub fn new(alloc: Global, opener: O) -> OpeningKeeper<S, O>
+        ensures place { result.place ≡ Closed opener }
+        ensures fault { result.fault ≡ None }
+    {
+        OpeningKeeper {
+            alloc,
+            place: Place::Closed(opener),
+            fault: None,
+        }
+    }
+
+    /// Why the first fault came, if there was one.
+    pub fn fault(&self) -> Option<DatabaseFault>
+        ensures { result ≡ self.now.fault }
+    {
+        self.fault
+    }
+
+    /// The connection, given back, if there is one.
+    pub fn into_connection(self) -> Option<Connection<S>> {
+        match self.place {
+            Place::Closed(_) => None,
+            Place::Opened(keeper) => keeper.into_connection(),
+        }
+    }
+
+    /// Notes why a write has failed.
+    fn note_write(&mut self, written: Result<(), KeepError>) -> Result<(), KeepError>
+        ensures same { result ≡ written }
+        ensures place { self.new.place ≡ self.old.place }
+    {
+        if let Err(KeepError::Fault) = written {
+            self.fault = self.fault.or(Some(DatabaseFault::NoAccess));
+        }
+        written
+    }
+}
+
+impl<S: Alter + Drop, O: Opener<S>> Keeper for OpeningKeeper<S, O> {
+    ghost tells = { λ k. PlaceTells S.Store k.place };
+
+    ghost holds = { λ k. PlaceHolds S.Store k.place };
+
+    ghost leaves = { λ k. PlaceLeaves S.Store O.found k.place };
+
+    ghost is_settled = { λ k. is_settled k.place };
+
+    ghost faults = { λ k. faults k.place };
+
+    ghost one = { λ k. place_one (record { view = S.Store.view; faults = S.Store.faults; recovers = S.Store.recovers; is_shielded = S.Store.is_shielded; is_step = S.Store.is_step; blamed = S.Store.blamed; names = S.Store.names }) k.place };
+
+    ghost told = { λ k. place_told (record { view = S.Store.view; faults = S.Store.faults; recovers = S.Store.recovers; is_shielded = S.Store.is_shielded; is_step = S.Store.is_step; blamed = S.Store.blamed; names = S.Store.names }) k.place };
+
+    ghost survives = { λ k. place_survives (record { view = S.Store.view; faults = S.Store.faults; recovers = S.Store.recovers; is_shielded = S.Store.is_shielded; is_step = S.Store.is_step; blamed = S.Store.blamed; names = S.Store.names }) S.Store.survives O.found k.place };
+
+    fn load(&mut self) -> Result<Book, KeepError> {
+        let nothing = Place::Opened(SqlKeeper::adopt(self.alloc, None));
+        let place = std::mem::replace(&mut self.place, nothing);
+        let (mut keeper, fault) = match place.opened(self.alloc) {
+            Ok(opened) => opened,
+            Err(AllocError) => return Err(KeepError::Memory),
+        };
+        let loaded = keeper.load();
+        if let Err(KeepError::Fault) = loaded {
+            self.fault = self.fault.or(Some(fault));
+        }
+        self.place = Place::Opened(keeper);
+        loaded
+    }
+
+    fn begin(&mut self, meta: &BytesList, mutations: &BytesList) -> Result<(), KeepError> {
+        let written = match &mut self.place {
+            Place::Opened(keeper) => keeper.begin(meta, mutations),
+            Place::Closed(_) => unreachable!(),
+        };
+        self.note_write(written)
+    }
+
+    fn append(&mut self, entry: &Entry) -> Result<(), KeepError> {
+        let written = match &mut self.place {
+            Place::Opened(keeper) => keeper.append(entry),
+            Place::Closed(_) => unreachable!(),
+        };
+        self.note_write(written)
+    }
+
+    fn settled(&self) -> bool {
+        match &self.place {
+            Place::Opened(keeper) => keeper.settled(),
+            Place::Closed(_) => false,
+        }
+    }
+}

@@ -1,0 +1,16 @@
+use Rattle.std.proofs.Common.{◌≡◌, map, []}
+use Rattle.sqlite.specs.Held.{state}
+use Rattle.sqlite.specs.Given.{HasGiven}
+use Rattle.sqlite.specs.State.{HasCleanDisk, IsUnchanged, Survives}
+use Rattle.keeper_sqlite.specs.Rows.{shown_entry}
+use Rattle.keeper_sqlite.proofs.select.show_entries.Given as goal
+
+abbrev pub invariant-rows : goal.invariant-rows
+invariant-rows g l =
+    let old = state g.S.Store l.fn.connection in
+    let now = state g.S.Store l.rows.conn.now in
+    record {
+      same : l.rows.conn.ghost_name ≡ l.initial.rows.conn.ghost_name;
+      crash : Survives old now (λ _. ⊥);
+      given : HasCleanDisk now → HasGiven g.S.Store l.sql [] l.rows.conn.now (map shown_entry l.entries.items) × IsUnchanged old now;
+    }
