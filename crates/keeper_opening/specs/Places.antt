@@ -3,6 +3,7 @@ use Rattle.std.specs.Prelude.{◌≡◌, refl, ℕ, Bool, false, Option, Some, N
 use mathlib.Core.Logic.{inl, inr}
 use Rattle.sqlite.specs.Tree.{Trees}
 use Rattle.sqlite.specs.Store.{Ghosts}
+use Rattle.sqlite.specs.Held.{Held}
 use Rattle.sqlite_trees.specs.View.{IsClean}
 use Rattle.mcy_keeper.specs.declared.book.Book.{Book}
 use Rattle.mcy_keeper.specs.Books.{LeavesSome}
@@ -20,6 +21,10 @@ is_settled (Opened it) = it.settled
 abbrev pub faults : {S O : Type 0} → Place S O → ℕ
 faults (Closed opener) = 0
 faults (Opened it) = it.faults
+
+abbrev pub connection_of : {S O : Type 0} → Place S O → Option (Held S)
+connection_of (Closed opener) = None
+connection_of (Opened it) = it.connection
 
 module _ {S O : Type 0} (g : Ghosts S) where
   abbrev pub PlaceTells : Place S O → Type 0

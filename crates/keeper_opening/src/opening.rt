@@ -9,7 +9,7 @@ ghost use Rattle.sqlite.specs.Tree.{Trees};
 ghost use Rattle.sqlite.specs.Held.{state};
 ghost use Rattle.keeper_opening.specs.declared.opening.Place.TheVariants.{Closed};
 ghost use Rattle.keeper_opening.specs.Found.{Finds};
-ghost use Rattle.keeper_opening.specs.Places.{is_settled, faults, PlaceTells, PlaceHolds, PlaceLeaves, Opens, place_one, place_survives, place_told};
+ghost use Rattle.keeper_opening.specs.Places.{connection_of, is_settled, faults, PlaceTells, PlaceHolds, PlaceLeaves, Opens, place_one, place_survives, place_told};
 
 use keeper_sqlite::SqlKeeper;
 use mcy_base::BytesList;
@@ -103,7 +103,9 @@ impl<S: Alter + Drop, O: Opener<S>> OpeningKeeper<S, O> {
     }
 
     /// The connection, given back, if there is one.
-    pub fn into_connection(self) -> Option<Connection<S>> {
+    pub fn into_connection(self) -> Option<Connection<S>>
+        ensures { result ≡ connection_of self.place }
+    {
         match self.place {
             Place::Closed(_) => None,
             Place::Opened(keeper) => keeper.into_connection(),

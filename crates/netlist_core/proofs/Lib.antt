@@ -1,0 +1,14 @@
+mod Tables
+mod Counting
+mod Owners
+mod Sources
+mod Last
+mod Stages
+mod Reading
+mod Staged
+mod Trails
+mod Chains
+mod Checks
+mod Settles
+mod Solved
+mod Unique

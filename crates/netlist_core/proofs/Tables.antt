@@ -1,0 +1,74 @@
+-- A table of drivers as a function of the net.
+use Rattle.std.proofs.Common.{◌≡◌, ◌≢◌, ℕ, zero, suc, ◌-◌, ◌<◌, Bool, true, false, List, [], ◌∷◌, ◌++◌, length, get_or, take, slice_get, set, Option, Some, refl, sym, ◌∙◌, ap, subst, inl, inr, arith}
+use Rattle.std.proofs.lemmas.Bool.Decides.{eqb_tells}
+use Rattle.std.proofs.lemmas.List.{get_or-set_same, get_or-set_other, get_or_read}
+use Rattle.netlist_core.specs.declared.drivers.Driver.{Driver}
+use Rattle.netlist_core.specs.declared.drivers.Driver.TheVariants.{Nothing, Source, Cell}
+use Rattle.netlist_core.specs.declared.bit.Bit.{Bit}
+use Rattle.netlist_core.specs.Runs.{input_ports, output_port}
+use Rattle.netlist_core.specs.Marking.{Known, driver_at, with_driver, is_driven, lesser, after_net}
+
+-- a default at the end is not seen
+reads-push : (table : List Driver) (m : ℕ) → driver_at (table ++ Nothing ∷ []) m ≡ driver_at table m
+reads-push [] zero = refl
+reads-push [] (suc m) = refl
+reads-push (d ∷ more) zero = refl
+reads-push (d ∷ more) (suc m) = reads-push more m
+
+pub push-is : (table : List Driver) → driver_at (table ++ Nothing ∷ []) ≡ driver_at table
+push-is table = λ i m. reads-push table m i
+
+-- a write is a change of the function
+reads-set : (table : List Driver) (n : ℕ) (d : Driver) (m : ℕ) → n < length table → driver_at (set table n d) m ≡ with_driver (driver_at table) n d m
+reads-set table n d m h = elim (eqb_tells m n) [ inl e ↦ rw (e.0, e.1) (get_or-set_same table n d Nothing h) | inr e ↦ rw e.0 (get_or-set_other table n m d Nothing e.1) ]
+
+pub set-is : (table : List Driver) (n : ℕ) (d : Driver) → n < length table → driver_at (set table n d) ≡ with_driver (driver_at table) n d
+set-is table n d h = λ i m. reads-set table n d m h i
+
+pub driven-unless : (d : Driver) → d ≢ Nothing → is_driven d ≡ true
+driven-unless Nothing h = absurd (h refl)
+driven-unless Source h = refl
+driven-unless (Cell c) h = refl
+
+-- the first driver of a net, and a further one
+pub first-driver : (d : Driver) (n : ℕ) (table : List Driver) (twice : Option ℕ) → n < length table → driver_at table n ≡ Nothing → record { driver = driver_at (set table n d); twice = twice } ≡ after_net d n (record { driver = driver_at table; twice = twice })
+first-driver d n table twice inside is = rw (set-is table n d inside, is) refl
+
+pub further-driver : (d : Driver) (n : ℕ) (table : List Driver) (twice : Option ℕ) → driver_at table n ≢ Nothing → record { driver = driver_at table; twice = Some (lesser twice n) } ≡ after_net d n (record { driver = driver_at table; twice = twice })
+further-driver d n table twice other = rw (driven-unless (driver_at table n) other) refl
+
+-- what indexing the table gives
+pub read-nothing : (table : List Driver) (n : ℕ) (x : Driver) → x ≡ get_or table n x → x ≡ Nothing → driver_at table n ≡ Nothing
+read-nothing table n x e is = let P : Driver → Type 0 = λ y. y ≡ get_or table n y in sym (subst P is e)
+
+pub read-other : (table : List Driver) (n : ℕ) (x : Driver) → n < length table → x ≡ get_or table n x → x ≢ Nothing → driver_at table n ≢ Nothing
+read-other table n x inside e other is = other (get_or_read table n x inside e Nothing ∙ is)
+
+-- the input ports are all but the last, which is Y
+pub input_ports-front : (ports : List (List Bit)) (k : ℕ) → length ports ≡ suc k → input_ports ports ≡ take k ports
+input_ports-front [] k e = absurd (omega (arith, e))
+input_ports-front (y ∷ []) zero e = refl
+input_ports-front (y ∷ []) (suc k) e = absurd (omega (arith, e))
+input_ports-front (a ∷ b ∷ more) zero e = absurd (omega (arith, e))
+input_ports-front (a ∷ b ∷ more) (suc k) e = ap (λ (l : List (List Bit)). a ∷ l) (input_ports-front (b ∷ more) k (omega (arith, e)))
+
+pub input_ports-take : (ports : List (List Bit)) (n : ℕ) → n ≡ length ports - 1 → take n ports ≡ input_ports ports
+input_ports-take [] n e = let none : n ≡ 0 = omega (arith, e) in rw none refl
+input_ports-take (a ∷ more) n e = let same : n ≡ length more = omega (arith, e) in rw same (sym (input_ports-front (a ∷ more) (length more) refl))
+
+pub output_port-last : (ports : List (List Bit)) (k : ℕ) (y : List Bit) → length ports ≡ suc k → y ≡ get_or ports k y → y ≡ output_port ports
+output_port-last [] k y e at = absurd (omega (arith, e))
+output_port-last (a ∷ []) zero y e at = at
+output_port-last (a ∷ []) (suc k) y e at = absurd (omega (arith, e))
+output_port-last (a ∷ b ∷ more) zero y e at = absurd (omega (arith, e))
+output_port-last (a ∷ b ∷ more) (suc k) y e at = output_port-last (b ∷ more) k y (omega (arith, e)) at
+
+pub output_port-none : (ports : List (List Bit)) → length ports ≡ 0 → output_port ports ≡ []
+output_port-none [] e = refl
+output_port-none (a ∷ more) e = absurd (omega (arith, e))
+
+-- a lone port is Y
+pub input_ports-one : (ports : List (List Bit)) → length ports ≡ 1 → input_ports ports ≡ []
+input_ports-one [] one = refl
+input_ports-one (y ∷ []) one = refl
+input_ports-one (a ∷ b ∷ more) one = absurd (omega arith)

@@ -1,0 +1,6 @@
+use Rattle.std.proofs.Common.{◌≡◌, drop}
+use Rattle.netlist_core.specs.Marking.{known_of, after_ports}
+use Rattle.netlist_core.proofs.drivers.Drivers.drive_ports.Given as goal
+
+abbrev pub invariant-loop-port : goal.invariant-loop-port
+invariant-loop-port l = after_ports (drop l.port-index l.ports) (known_of l.self) ≡ after_ports l.ports (known_of l.initial.self)

@@ -1,0 +1,6 @@
+use Rattle.std.proofs.Common.{◌↔◌, drop}
+use Rattle.netlist_core.specs.Checked.{AllNets}
+use Rattle.netlist_core.proofs.formed.are_nets.Given as goal
+
+abbrev pub invariant-loop-bit : goal.invariant-loop-bit
+invariant-loop-bit l = AllNets (drop l.bit-index l.bits) ↔ AllNets l.bits

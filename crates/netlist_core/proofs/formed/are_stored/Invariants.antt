@@ -1,0 +1,7 @@
+use Rattle.std.proofs.Common.{◌↔◌, drop}
+use Rattle.netlist_core.specs.Runs.{q_bits}
+use Rattle.netlist_core.specs.Checked.{AllPortsNets}
+use Rattle.netlist_core.proofs.formed.are_stored.Given as goal
+
+abbrev pub invariant-loop-register : goal.invariant-loop-register
+invariant-loop-register l = AllPortsNets (q_bits (drop l.register-index l.registers)) ↔ AllPortsNets (q_bits l.registers)

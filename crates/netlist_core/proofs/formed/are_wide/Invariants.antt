@@ -1,0 +1,7 @@
+use Rattle.std.proofs.Common.{◌↔◌, drop}
+use Rattle.netlist_core.specs.Runs.{bits_at}
+use Rattle.netlist_core.specs.Checked.{AllWide}
+use Rattle.netlist_core.proofs.formed.are_wide.Given as goal
+
+abbrev pub invariant-loop-port : goal.invariant-loop-port
+invariant-loop-port l = AllWide (bits_at (drop l.port-index l.ports)) ↔ AllWide (bits_at l.ports)

@@ -1,0 +1,12 @@
+use Rattle.netlist_core.proofs.Solved.{has-one-run, settles}
+use Rattle.netlist_core.proofs.Unique.{orders-one}
+use Rattle.netlist_core.proofs.laws.one_run.Goals as goal
+
+pub returns-clause-order : goal.returns-clause-order
+returns-clause-order c = orders-one
+
+pub returns-clause-settles : goal.returns-clause-settles
+returns-clause-settles c = λ plan sight sound causal nets inputs state fit_in fit_state. settles plan.raw sound.formed sound.connected plan.order sound.order sight causal nets inputs state fit_in fit_state
+
+pub returns-clause-run : goal.returns-clause-run
+returns-clause-run c = λ plan sight sound causal state inputs fit all. has-one-run plan.raw sound.formed sound.connected plan.order sound.order sight causal state inputs fit all

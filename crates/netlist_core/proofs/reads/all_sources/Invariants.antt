@@ -1,0 +1,7 @@
+use Rattle.std.proofs.Common.{◌≡◌, ◌++◌, map, drop}
+use Rattle.netlist_core.specs.Marking.{driver_at}
+use Rattle.netlist_core.specs.Listing.{all_sources}
+use Rattle.netlist_core.proofs.reads.all_sources.Given as goal
+
+abbrev pub invariant-loop-cell : goal.invariant-loop-cell
+invariant-loop-cell l = map (λ w. w.items) l.lists.items ++ all_sources (driver_at l.table) (drop l.cell-index l.cells) ≡ all_sources (driver_at l.table) l.cells

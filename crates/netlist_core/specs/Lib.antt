@@ -1,0 +1,13 @@
+pub mod Numbers
+pub mod Cells
+pub mod Shapes
+pub mod Runs
+pub mod Drivers
+pub mod Orders
+pub mod Checked
+pub mod Sizes
+pub mod Marking
+pub mod Listing
+pub mod Reaching
+pub mod Settled
+pub mod Solutions

@@ -1,0 +1,10 @@
+//! The laws of a netlist that can be run.
+ghost use Rattle.netlist_core.specs.Solutions.{OneOrder, OneRunBySight, OrderSettles};
+
+/// There is one order, computing the cells in it solves the equations of a cycle, and whatever readers see of the nets,
+/// there is exactly one run where that rests on what stands where they read, and beside it.
+pub fn one_run()
+    ensures order { OneOrder }
+    ensures settles { OrderSettles }
+    ensures run { OneRunBySight }
+{}
