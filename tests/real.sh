@@ -242,7 +242,11 @@ finished_folder() {
     chmod 666 mcy.db*
 }
 
-# Databases that are none.
+# Databases that are none, and one whose tables have no constraints, which is taken.
+tables='CREATE TABLE meta(item INTEGER PRIMARY KEY, body BLOB NOT NULL) STRICT;
+CREATE TABLE mutations(number INTEGER PRIMARY KEY, place BLOB NOT NULL) STRICT;
+CREATE TABLE journal(seq INTEGER PRIMARY KEY, mutation INTEGER NOT NULL, test INTEGER NOT NULL,
+    word INTEGER NOT NULL, mark INTEGER NOT NULL, tags INTEGER NOT NULL) STRICT'
 fault='mcy: database fault'
 no_book="$fault
 mcy: mcy.db: another program's, or damaged"
@@ -265,6 +269,14 @@ if [ "$has_shell" = 1 ]; then
     refuses 12 "$no_book" "./mcy.db-wal " run
     finished_folder && sqlite3 mcy.db "DELETE FROM meta WHERE item = 1" && chmod 666 mcy.db*
     refuses 12 "$no_book" "./mcy.db-wal " run
+    new_folder && sqlite3 mcy.db "$tables; INSERT INTO journal VALUES (0, 0, 0, 4294967296, 0, 0)" && chmod 666 mcy.db
+    refuses 12 "$no_book" "./mcy.db-wal " run
+    for change in 'CREATE VIEW found AS SELECT word FROM journal' 'DROP TABLE journal' 'ALTER TABLE meta ADD COLUMN more BLOB'; do
+        new_folder && sqlite3 mcy.db "$tables; $change" && chmod 666 mcy.db
+        refuses 12 "$no_book" "./mcy.db-wal " run
+    done
+    new_folder && sqlite3 mcy.db "$tables" && chmod 666 mcy.db
+    ends 0 "$finished" "" run
     finished_folder && sqlite3 mcy.db "UPDATE journal SET word = 9 WHERE seq = 0" && chmod 666 mcy.db*
     refuses 10 "mcy: database: row 0" "./mcy.db-wal " run
     finished_folder && sqlite3 mcy.db "UPDATE mutations SET place = x'00' WHERE number = 8" && chmod 666 mcy.db*
@@ -282,6 +294,26 @@ if [ "$has_shell" = 1 ]; then
 fi
 new_folder && : >mcy.db && chmod 666 mcy.db
 ends 0 "$finished" "" run
+
+# Calls that are given little memory, from so little that the program cannot begin to as much as it wants. Some end with
+# status 14, and none with that of another refusal but a database that the want of memory has shut. What they leave goes on.
+if has_tool prlimit "no call finds no memory"; then
+    new_folder
+    wanting=0
+    others=
+    for kilobytes in $(seq 2000 100 8000); do
+        text=$(prlimit --as=$((kilobytes * 1024)) "$mcy" run --stop-after 1 2>"$room/lines")
+        status=$?
+        case $status in
+            14) [ "$text" = "" ] && [ "$(cat "$room/lines")" = "mcy: no memory" ] && wanting=$((wanting + 1)) ;;
+            [2-9] | 1[013] | 99) others="$others $status" ;;
+        esac
+    done
+    [ "$wanting" -gt 0 ] && [ "$others" = "" ]
+    case_is $? "status 14 where there is no memory ($wanting calls), and not:$others"
+    [ "$("$mcy" run 2>"$room/lines")" = "$finished" ]
+    case_is $? "a campaign that found no memory goes on: $(cat "$room/lines")"
+fi
 
 # The script, with a kit that makes programs that are none: it runs through a link, in the caller's folder and with the
 # caller's words; it builds where a source is newer, and a build that fails leaves the program from before.

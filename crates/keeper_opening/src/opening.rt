@@ -4,11 +4,12 @@
 //! the opening was refused. Nothing is opened, made or read before the first load, so a call that ends without one
 //! touches no file. Before it the keeper tells no book, and a crash leaves what the opener may find. `fault` is why
 //! the first fault came.
-ghost use Rattle.std.specs.Prelude.{◌≡◌, IfOk, IsErr, None, false};
+ghost use Rattle.std.specs.Prelude.{◌≡◌, ◌↔◌, IfOk, IsErr, None, Option, false};
 ghost use Rattle.sqlite.specs.Tree.{Trees};
 ghost use Rattle.sqlite.specs.Held.{state};
-ghost use Rattle.keeper_opening.specs.declared.opening.Place.TheVariants.{Closed};
-ghost use Rattle.keeper_opening.specs.Found.{Finds};
+ghost use Rattle.mcy_keeper.specs.declared.book.Book.{Book as Pages};
+ghost use Rattle.mcy_keeper.specs.Books.{TellsNone};
+ghost use Rattle.keeper_opening.specs.Found.{Finds, MayBeFound};
 ghost use Rattle.keeper_opening.specs.Places.{connection_of, is_settled, faults, PlaceTells, PlaceHolds, PlaceLeaves, Opens, place_one, place_survives, place_told};
 
 use keeper_sqlite::SqlKeeper;
@@ -85,7 +86,11 @@ impl<S: Alter + Drop, O: Opener<S>> Place<S, O> {
 impl<S: Alter + Drop, O: Opener<S>> OpeningKeeper<S, O> {
     /// The keeper, which has opened nothing. It takes no memory, and neither reads nor writes.
     pub fn new(alloc: Global, opener: O) -> OpeningKeeper<S, O>
-        ensures place { result.place ≡ Closed opener }
+        ensures tells { ⟦<OpeningKeeper<S, O> as Keeper>⟧.tells result }
+        ensures untold { TellsNone (⟦<OpeningKeeper<S, O> as Keeper>⟧.holds result) }
+        ensures leaves { (left : Option Pages) → ⟦<OpeningKeeper<S, O> as Keeper>⟧.leaves result left ↔ MayBeFound (O.found opener) left }
+        ensures unsettled { ⟦<OpeningKeeper<S, O> as Keeper>⟧.is_settled result ≡ false }
+        ensures uncounted { ⟦<OpeningKeeper<S, O> as Keeper>⟧.faults result ≡ 0 }
         ensures fault { result.fault ≡ None }
     {
         OpeningKeeper {

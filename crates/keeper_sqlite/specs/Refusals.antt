@@ -1,10 +1,41 @@
 -- What a refusal of SQLite is to the keeper: want of memory, or any other cause.
+use Rattle.std.specs.Prelude.{◌≡◌, ◌⊎◌, ℕ, List, Option, Some, None, Err, IsTrue, ⊤}
 use Rattle.sqlite.specs.declared.error.Error.{Error}
 use Rattle.sqlite.specs.declared.error.Error.TheVariants.{SqliteFailure}
 use Rattle.sqlite.specs.declared.error.ErrorCode.TheVariants.{OutOfMemory}
+use Rattle.sqlite.specs.Order.{Row}
+use Rattle.sqlite.specs.Store.{Ghosts}
+use Rattle.sqlite.specs.Held.{Held, state}
+use Rattle.sqlite.specs.State.{State, Executes, IsNotRun}
+use Rattle.mcy_keeper.specs.declared.book.Entry.{Entry}
 use Rattle.keeper_sqlite.specs.declared.refusal.Refusal.{Refusal}
 use Rattle.keeper_sqlite.specs.declared.refusal.Refusal.TheVariants.{Memory, Database}
+use Rattle.keeper_sqlite.specs.declared.statements.TheConstants.{INSERT_ENTRY, PROBE}
+use Rattle.keeper_sqlite.specs.Rows.{shown_entry}
 
 abbrev pub refusal_of : Error → Refusal
 refusal_of (SqliteFailure OutOfMemory) = Memory
 refusal_of _ = Database
+
+-- the statement was refused so
+abbrev pub IsRefusedWith : List ℕ → Row → State → State → Error → Type 0
+IsRefusedWith sql params old new error = Executes sql params old new (Err error)
+
+-- the statement was refused, and not for want of memory
+abbrev pub IsRefused : List ℕ → Row → State → State → Type 0
+IsRefused sql params old new = (error : Error) × IsRefusedWith sql params old new error × (refusal_of error ≡ Database)
+
+-- the probe was refused
+abbrev pub IsNotProbed : State → State → Type 0
+IsNotProbed old new = (error : Error) × ((params : Row) → IsNotRun old new PROBE.now params error)
+
+-- Why an entry is not added, but for want of memory: there is no connection, or a transaction is open, or the INSERT was
+-- refused, or after it the probe.
+module _ {S : Type 0} (g : Ghosts S) where
+  abbrev pub IsNotAdded : Held S → Held S → Entry → Type 0
+  IsNotAdded old new entry = IsTrue (state g old).in_transaction ⊎ ((between : Held S) × (IsRefused INSERT_ENTRY.now (shown_entry entry) (state g old) (state g between) ⊎ IsNotProbed (state g between) (state g new)))
+
+  abbrev pub IsNotAppended : Option (Held S) → Option (Held S) → Entry → Type 0
+  IsNotAppended None new entry = ⊤
+  IsNotAppended (Some old) None entry = ⊥
+  IsNotAppended (Some old) (Some new) entry = IsNotAdded old new entry

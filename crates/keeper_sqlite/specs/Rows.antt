@@ -1,5 +1,5 @@
 -- How rows stand for a book. The tables are `meta`, `mutations` and `journal`, whose rows are in the trees 0, 1 and 2.
-use Rattle.std.specs.Prelude.{⊤, ℕ, ◌+◌, ◌≤◌, pos, List, [], ◌∷◌, map, IsPermutation}
+use Rattle.std.specs.Prelude.{◌≢◌, ⊤, ℕ, ◌+◌, ◌<◌, ◌≤◌, ◌^◌, pos, List, [], ◌∷◌, map, IsPermutation}
 use Rattle.sqlite.specs.declared.types.Value.TheVariants.{Null, Int, Blob}
 use Rattle.sqlite.specs.Order.{Row}
 use Rattle.sqlite.specs.Tree.{Trees}
@@ -35,6 +35,22 @@ shown_item number body = Int (pos number) ∷ Blob body ∷ []
 abbrev pub shown_items : ℕ → List (List ℕ) → List Row
 shown_items number [] = []
 shown_items number (body ∷ more) = shown_item number body ∷ shown_items (number + 1) more
+
+-- each number of the entry is one of 32 bits
+pub record IsEntry (e : Entry) : Type 0 where
+  pub seq : e.seq < 2 ^ 32
+  pub mutation : e.mutation < 2 ^ 32
+  pub test : e.test < 2 ^ 32
+  pub word : e.word < 2 ^ 32
+  pub mark : e.mark < 2 ^ 32
+  pub tags : e.tags < 2 ^ 32
+
+-- the row shows no item of this number, and no entry
+abbrev pub IsNoItem : ℕ → Row → Type 0
+IsNoItem number row = (body : List ℕ) → row ≢ shown_item number body
+
+abbrev pub IsNoEntry : Row → Type 0
+IsNoEntry row = (e : Entry) → IsEntry e → row ≢ shown_entry e
 
 -- the numbers rise, from this one on
 abbrev pub RisesFrom : ℕ → List Entry → Type 0

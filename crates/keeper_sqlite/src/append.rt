@@ -4,6 +4,7 @@ ghost use Rattle.sqlite.specs.Held.{state};
 ghost use Rattle.sqlite.specs.State.{HasCleanDisk, Survives};
 ghost use Rattle.keeper_sqlite.specs.Tables.{IsBookSchema};
 ghost use Rattle.keeper_sqlite.specs.Changes.{HasAdded, IsAdded, IsKept};
+ghost use Rattle.keeper_sqlite.specs.Refusals.{IsNotAdded, IsNotAppended};
 ghost use Rattle.mcy_keeper.specs.declared.book.Book.{Book as Pages};
 ghost use Rattle.mcy_keeper.specs.Books.{IsNext, with_entry, Keeps, LeavesEither, LeavesNothingNew};
 ghost use Rattle.keeper_sqlite.specs.Stands.{Tells, Holds, Leaves};
@@ -17,6 +18,7 @@ use sqlite::{Alter, Connection};
 fn add_entry<S: Alter>(connection: &mut Connection<S>, entry: &Entry) -> Result<(), Refusal>
     ensures added { HasCleanDisk (state S.Store connection.new) → IsBookSchema (state S.Store connection.old).now.schema → OnOk result (((state S.Store connection.old).in_transaction ≡ false) × HasAdded (state S.Store connection.old) (state S.Store connection.new) entry.now) }
     ensures kept { HasCleanDisk (state S.Store connection.new) → IsErrOf result Refusal.Memory → IsKept (state S.Store connection.old) (state S.Store connection.new) }
+    ensures fault { HasCleanDisk (state S.Store connection.new) → IsErrOf result Refusal.Database → IsNotAdded S.Store connection.old connection.new entry.now }
     ensures crash { Survives (state S.Store connection.old) (state S.Store connection.new) (λ trees. IsBookSchema (state S.Store connection.old).now.schema → IsAdded (state S.Store connection.old).now entry.now trees) }
 {
     if !connection.is_autocommit() {
@@ -39,6 +41,7 @@ pub(crate) fn append_through<S: Alter>(
     ensures either { Tells S.Store connection.new → OnErr result ((was : Pages) → Holds S.Store connection.old true was → IsNext was entry.now → LeavesEither (Leaves S.Store connection.new) was (with_entry was entry.now)) }
     ensures same { Tells S.Store connection.new → IsErrOf result Refusal.Memory → (was : Pages) → Holds S.Store connection.old true was → Holds S.Store connection.new true was }
     ensures refused { Tells S.Store connection.new → IsErrOf result Refusal.Memory → LeavesNothingNew (Leaves S.Store connection.old) (Leaves S.Store connection.new) }
+    ensures fault { Tells S.Store connection.new → IsErrOf result Refusal.Database → IsNotAppended S.Store connection.old connection.new entry.now }
 {
     match connection {
         Some(connected) => add_entry(connected, entry),

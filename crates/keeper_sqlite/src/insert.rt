@@ -3,12 +3,13 @@
 //! A row of `meta` or `mutations` is written inside a transaction, a row of `journal` outside one, which
 //! makes the statement a transaction of its own. A row whose key is taken, and one that breaks another rule
 //! of its table, is refused.
-ghost use Rattle.std.specs.Prelude.{◌≡◌, [], ◌∷◌, OnOk, OnErr};
+ghost use Rattle.std.specs.Prelude.{◌≡◌, [], ◌∷◌, IfErr, OnOk, OnErr};
 ghost use Rattle.sqlite.specs.Held.{state};
 ghost use Rattle.sqlite.specs.State.{HasCleanDisk, Survives};
 ghost use Rattle.keeper_sqlite.specs.Tables.{IsBookSchema};
-ghost use Rattle.keeper_sqlite.specs.Rows.{item_row, tree_of};
+ghost use Rattle.keeper_sqlite.specs.Rows.{item_row, shown_entry, tree_of};
 ghost use Rattle.keeper_sqlite.specs.Changes.{HasAdded, IsAdded, IsKeptIfOpen};
+ghost use Rattle.keeper_sqlite.specs.Refusals.{IsRefusedWith};
 ghost use Rattle.keeper_sqlite.specs.Writing.{WritesInside};
 
 use crate::read::ItemTable;
@@ -63,6 +64,7 @@ pub(crate) fn insert_entry<S: Alter>(
 ) -> Result<usize, Error>
     ensures added { HasCleanDisk (state S.Store connection.new) → IsBookSchema (state S.Store connection.old).now.schema → OnOk result (HasAdded (state S.Store connection.old) (state S.Store connection.new) entry.now) }
     ensures kept { HasCleanDisk (state S.Store connection.new) → OnErr result (IsKeptIfOpen (state S.Store connection.old) (state S.Store connection.new)) }
+    ensures told { HasCleanDisk (state S.Store connection.new) → IfErr result (IsRefusedWith INSERT_ENTRY.now (shown_entry entry.now) (state S.Store connection.old) (state S.Store connection.new)) }
     ensures crash { Survives (state S.Store connection.old) (state S.Store connection.new) (λ trees. IsBookSchema (state S.Store connection.old).now.schema → IsAdded (state S.Store connection.old).now entry.now trees) }
 {
     connection.execute(

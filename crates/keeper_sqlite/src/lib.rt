@@ -18,6 +18,3 @@ mod statements;
 mod tables;
 
 pub use sql_keeper::SqlKeeper;
-
-#[cfg(test)]
-mod tests;

@@ -3,13 +3,13 @@
 //! An item is a row of its number and its bytes, and the numbers of a list of items run from 0: a number
 //! that is missing is a refusal. The rows of the journal have rising numbers, and are told as they are.
 //! A number that is no `u32` is a refusal.
-ghost use Rattle.std.specs.Prelude.{◌≡◌, pos, IsTrue, IfOk, OnOk};
+ghost use Rattle.std.specs.Prelude.{◌≡◌, ◌≢◌, ◌<◌, ◌^◌, ◌↔◌, ℕ, List, pos, length, IsTrue, IfOk, IsErrOf, OnOk};
 ghost use Rattle.sqlite.specs.declared.types.Value.TheVariants.{Blob, Int};
 ghost use Rattle.sqlite.specs.Order.{column};
 ghost use Rattle.sqlite.specs.Held.{state};
 ghost use Rattle.sqlite.specs.State.{HasCleanDisk, IsUnchanged, Survives};
 ghost use Rattle.keeper_sqlite.specs.Tables.{IsBookSchema};
-ghost use Rattle.keeper_sqlite.specs.Rows.{shown_entry, shown_item, RisesFrom, HoldsBook, HoldsJournal};
+ghost use Rattle.keeper_sqlite.specs.Rows.{shown_entry, shown_item, IsNoEntry, IsNoItem, RisesFrom, HoldsBook, HoldsJournal};
 
 use crate::refusal::Refusal;
 use crate::select::{select_entries, select_items};
@@ -26,7 +26,9 @@ pub(crate) enum ItemTable {
 }
 
 fn number_at(row: &Row, at: usize) -> Result<u32, Refusal>
-    ensures { IfOk result (λ n. column row.now at ≡ Int (pos n)) }
+    requires { at < length row.now }
+    ensures found { IfOk result (λ n. column row.now at ≡ Int (pos n)) }
+    ensures fault { IsErrOf result Refusal.Database → (n : ℕ) → n < 2 ^ 32 → column row.now at ≢ Int (pos n) }
 {
     match row.get(at) {
         Ok(number) => Ok(number),
@@ -35,7 +37,9 @@ fn number_at(row: &Row, at: usize) -> Result<u32, Refusal>
 }
 
 fn bytes_at(row: &Row, at: usize) -> Result<Bytes, Refusal>
-    ensures { IfOk result (λ bytes. column row.now at ≡ Blob bytes) }
+    requires { at < length row.now }
+    ensures found { IfOk result (λ bytes. column row.now at ≡ Blob bytes) }
+    ensures fault { IsErrOf result Refusal.Database → (bytes : List ℕ) → column row.now at ≢ Blob bytes }
 {
     match row.get::<Vec<u8>>(at) {
         Ok(bytes) => Ok(Bytes::from_vec(bytes)),
@@ -45,7 +49,8 @@ fn bytes_at(row: &Row, at: usize) -> Result<Bytes, Refusal>
 
 /// The item of a row that has this number.
 pub(crate) fn item_of(row: &Row, number: usize) -> Result<Bytes, Refusal>
-    ensures { IfOk result (λ body. row.now ≡ shown_item number body) }
+    ensures found { IfOk result (λ body. row.now ≡ shown_item number body) }
+    ensures fault { IsErrOf result Refusal.Database → number < 2 ^ 32 → IsNoItem number row.now }
 {
     if row.column_count() != 2 {
         return Err(Refusal::Database);
@@ -60,7 +65,8 @@ pub(crate) fn item_of(row: &Row, number: usize) -> Result<Bytes, Refusal>
 
 /// The entry of a row.
 pub(crate) fn entry_of(row: &Row) -> Result<Entry, Refusal>
-    ensures { IfOk result (λ e. row.now ≡ shown_entry e) }
+    ensures found { IfOk result (λ e. row.now ≡ shown_entry e) }
+    ensures fault { IsErrOf result Refusal.Database → IsNoEntry row.now }
 {
     if row.column_count() != 6 {
         return Err(Refusal::Database);
@@ -83,7 +89,7 @@ pub(crate) fn entry_of(row: &Row) -> Result<Entry, Refusal>
 
 /// Whether each number is greater than the one before.
 fn is_rising(entries: &[Entry]) -> bool
-    ensures { IsTrue result → RisesFrom 0 entries.now }
+    ensures { IsTrue result ↔ RisesFrom 0 entries.now }
 {
     let [first, more @ ..] = entries else {
         return true;

@@ -3,11 +3,11 @@
 //! A statement that finds no memory rolls back, and the rollback may meet a fault of its own that shuts the
 //! database. So want of memory is told only after a probe: a statement that is prepared says that the
 //! connection is open and changes nothing.
-ghost use Rattle.std.specs.Prelude.{◌≡◌};
+ghost use Rattle.std.specs.Prelude.{◌≡◌, ◌⊎◌};
 ghost use Rattle.sqlite.specs.Held.{state};
 ghost use Rattle.sqlite.specs.State.{HasCleanDisk, IsUnchanged, Survives};
 ghost use Rattle.keeper_sqlite.specs.declared.refusal.Refusal.TheVariants.{Memory as NoMemory};
-ghost use Rattle.keeper_sqlite.specs.Refusals.{refusal_of};
+ghost use Rattle.keeper_sqlite.specs.Refusals.{refusal_of, IsNotProbed};
 
 use crate::statements::PROBE;
 use sqlite::{Alter, Connection, Error, ErrorCode};
@@ -51,6 +51,7 @@ impl<T: Drop> From<AllocFailed<T>> for Refusal {
 /// The refusal of a write. It is want of memory only where the connection is still open.
 pub(crate) fn probed<S: Alter>(connection: &mut Connection<S>, refusal: Refusal) -> Refusal
     ensures memory { result ≡ Refusal.Memory → refusal ≡ Refusal.Memory }
+    ensures fault { HasCleanDisk (state S.Store connection.new) → result ≡ Refusal.Database → (refusal ≡ Refusal.Database) ⊎ IsNotProbed (state S.Store connection.old) (state S.Store connection.new) }
     ensures same { HasCleanDisk (state S.Store connection.new) → result ≡ Refusal.Memory → IsUnchanged (state S.Store connection.old) (state S.Store connection.new) }
     ensures crash { Survives (state S.Store connection.old) (state S.Store connection.new) (λ _. ⊥) }
 {

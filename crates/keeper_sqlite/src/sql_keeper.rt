@@ -14,6 +14,7 @@ ghost use Rattle.mcy_keeper.specs.declared.book.Book.{Book as Pages};
 ghost use Rattle.mcy_keeper.specs.Books.{begun, with_entry, IsBlank, IsNext, Keeps, LeavesEither, LeavesNothingNew, TellsNone, TellsStill};
 ghost use Rattle.keeper_sqlite.specs.Stands.{Tells, Holds, Leaves};
 ghost use Rattle.keeper_sqlite.specs.Making.{LoadsTables};
+ghost use Rattle.keeper_sqlite.specs.Refusals.{IsNotAppended};
 ghost use Rattle.keeper_sqlite.specs.Laws.{holds_one, holds_tells, leaves_some};
 
 use crate::append::append_through;
@@ -168,6 +169,7 @@ impl<S: Alter> Keeper for SqlKeeper<S> {
         ensures unsettled { IsErrOf result KeepError.Fault → self.new.settled ≡ false }
         ensures stays { IsErrOf result KeepError.Memory → IsTrue self.new.settled }
         ensures cause { IsCaused self.old.faults self.new.faults (IsErrOf result KeepError.Fault) }
+        ensures fault { Tells S.Store self.new.connection → IsErrOf result KeepError.Fault → IsNotAppended S.Store self.old.connection self.new.connection entry.now }
     {
         let written = append_through(&mut self.connection, entry);
         self.answer_write(written)

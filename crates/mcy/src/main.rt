@@ -1,24 +1,20 @@
 //! `mcy`: one call over the real files, standard output and the database of the current folder.
 //!
 //! The words, the files, the sink and the keeper are made here and nowhere else. What the call does is
-//! `mcy_main`'s.
+//! `mcy_call`'s.
 #![tactic(auto)]
 
-ghost use Rattle.std.specs.Prelude.{◌≡◌, ◌<◌, []};
+ghost use Rattle.std.specs.Prelude.{[]};
 ghost use Rattle.sqlite.specs.Files.{AreFoundIn};
 
 use keeper_opening::{DatabaseFault, OpenError, Opener, OpeningKeeper};
-use mcy_base::Steps;
-use mcy_keeper::Keeper;
-use mcy_outside::{RealFiles, RealSink, Sink, SourceFiles};
-use mcy_top::{Outcome, exit_status, fault_line, mcy_main};
+use mcy_outside::{RealFiles, RealSink, Sink};
+use mcy_top::{Outcome, exit_status, fault_line, mcy_call};
 use sqlite::{Connection, Error, ErrorCode, File, FileStore, Unknown};
 use std::alloc::{AllocError, Global};
 use std::env::{self, Env};
 use std::io;
-use std::marker::Brand;
 use std::process::ExitCode;
-use std::sync::ledger::{Blank, Ledger};
 
 /// The file of the database, in the current folder.
 const DATABASE: &str = "mcy.db";
@@ -71,34 +67,6 @@ fn database_line(fault: DatabaseFault) -> &'static str {
     }
 }
 
-/// The call, with a counter of steps that is opened for it.
-fn call_with<F: SourceFiles, K: Keeper, O: Sink, L: Ledger>(
-    alloc: Global,
-    words: &[String],
-    files: &mut F,
-    keeper: &mut K,
-    out: &mut O,
-    blank: Blank,
-) -> Outcome
-    requires name { blank.name ≡ L.name }
-    requires parts { blank.parts ≡ L.parts }
-    requires one { 0 < blank.parts }
-{
-    let mut steps = Steps::<L>::open(blank);
-    mcy_main(alloc, words, files, keeper, out, &mut steps)
-}
-
-/// The call, whose steps nobody reads.
-fn call<F: SourceFiles, K: Keeper, O: Sink>(
-    alloc: Global,
-    words: &[String],
-    files: &mut F,
-    keeper: &mut K,
-    out: &mut O,
-) -> Outcome {
-    call_with::<F, K, O, Brand>(alloc, words, files, keeper, out, Blank::new(1))
-}
-
 /// How a call has ended.
 #[derive(Drop)]
 struct Ended {
@@ -114,7 +82,7 @@ fn call_here(rt: HostRuntime, words: &[String]) -> Ended {
     let mut keeper = OpeningKeeper::new(alloc, Database { rt });
     let mut out = RealSink::new(rt.stdout());
     let mut files = RealFiles::new(alloc, rt);
-    let outcome = call(alloc, words, &mut files, &mut keeper, &mut out);
+    let outcome = mcy_call(alloc, words, &mut files, &mut keeper, &mut out);
     let fault = keeper.fault();
     if let Some(connection) = keeper.into_connection() {
         // A log that was not copied stays beside the file, and the next call finds its rows.

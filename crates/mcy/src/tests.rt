@@ -1,10 +1,9 @@
 //! Campaigns over files in memory that stop at a call of the disk.
-use crate::call;
 use keeper_sqlite::SqlKeeper;
 use mcy_base::{Bytes, FileList, SourceFile, Text};
 use mcy_keeper::{KeepError, Keeper};
 use mcy_outside::{CleanFiles, MemorySink};
-use mcy_top::{AND_GATE_PROJECT, Outcome};
+use mcy_top::{AND_GATE_PROJECT, Outcome, mcy_call};
 use sqlite::{Connection, Files, Options};
 use sqlite_disk::{Crash, Fuse, Memory};
 use std::alloc::{AllocError, Global};
@@ -38,7 +37,7 @@ fn run<K: Keeper>(alloc: Global, keeper: &mut K) -> Result<(Outcome, MemorySink)
     words.push("run".to_owned(alloc)?)?;
     let mut files = campaign(alloc)?;
     let mut out = MemorySink::new(Vec::new(alloc), Vec::with_capacity(alloc, 1000)?);
-    let outcome = call(alloc, &words, &mut files, keeper, &mut out);
+    let outcome = mcy_call(alloc, &words, &mut files, keeper, &mut out);
     Ok((outcome, out))
 }
 

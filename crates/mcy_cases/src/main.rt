@@ -1,4 +1,4 @@
-//! Calls of `mcy_main` over files, a keeper and a sink in memory, as the lines of standard input list them.
+//! Calls of `mcy_call` over files, a keeper and a sink in memory, as the lines of standard input list them.
 //!
 //! A line is a statement: a word, and what belongs to it, with one blank between words.
 //!
@@ -22,20 +22,13 @@
 //! `''` is the empty word. A line that begins with `#` is printed, and an empty one is left out.
 #![tactic(auto)]
 
-ghost use Rattle.std.specs.Prelude.{◌≡◌, ◌<◌};
-
 mod stage;
 mod telling;
 
-use mcy_base::Steps;
-use mcy_keeper::Keeper;
-use mcy_outside::{Sink, SourceFiles};
-use mcy_top::{Outcome, mcy_main, read_words};
+use mcy_top::{mcy_call, read_words};
 use stage::Stage;
 use std::alloc::{AllocError, Global};
 use std::io;
-use std::marker::Brand;
-use std::sync::ledger::{Blank, Ledger};
 use telling::{tell_book, tell_items, tell_outcome, tell_text};
 
 /// The words of a line.
@@ -48,41 +41,13 @@ fn words_of(alloc: Global, line: &str) -> Result<Vec<String>, AllocError> {
     Ok(words)
 }
 
-/// A call, with a counter of steps that is opened for it.
-fn call_with<F: SourceFiles, K: Keeper, O: Sink, L: Ledger>(
-    alloc: Global,
-    words: &[String],
-    files: &mut F,
-    keeper: &mut K,
-    out: &mut O,
-    blank: Blank,
-) -> Outcome
-    requires name { blank.name ≡ L.name }
-    requires parts { blank.parts ≡ L.parts }
-    requires one { 0 < blank.parts }
-{
-    let mut steps = Steps::<L>::open(blank);
-    mcy_main(alloc, words, files, keeper, out, &mut steps)
-}
-
-/// A call, whose steps nobody reads.
-fn call<F: SourceFiles, K: Keeper, O: Sink>(
-    alloc: Global,
-    words: &[String],
-    files: &mut F,
-    keeper: &mut K,
-    out: &mut O,
-) -> Outcome {
-    call_with::<F, K, O, Brand>(alloc, words, files, keeper, out, Blank::new(1))
-}
-
 /// Makes the call with these words over what the stage has, prints how it went, and keeps the book that it left.
 fn make_call<R: Print + AllocGlobal>(rt: &R, stage: &mut Stage, line: &str) -> io::Result<()> {
     let words = words_of(rt.alloc(), line)?;
     let mut files = stage.files()?;
     let mut keeper = stage.keeper()?;
     let mut out = stage.sink()?;
-    let outcome = call(rt.alloc(), &words, &mut files, &mut keeper, &mut out);
+    let outcome = mcy_call(rt.alloc(), &words, &mut files, &mut keeper, &mut out);
     println!(rt; "> {line}")?;
     tell_outcome(rt, &outcome)?;
     tell_text(rt, out.seen())?;

@@ -1,17 +1,20 @@
 -- Trying all inputs decides one-step equality, and one-step equality lasts.
-use Rattle.std.proofs.Common.{◌≡◌, ◌⊎◌, ℕ, ◌+◌, ◌<◌, ◌^◌, List, [], ◌∷◌, length, refl, sym, ◌∙◌, subst, inl, inr, arith}
+use Rattle.std.proofs.Common.{◌≡◌, ◌⊎◌, ℕ, ◌+◌, ◌<◌, ◌^◌, List, [], ◌∷◌, ◌++◌, length, get_or, refl, sym, ◌∙◌, subst, inl, inr, arith}
 use Rattle.std.specs.Prelude.{◌↔◌}
 use Rattle.std.proofs.lemmas.Bool.{cases_lt}
-use Rattle.mcy_top.specs.declared.cell.Bit.{Bit}
+use Rattle.std.proofs.lemmas.List.{get_or_append_left, length-append}
+use Rattle.std.proofs.Math.Seq.{get_or-append_seam}
 use Rattle.mcy_top.specs.declared.netlist.RawNetlist.{RawNetlist}
 use Rattle.mcy_top.specs.Numbers.{number}
-use Rattle.mcy_top.specs.Runs.{Nets, values, Sight, Holds, port_numbers, shown, outputs_by}
-use Rattle.mcy_top.specs.Sound.{Plan, IsSound, no_net, entered}
-use Rattle.mcy_top.specs.Equal.{Machine, OneStepEqual, EqualOnAllRuns}
-use Rattle.mcy_top.specs.Settled.{laid}
+use Rattle.mcy_top.specs.declared.inverted.Inverted.TheVariants.{Nowhere}
+use Rattle.mcy_top.specs.Runs.{Nets, values, Sight, plain, Holds, port_numbers, shown, outputs_by}
+use Rattle.mcy_top.specs.Sound.{Plan, IsSound, entered}
+use Rattle.mcy_top.specs.Equal.{Machine, design, OneStepEqual, EqualOnAllRuns}
+use Rattle.mcy_top.specs.Settled.{laid, after_cells}
 use Rattle.mcy_top.specs.Inputs.{all_bits}
-use Rattle.mcy_top.specs.Trials.{EqualAt}
-use Rattle.mcy_top.proofs.Settles.{Agree, IsCausal, AllPortsKnown-own, port_numbers-agree, shown-one, holds-compute}
+use Rattle.mcy_top.specs.Trials.{EqualAt, ShowsAt, ShowsAll}
+use Rattle.mcy_top.proofs.Settles.{Agree, IsCausal, settled-holds, shown-one, holds-compute}
+use Rattle.mcy_top.proofs.SightLemmas.{sight_by-causal}
 use Rattle.mcy_top.proofs.InputLemmas.{inputs-tried, entered-agree, bits-agree, agree-bits, laid-all_bits}
 
 -- a solution for inputs that were laid has their number
@@ -20,27 +23,29 @@ settled-number plan sound see start s n fits in_s =
     let from : Nets = laid start (all_bits plan.raw.inputs) n in
     agree-bits plan.raw s from (entered-agree plan.raw s from in_s.entered) ∙ laid-all_bits plan sound start n fits
 
--- the solutions that were computed decide for all solutions
-pub trial-decides : (plan : Plan) → IsSound plan → (a b : Nets → Sight) → IsCausal a → IsCausal b → (start other s t : Nets) (n : ℕ) → n < 2 ^ length (all_bits plan.raw.inputs)
-    → Holds (a s) s plan.raw (port_numbers (laid start (all_bits plan.raw.inputs) n) plan.raw.inputs)
-    → Holds (b t) t plan.raw (port_numbers (laid other (all_bits plan.raw.inputs) n) plan.raw.inputs)
-    → (shown (a s) plan.raw ≡ shown (b t) plan.raw) ↔ EqualAt (record { netlist = plan.raw; sight = a }) (record { netlist = plan.raw; sight = b }) n
-trial-decides plan sound a b causal_a causal_b start other s t n fits in_s in_t =
+-- what a solution that was computed shows, all solutions show
+pub settled-shows : (plan : Plan) → IsSound plan → (a : Nets → Sight) → IsCausal a → (start s : Nets) (n : ℕ) → n < 2 ^ length (all_bits plan.raw.inputs)
+    → Holds (a s) s plan.raw (port_numbers (laid start (all_bits plan.raw.inputs) n) plan.raw.inputs) → ShowsAt (record { netlist = plan.raw; sight = a }) n (shown (a s) plan.raw)
+settled-shows plan sound a causal start s n fits in_s inputs x is_n in_x =
     let raw : RawNetlist = plan.raw in
-    let bits : List Bit = all_bits raw.inputs in
-    let s_n : number (values s bits) ≡ n = settled-number plan sound (a s) start s n fits in_s in
-    let t_n : number (values t bits) ≡ n = settled-number plan sound (b t) other t n fits in_t in
-    let laid_alike : Agree (entered raw) (laid other bits n) (laid start bits n) = bits-agree raw (laid other bits n) (laid start bits n) (laid-all_bits plan sound other n fits ∙ sym (laid-all_bits plan sound start n fits)) in
-    let same_inputs : port_numbers (laid other bits n) raw.inputs ≡ port_numbers (laid start bits n) raw.inputs = port_numbers-agree (entered raw) (laid other bits n) (laid start bits n) laid_alike raw.inputs (AllPortsKnown-own no_net raw.inputs) in
-    let P : List ℕ → Type 0 = λ inputs. Holds (b t) t raw inputs in (
-      (λ same inputs x y is_n in_x in_y.
-          let x_s : Agree (entered raw) x s = bits-agree raw x s (is_n ∙ sym s_n) in
-          let y_x : Agree (entered raw) y x = entered-agree raw y x (in_y.entered ∙ sym in_x.entered) in
-          let y_t : Agree (entered raw) y t = bits-agree raw y t (agree-bits raw y x y_x ∙ is_n ∙ sym t_n) in
-          shown-one plan sound a causal_a x s x_s (holds-compute (a x) x raw inputs in_x) (holds-compute (a s) s raw (port_numbers (laid start bits n) raw.inputs) in_s)
-          ∙ same
-          ∙ sym (shown-one plan sound b causal_b y t y_t (holds-compute (b y) y raw inputs in_y) (holds-compute (b t) t raw (port_numbers (laid other bits n) raw.inputs) in_t))),
-      (λ equal. equal (port_numbers (laid start bits n) raw.inputs) s t s_n in_s (subst P same_inputs in_t)),
+    let x_s : Agree (entered raw) x s = bits-agree raw x s (is_n ∙ sym (settled-number plan sound (a s) start s n fits in_s)) in
+    shown-one plan sound a causal x s x_s (holds-compute (a x) x raw inputs in_x) (holds-compute (a s) s raw (port_numbers (laid start (all_bits raw.inputs) n) raw.inputs) in_s)
+
+-- a mutant's solution that was computed decides, with what the design shows
+pub trial-decides : (plan : Plan) → IsSound plan → (b : Nets → Sight) → IsCausal b → (start t : Nets) (n : ℕ) (list : List ℕ) → n < 2 ^ length (all_bits plan.raw.inputs)
+    → ShowsAt (design plan.raw) n list → Holds (b t) t plan.raw (port_numbers (laid start (all_bits plan.raw.inputs) n) plan.raw.inputs)
+    → (shown (b t) plan.raw ≡ list) ↔ EqualAt (design plan.raw) (record { netlist = plan.raw; sight = b }) n
+trial-decides plan sound b causal start t n list fits shows in_t =
+    let raw : RawNetlist = plan.raw in
+    let from : Nets = laid start (all_bits raw.inputs) n in
+    let inputs : List ℕ = port_numbers from raw.inputs in
+    let s : Nets = after_cells plain 0 raw.cells from in
+    let in_s : Holds (plain s) s raw inputs = settled-holds plan sound plain (sight_by-causal Nowhere) from in
+    let s_n : number (values s (all_bits raw.inputs)) ≡ n = settled-number plan sound (plain s) start s n fits in_s in (
+      (λ same ins x y is_n in_x in_y.
+          let y_n : number (values y (all_bits raw.inputs)) ≡ n = agree-bits raw y x (entered-agree raw y x (in_y.entered ∙ sym in_x.entered)) ∙ is_n in
+          shows ins x is_n in_x ∙ sym same ∙ sym (settled-shows plan sound b causal start t n fits in_t ins y y_n in_y)),
+      (λ equal. sym (equal inputs s t s_n in_s in_t) ∙ shows inputs s s_n in_s),
     )
 
 -- equal at each number that is tried, so equal
@@ -64,3 +69,10 @@ one_step_to_all_runs a b step (i ∷ is) (x ∷ xs) (y ∷ ys) in_a in_b =
 
 pub below_or_at : (n i : ℕ) → n < i + 1 → (n < i) ⊎ (n ≡ i)
 below_or_at n i h = elim (cases_lt n i) [ inl a ↦ inl a | inr b ↦ inr (omega arith) ]
+
+-- one number more
+pub ShowsAll-push : (a : Machine) (lists : List (List ℕ)) (list : List ℕ) → ShowsAll a lists → ShowsAt a (length lists) list → ShowsAll a (lists ++ list ∷ [])
+ShowsAll-push a lists list all one n below = elim (below_or_at n (length lists) (omega (arith, below, length-append lists (list ∷ [])))) [
+  | inl less ↦ subst (ShowsAt a n) (sym (get_or_append_left lists (list ∷ []) [] n less)) (all n less)
+  | inr same ↦ subst (λ (k : ℕ). ShowsAt a k (get_or (lists ++ list ∷ []) k [])) (sym same) (subst (ShowsAt a (length lists)) (sym (get_or-append_seam lists list [] [])) one)
+]

@@ -1,5 +1,5 @@
 -- A design and its mutant, input by input.
-use Rattle.std.specs.Prelude.{◌≡◌, ℕ, List, map}
+use Rattle.std.specs.Prelude.{◌≡◌, ℕ, ◌<◌, List, [], map, length, slice_index_or}
 use Rattle.mcy_top.specs.declared.cell.Bit.{Bit}
 use Rattle.mcy_top.specs.declared.netlist.RawNetlist.{RawNetlist}
 use Rattle.mcy_top.specs.declared.inverted.Inverted.{Inverted}
@@ -20,3 +20,11 @@ shown_at see ports = map (λ bits. number (see Outputs bits)) ports
 -- equal outputs for the inputs whose bits together are this number's
 abbrev pub EqualAt : Machine → Machine → ℕ → Type 0
 EqualAt a b n = (inputs : List ℕ) (x y : Nets) → number (values x (all_bits a.netlist.inputs)) ≡ n → Holds (a.sight x) x a.netlist inputs → Holds (b.sight y) y b.netlist inputs → shown (a.sight x) a.netlist ≡ shown (b.sight y) b.netlist
+
+-- what the machine shows for the inputs whose bits together are this number's
+abbrev pub ShowsAt : Machine → ℕ → List ℕ → Type 0
+ShowsAt a n list = (inputs : List ℕ) (x : Nets) → number (values x (all_bits a.netlist.inputs)) ≡ n → Holds (a.sight x) x a.netlist inputs → shown (a.sight x) a.netlist ≡ list
+
+-- the same for each number, from 0 on
+abbrev pub ShowsAll : Machine → List (List ℕ) → Type 0
+ShowsAll a lists = (n : ℕ) → n < length lists → ShowsAt a n (slice_index_or lists n [])

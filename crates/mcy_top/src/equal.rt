@@ -1,7 +1,8 @@
 //! The equivalence test: whether a mutant is equal to its design in one step, by trying all inputs.
 //!
 //! The bits of all input ports form one list, and each number of that many bits is laid over it, in a table of net
-//! values for the design and in one for the mutant. Both are settled, and what their outputs show is compared.
+//! values that is then settled. What the design shows at its outputs is kept for each number, and compared with what
+//! each mutant shows.
 ghost use Rattle.std.specs.Prelude.{◌≡◌, ℕ, ◌≤◌, ◌<◌, ◌^◌, ◌↔◌, length, IfOk, IsTrue};
 ghost use Rattle.std.specs.List.{Contains};
 ghost use Rattle.mcy_top.specs.declared.inverted.Inverted.TheVariants.{Nowhere};
@@ -12,7 +13,7 @@ ghost use Rattle.mcy_top.specs.Equal.{design, mutant, OneStepEqual, EqualOnAllRu
 ghost use Rattle.mcy_top.specs.Tables.{nets_of};
 ghost use Rattle.mcy_top.specs.Seen.{sight_by};
 ghost use Rattle.mcy_top.specs.Inputs.{all_bits, total_width, input_bits};
-ghost use Rattle.mcy_top.specs.Trials.{inverted_machine, shown_at, EqualAt};
+ghost use Rattle.mcy_top.specs.Trials.{inverted_machine, shown_at, EqualAt, ShowsAt, ShowsAll};
 
 use crate::bits::{lay, number_seen};
 use crate::cell::{Bit, BitList};
@@ -21,35 +22,87 @@ use crate::netlist::Netlist;
 use crate::settle::settle;
 use crate::site::Site;
 use crate::view::View;
+use mcy_base::Items;
 use std::alloc::{AllocError, Global};
 
 /// The most bits that the inputs may have together for all their values to be tried.
 pub(crate) const MAX_FREE_BITS: usize = 8;
 
-/// Whether the mutant at a site shows at its outputs what the design shows, for all inputs. Where it does, it shows
-/// the same on every list of inputs.
-pub(crate) fn one_step_equal(
-    alloc: Global,
-    netlist: &Netlist,
-    site: &Site,
-) -> Result<bool, AllocError>
-    requires site { Contains (sites netlist.now.raw) site.now }
-    requires small { input_bits netlist.now.raw ≤ max_free_bits }
-    ensures equal { IfOk result (λ same. IsTrue same
-        ↔ OneStepEqual (design netlist.now.raw) (mutant netlist.now.raw site.now)) }
-    ensures all_runs { IfOk result (λ same. IsTrue same
-        → EqualOnAllRuns (design netlist.now.raw) (mutant netlist.now.raw site.now)) }
-{
-    let raw = netlist.raw();
-    let bits = all_bits(alloc, raw.inputs.as_slice())?;
-    let trial = Trial {
-        netlist,
-        inverted: Inverted::at(raw, site),
-        bits: &bits,
-    };
-    let mut first = vec![in alloc; false; netlist.nets() as usize]?;
-    let mut second = vec![in alloc; false; netlist.nets() as usize]?;
-    Ok(trial.is_equal(&mut first, &mut second))
+/// What stands at each output.
+pub type Shown = Items<u128>;
+
+/// What stands at each output for each number over the bits of all inputs, from 0 on.
+pub type ShownList = Items<Shown>;
+
+/// A design, the bits of all its inputs together, and what it shows for each number over them.
+#[derive(Drop)]
+pub(crate) struct Design<'a> {
+    netlist: &'a Netlist,
+    bits: Vec<Bit>,
+    shown: ShownList,
+    ghost small: { input_bits netlist.now.raw ≤ max_free_bits },
+    ghost all_inputs: { bits.items ≡ all_bits netlist.now.raw.inputs },
+    ghost all_numbers: { length shown ≡ 2 ^ length bits.items },
+    ghost shows: { ShowsAll (design netlist.now.raw) shown },
+}
+
+impl<'a> Design<'a> {
+    /// The design of this netlist.
+    pub(crate) fn of(alloc: Global, netlist: &'a Netlist) -> Result<Design<'a>, AllocError>
+        requires { input_bits netlist.now.raw ≤ max_free_bits }
+        ensures { IfOk result (λ made. made.netlist.now ≡ netlist.now) }
+    {
+        let bits = all_bits(alloc, netlist.raw().inputs.as_slice())?;
+        let shown = all_shown(alloc, netlist, &bits)?;
+        Ok(Design {
+            netlist,
+            bits,
+            shown,
+        })
+    }
+
+    /// Whether the mutant at a site shows at its outputs what the design shows, for all inputs. Where it does, it shows
+    /// the same on every list of inputs.
+    pub(crate) fn is_equal_to_mutant(&self, alloc: Global, site: &Site) -> Result<bool, AllocError>
+        requires { Contains (sites self.now.netlist.now.raw) site.now }
+        ensures equal { IfOk result (λ same. IsTrue same
+            ↔ OneStepEqual (design self.now.netlist.now.raw) (mutant self.now.netlist.now.raw site.now)) }
+        ensures all_runs { IfOk result (λ same. IsTrue same
+            → EqualOnAllRuns (design self.now.netlist.now.raw) (mutant self.now.netlist.now.raw site.now)) }
+    {
+        let inverted = Inverted::at(self.netlist.raw(), site);
+        let mut table = vec![in alloc; false; self.netlist.nets() as usize]?;
+        Ok(self.is_equal(inverted, &mut table))
+    }
+
+    /// Whether the design shows the same where bits are inverted, for each number over the bits of all inputs.
+    fn is_equal(&self, inverted: Inverted, table: &mut [bool]) -> bool
+        requires { length table.old ≡ self.now.netlist.now.nets }
+        ensures { let raw = self.now.netlist.now.raw in
+            IsTrue result ↔ OneStepEqual (design raw) (inverted_machine raw inverted) }
+    {
+        for number in 0..self.shown.as_slice().len() {
+            if !self.is_equal_at(inverted, number, table) {
+                return false;
+            }
+        }
+        true
+    }
+
+    /// The same for the inputs whose bits together are this number's.
+    fn is_equal_at(&self, inverted: Inverted, number: usize, table: &mut [bool]) -> bool
+        requires room { length table.old ≡ self.now.netlist.now.nets }
+        requires one { number < length self.now.shown }
+        ensures { let raw = self.now.netlist.now.raw in
+            IsTrue result ↔ EqualAt (design raw) (inverted_machine raw inverted) number }
+    {
+        let outputs = self.netlist.raw().outputs.as_slice();
+        lay(table, &self.bits, number as u128);
+        settle(self.netlist, inverted, table);
+        let shown = self.shown.as_slice();
+        let numbers = shown[number].as_slice();
+        shows(outputs, table, inverted, numbers)
+    }
 }
 
 /// The bits of all ports, one port after the other.
@@ -63,65 +116,64 @@ fn all_bits(alloc: Global, ports: &[BitList]) -> Result<Vec<Bit>, AllocError>
     Ok(bits)
 }
 
-/// A design beside its mutant: what the mutant inverts, and the bits of all inputs together.
-#[derive(Drop)]
-struct Trial<'a> {
-    netlist: &'a Netlist,
-    inverted: Inverted,
-    bits: &'a [Bit],
-    ghost all_inputs: { bits.now ≡ all_bits netlist.now.raw.inputs },
-}
-
-impl Trial<'_> {
-    /// Whether the mutant shows what the design shows, for each number over the bits of all inputs. The tables are
-    /// the design's and the mutant's.
-    fn is_equal(&self, first: &mut [bool], second: &mut [bool]) -> bool
-        requires room { length first.old ≡ self.now.netlist.now.nets }
-        requires mutant_room { length second.old ≡ self.now.netlist.now.nets }
-        requires small { input_bits self.now.netlist.now.raw ≤ max_free_bits }
-        ensures { let raw = self.now.netlist.now.raw in
-            IsTrue result ↔ OneStepEqual (design raw) (inverted_machine raw self.now.inverted) }
-    {
-        let count = 2u32.pow(self.bits.len() as u32);
-        for number in 0..count {
-            if !self.is_equal_at(u128::from(number), first, second) {
-                return false;
-            }
-        }
-        true
-    }
-
-    /// The same for the inputs whose bits together are this number's.
-    fn is_equal_at(&self, number: u128, first: &mut [bool], second: &mut [bool]) -> bool
-        requires room { length first.old ≡ self.now.netlist.now.nets }
-        requires mutant_room { length second.old ≡ self.now.netlist.now.nets }
-        requires fits { number < 2 ^ length self.now.bits.now }
-        ensures { let raw = self.now.netlist.now.raw in
-            IsTrue result ↔ EqualAt (design raw) (inverted_machine raw self.now.inverted) number }
-    {
-        let raw = self.netlist.raw();
-        lay(first, self.bits, number);
-        settle(self.netlist, Inverted::Nowhere, first);
-        lay(second, self.bits, number);
-        settle(self.netlist, self.inverted, second);
-        shows_same(raw.outputs.as_slice(), first, self.inverted, second)
-    }
-}
-
-/// Whether output ports show the same in the design's table and in the mutant's.
-fn shows_same(outputs: &[BitList], first: &[bool], inverted: Inverted, second: &[bool]) -> bool
-    requires fit { AllPortsFit (length first.now) outputs.now }
-    requires mutant_fit { AllPortsFit (length second.now) outputs.now }
-    ensures { IsTrue result
-        ↔ (shown_at (sight_by Nowhere (nets_of first.now)) outputs.now
-        ≡ shown_at (sight_by inverted (nets_of second.now)) outputs.now) }
+/// What a design shows for each number over the bits of all its inputs.
+fn all_shown(alloc: Global, netlist: &Netlist, bits: &[Bit]) -> Result<ShownList, AllocError>
+    requires small { input_bits netlist.now.raw ≤ max_free_bits }
+    requires bits { bits.now ≡ all_bits netlist.now.raw.inputs }
+    ensures all { IfOk result (λ list. length list ≡ 2 ^ length bits.now) }
+    ensures shows { IfOk result (ShowsAll (design netlist.now.raw)) }
 {
-    match outputs {
-        [] => true,
-        [port, rest @ ..] => {
-            let here = number_seen(first, View::Plain, port.as_slice());
-            let there = number_seen(second, inverted.at_outputs(), port.as_slice());
-            here == there && shows_same(rest, first, inverted, second)
+    let mut table = vec![in alloc; false; netlist.nets() as usize]?;
+    let mut list = Vec::new(alloc);
+    let count = 2u32.pow(bits.len() as u32);
+    for number in 0..count {
+        list.push(shown_for(alloc, netlist, bits, u128::from(number), &mut table)?)?;
+    }
+    Ok(ShownList::from_vec(list))
+}
+
+/// What a design shows for this number over the bits of all its inputs.
+fn shown_for(
+    alloc: Global,
+    netlist: &Netlist,
+    bits: &[Bit],
+    number: u128,
+    table: &mut [bool],
+) -> Result<Shown, AllocError>
+    requires room { length table.old ≡ netlist.now.nets }
+    requires bits { bits.now ≡ all_bits netlist.now.raw.inputs }
+    requires fits { number < 2 ^ length bits.now }
+    ensures { IfOk result (ShowsAt (design netlist.now.raw) number) }
+{
+    let outputs = netlist.raw().outputs.as_slice();
+    lay(table, bits, number);
+    settle(netlist, Inverted::Nowhere, table);
+    numbers_at(alloc, outputs, table)
+}
+
+/// The numbers at ports.
+fn numbers_at(alloc: Global, ports: &[BitList], table: &[bool]) -> Result<Shown, AllocError>
+    requires { AllPortsFit (length table.now) ports.now }
+    ensures { IfOk result (λ list. list ≡ shown_at (sight_by Nowhere (nets_of table.now)) ports.now) }
+{
+    let mut list = Vec::new(alloc);
+    for port in ports {
+        list.push(number_seen(table, View::Plain, port.as_slice()))?;
+    }
+    Ok(Shown::from_vec(list))
+}
+
+/// Whether these numbers are read off at output ports.
+fn shows(outputs: &[BitList], table: &[bool], inverted: Inverted, numbers: &[u128]) -> bool
+    requires { AllPortsFit (length table.now) outputs.now }
+    ensures { IsTrue result ↔ (shown_at (sight_by inverted (nets_of table.now)) outputs.now ≡ numbers.now) }
+{
+    match (outputs, numbers) {
+        ([], []) => true,
+        ([port, rest @ ..], [number, others @ ..]) => {
+            let seen = number_seen(table, inverted.at_outputs(), port.as_slice());
+            seen == *number && shows(rest, table, inverted, others)
         }
+        _ => false,
     }
 }

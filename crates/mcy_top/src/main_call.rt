@@ -1,5 +1,5 @@
 //! The one call of the program.
-ghost use Rattle.std.specs.Prelude.{◌⊎◌, map, string_bytes};
+ghost use Rattle.std.specs.Prelude.{◌≡◌, ◌⊎◌, ◌<◌, ℕ, map, string_bytes};
 ghost use Rattle.mcy_top.specs.declared.command.Command.{Command as Asked};
 ghost use Rattle.mcy_top.specs.Complete.{Completes, IsReady, NoneRose};
 ghost use Rattle.mcy_top.specs.Life.{Answered, Early, HasCause, IsQuiet, Life};
@@ -7,12 +7,13 @@ ghost use Rattle.mcy_top.specs.Life.{Answered, Early, HasCause, IsQuiet, Life};
 use crate::command::read_words;
 use crate::outcome::Outcome;
 use crate::reading::read_campaign;
-use crate::work::{carry_out, failed};
+use crate::work::{Task, failed};
 use mcy_base::Steps;
 use mcy_keeper::Keeper;
 use mcy_outside::{Sink, SourceFiles};
 use std::alloc::Global;
-use std::sync::ledger::Ledger;
+use std::marker::Brand;
+use std::sync::ledger::{Blank, Ledger};
 
 /// Carries out the command that the words after the program's name give: reads the project and its
 /// source from `files`, keeps the campaign's results in `keeper`, and writes the command's text to
@@ -73,7 +74,58 @@ fn carry_out_words<F: SourceFiles, K: Keeper, O: Sink, L: Ledger>(
         Err(refusal) => return refusal.into_outcome(),
     };
     match keeper.load() {
-        Ok(loaded) => carry_out(alloc, command, &prepared, &loaded, keeper, out, steps),
+        Ok(loaded) => {
+            let task = Task {
+                alloc,
+                prepared: &prepared,
+            };
+            task.carry_out(command, &loaded, keeper, out, steps)
+        }
         Err(error) => failed(error),
     }
+}
+
+/// The same call with a counter of its own, which nobody reads: it takes some number n of steps.
+pub fn mcy_call<F: SourceFiles, K: Keeper, O: Sink>(
+    alloc: Global,
+    words: &[String],
+    files: &mut F,
+    keeper: &mut K,
+    out: &mut O,
+) -> Outcome
+    ensures tells { K.tells keeper.new → K.tells keeper.old }
+    ensures answer { Answered (map string_bytes words.now) (F.held files.old) result }
+    ensures cause { HasCause (F.faults files.old) (F.faults files.new) (K.faults keeper.old) (K.faults keeper.new) (O.faults out.old) (O.faults out.new) result }
+    ensures quiet { IsQuiet (O.written out.old) (O.written out.new) result }
+    ensures life { K.tells keeper.new → (n : ℕ) × (Early (K.leaves keeper.old) (K.leaves keeper.new) 0 n result
+        ⊎ Life (map string_bytes words.now) (F.held files.old) (K.holds keeper.old) (K.leaves keeper.old) (K.leaves keeper.new) (O.written out.old) (O.written out.new) 0 n result) }
+    ensures complete { K.tells keeper.new → (command : Asked) → IsReady (map string_bytes words.now) (F.held files.old) (K.holds keeper.old) (K.leaves keeper.old) command
+        → NoneRose (F.faults files.old) (F.faults files.new) (K.faults keeper.old) (K.faults keeper.new) (O.faults out.old) (O.faults out.new) → Completes command result }
+{
+    call_with::<F, K, O, Brand>(alloc, words, files, keeper, out, Blank::new(1))
+}
+
+/// The same call with a counter that is opened for it.
+fn call_with<F: SourceFiles, K: Keeper, O: Sink, L: Ledger>(
+    alloc: Global,
+    words: &[String],
+    files: &mut F,
+    keeper: &mut K,
+    out: &mut O,
+    blank: Blank,
+) -> Outcome
+    requires name { blank.name ≡ L.name }
+    requires parts { blank.parts ≡ L.parts }
+    requires one { 0 < blank.parts }
+    ensures tells { K.tells keeper.new → K.tells keeper.old }
+    ensures answer { Answered (map string_bytes words.now) (F.held files.old) result }
+    ensures cause { HasCause (F.faults files.old) (F.faults files.new) (K.faults keeper.old) (K.faults keeper.new) (O.faults out.old) (O.faults out.new) result }
+    ensures quiet { IsQuiet (O.written out.old) (O.written out.new) result }
+    ensures life { K.tells keeper.new → (n : ℕ) × (Early (K.leaves keeper.old) (K.leaves keeper.new) 0 n result
+        ⊎ Life (map string_bytes words.now) (F.held files.old) (K.holds keeper.old) (K.leaves keeper.old) (K.leaves keeper.new) (O.written out.old) (O.written out.new) 0 n result) }
+    ensures complete { K.tells keeper.new → (command : Asked) → IsReady (map string_bytes words.now) (F.held files.old) (K.holds keeper.old) (K.leaves keeper.old) command
+        → NoneRose (F.faults files.old) (F.faults files.new) (K.faults keeper.old) (K.faults keeper.new) (O.faults out.old) (O.faults out.new) → Completes command result }
+{
+    let mut steps = Steps::<L>::open(blank);
+    mcy_main(alloc, words, files, keeper, out, &mut steps)
 }

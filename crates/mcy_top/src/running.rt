@@ -11,7 +11,7 @@ ghost use Rattle.mcy_top.specs.Commands.{IsWithin};
 ghost use Rattle.mcy_top.specs.Rows.{IsTrueWord};
 ghost use Rattle.mcy_top.specs.Running.{book_of, AddsRow, Broke, LeavesNext, Ran, Reached};
 
-use crate::equal::one_step_equal;
+use crate::equal::Design;
 use crate::prepared::Prepared;
 use mcy_base::Steps;
 use mcy_keeper::{KeepError, Keeper};
@@ -19,90 +19,112 @@ use result_book::{Ask, State, TestWord};
 use std::alloc::{AllocError, Global};
 use std::sync::ledger::Ledger;
 
-/// The word of the equivalence test on a mutation.
-fn run_test(alloc: Global, prepared: &Prepared, mutation: u32) -> Result<TestWord, AllocError>
-    requires plan { IsPlan prepared.now }
-    requires mutation { mutation < length prepared.now.campaign.mutations }
-    ensures { IfOk result (λ word. IsTrueWord prepared.now mutation (word_code word)) }
-{
-    let site = &prepared.sites.as_slice()[mutation as usize];
-    if one_step_equal(alloc, &prepared.netlist, site)? {
-        Ok(TestWord::Pass)
-    } else {
-        Ok(TestWord::Fail)
-    }
+/// What runs the tests of a campaign: its design is computed once for all mutations.
+#[derive(Drop)]
+pub(crate) struct Tester<'a> {
+    alloc: Global,
+    prepared: &'a Prepared,
+    design: Design<'a>,
+    ghost same: { design.netlist.now ≡ prepared.now.netlist },
 }
 
-/// Runs the test that the script needs on a mutation, and adds its row to the kept book and to the state.
-fn test_mutation<K: Keeper, L: Ledger>(
-    alloc: Global,
-    prepared: &Prepared,
-    mutation: u32,
-    test: u32,
-    state: &mut State,
-    keeper: &mut K,
-    steps: &mut Steps<L>,
-) -> Result<(), KeepError>
-    requires settled { IsTrue (K.is_settled keeper.old) }
-    requires plan { IsPlan prepared.now }
-    requires mutation { mutation < length prepared.now.campaign.mutations }
-    requires state { IsStateOf prepared.now.campaign state.old.rows state.old }
-    requires asked { ask_on mutation state.old.rows ≡ Need test }
-    requires kept { K.tells keeper.old → Keeps (K.holds keeper.old) (K.leaves keeper.old) (book_of prepared.now state.old.rows) }
-    ensures tells { K.tells keeper.new → K.tells keeper.old }
-    ensures settled { OnOk result (IsTrue (K.is_settled keeper.new)) }
-    ensures added { OnOk result (AddsRow prepared.now state.old.rows state.new.rows mutation) }
-    ensures state { OnOk result (IsStateOf prepared.now.campaign state.new.rows state.new) }
-    ensures kept { K.tells keeper.new → OnOk result (Keeps (K.holds keeper.new) (K.leaves keeper.new) (book_of prepared.now state.new.rows)) }
-    ensures left { K.tells keeper.new → OnErr result (LeavesNext (K.leaves keeper.new) prepared.now (book_of prepared.now state.old.rows)) }
-    ensures step { steps.new ≡ steps.old + 1 }
-    ensures later { K.faults keeper.old ≤ K.faults keeper.new }
-    ensures cause { IsErrOf result KeepError.Fault → Rose (K.faults keeper.old) (K.faults keeper.new) }
-{
-    steps.tick();
-    let word = run_test(alloc, prepared, mutation)?.code();
-    state.reserve(1)?;
-    let entry = state.entry_for(&prepared.campaign, mutation, test, word);
-    keeper.append(&entry)?;
-    state.add(&prepared.campaign, &entry);
-    Ok(())
-}
+impl<'a> Tester<'a> {
+    /// A tester of this campaign.
+    pub(crate) fn new(alloc: Global, prepared: &'a Prepared) -> Result<Tester<'a>, AllocError>
+        requires { IsPlan prepared.now }
+        ensures { IfOk result (λ tester. tester.prepared.now ≡ prepared.now) }
+    {
+        let design = Design::of(alloc, &prepared.netlist)?;
+        Ok(Tester {
+            alloc,
+            prepared,
+            design,
+        })
+    }
 
-/// Runs tests in the order of the mutations, until every mutation is finished or as many rows were added as were
-/// asked for.
-pub(crate) fn run_tests<K: Keeper, L: Ledger>(
-    alloc: Global,
-    prepared: &Prepared,
-    stop_after: Option<u32>,
-    state: &mut State,
-    keeper: &mut K,
-    steps: &mut Steps<L>,
-) -> Result<(), KeepError>
-    requires settled { IsTrue (K.is_settled keeper.old) }
-    requires plan { IsPlan prepared.now }
-    requires state { IsStateOf prepared.now.campaign state.old.rows state.old }
-    requires kept { K.tells keeper.old → Keeps (K.holds keeper.old) (K.leaves keeper.old) (book_of prepared.now state.old.rows) }
-    ensures tells { K.tells keeper.new → K.tells keeper.old }
-    ensures ran { OnOk result (Ran prepared.now state.old.rows state.new.rows) }
-    ensures state { OnOk result (IsStateOf prepared.now.campaign state.new.rows state.new) }
-    ensures kept { K.tells keeper.new → OnOk result (Keeps (K.holds keeper.new) (K.leaves keeper.new) (book_of prepared.now state.new.rows)) }
-    ensures broke { K.tells keeper.new → OnErr result (Broke (K.leaves keeper.new) prepared.now stop_after state.old.rows steps.old steps.new) }
-    ensures within { OnOk result (IsWithin stop_after (length state.old.rows) (length state.new.rows)) }
-    ensures steps { OnOk result (steps.new + length state.old.rows ≡ steps.old + length state.new.rows) }
-    ensures ends { OnOk result (IsFinished prepared.now.campaign (book_of prepared.now state.new.rows) ⊎ Reached stop_after state.old.rows state.new.rows) }
-    ensures later { K.faults keeper.old ≤ K.faults keeper.new }
-    ensures cause { IsErrOf result KeepError.Fault → Rose (K.faults keeper.old) (K.faults keeper.new) }
-{
-    let count = prepared.campaign.mutations.as_slice().len() as u32;
-    let mut gained: u32 = 0;
-    'tests: for mutation in 0..count {
-        if stop_after == Some(gained) {
-            return Ok(());
-        }
-        if let Ask::Need(test) = state.ask_of(mutation) {
-            test_mutation(alloc, prepared, mutation, test, state, keeper, steps)?;
-            gained += 1;
+    /// The word of the equivalence test on a mutation.
+    fn run_test(&self, mutation: u32) -> Result<TestWord, AllocError>
+        requires plan { IsPlan self.now.prepared.now }
+        requires mutation { mutation < length self.now.prepared.now.campaign.mutations }
+        ensures { IfOk result (λ word. IsTrueWord self.now.prepared.now mutation (word_code word)) }
+    {
+        let site = &self.prepared.sites.as_slice()[mutation as usize];
+        if self.design.is_equal_to_mutant(self.alloc, site)? {
+            Ok(TestWord::Pass)
+        } else {
+            Ok(TestWord::Fail)
         }
     }
-    Ok(())
+
+    /// Runs the test that the script needs on a mutation, and adds its row to the kept book and to the state.
+    fn test_mutation<K: Keeper, L: Ledger>(
+        &self,
+        mutation: u32,
+        test: u32,
+        state: &mut State,
+        keeper: &mut K,
+        steps: &mut Steps<L>,
+    ) -> Result<(), KeepError>
+        requires settled { IsTrue (K.is_settled keeper.old) }
+        requires plan { IsPlan self.now.prepared.now }
+        requires mutation { mutation < length self.now.prepared.now.campaign.mutations }
+        requires state { IsStateOf self.now.prepared.now.campaign state.old.rows state.old }
+        requires asked { ask_on mutation state.old.rows ≡ Need test }
+        requires kept { K.tells keeper.old → Keeps (K.holds keeper.old) (K.leaves keeper.old) (book_of self.now.prepared.now state.old.rows) }
+        ensures tells { K.tells keeper.new → K.tells keeper.old }
+        ensures settled { OnOk result (IsTrue (K.is_settled keeper.new)) }
+        ensures added { OnOk result (AddsRow self.now.prepared.now state.old.rows state.new.rows mutation) }
+        ensures state { OnOk result (IsStateOf self.now.prepared.now.campaign state.new.rows state.new) }
+        ensures kept { K.tells keeper.new → OnOk result (Keeps (K.holds keeper.new) (K.leaves keeper.new) (book_of self.now.prepared.now state.new.rows)) }
+        ensures left { K.tells keeper.new → OnErr result (LeavesNext (K.leaves keeper.new) self.now.prepared.now (book_of self.now.prepared.now state.old.rows)) }
+        ensures step { steps.new ≡ steps.old + 1 }
+        ensures later { K.faults keeper.old ≤ K.faults keeper.new }
+        ensures cause { IsErrOf result KeepError.Fault → Rose (K.faults keeper.old) (K.faults keeper.new) }
+    {
+        steps.tick();
+        let word = self.run_test(mutation)?.code();
+        state.reserve(1)?;
+        let entry = state.entry_for(&self.prepared.campaign, mutation, test, word);
+        keeper.append(&entry)?;
+        state.add(&self.prepared.campaign, &entry);
+        Ok(())
+    }
+
+    /// Runs tests in the order of the mutations, until every mutation is finished or as many rows were added as were
+    /// asked for.
+    pub(crate) fn run_tests<K: Keeper, L: Ledger>(
+        &self,
+        stop_after: Option<u32>,
+        state: &mut State,
+        keeper: &mut K,
+        steps: &mut Steps<L>,
+    ) -> Result<(), KeepError>
+        requires settled { IsTrue (K.is_settled keeper.old) }
+        requires plan { IsPlan self.now.prepared.now }
+        requires state { IsStateOf self.now.prepared.now.campaign state.old.rows state.old }
+        requires kept { K.tells keeper.old → Keeps (K.holds keeper.old) (K.leaves keeper.old) (book_of self.now.prepared.now state.old.rows) }
+        ensures tells { K.tells keeper.new → K.tells keeper.old }
+        ensures ran { OnOk result (Ran self.now.prepared.now state.old.rows state.new.rows) }
+        ensures state { OnOk result (IsStateOf self.now.prepared.now.campaign state.new.rows state.new) }
+        ensures kept { K.tells keeper.new → OnOk result (Keeps (K.holds keeper.new) (K.leaves keeper.new) (book_of self.now.prepared.now state.new.rows)) }
+        ensures broke { K.tells keeper.new → OnErr result (Broke (K.leaves keeper.new) self.now.prepared.now stop_after state.old.rows steps.old steps.new) }
+        ensures within { OnOk result (IsWithin stop_after (length state.old.rows) (length state.new.rows)) }
+        ensures steps { OnOk result (steps.new + length state.old.rows ≡ steps.old + length state.new.rows) }
+        ensures ends { OnOk result (IsFinished self.now.prepared.now.campaign (book_of self.now.prepared.now state.new.rows) ⊎ Reached stop_after state.old.rows state.new.rows) }
+        ensures later { K.faults keeper.old ≤ K.faults keeper.new }
+        ensures cause { IsErrOf result KeepError.Fault → Rose (K.faults keeper.old) (K.faults keeper.new) }
+    {
+        let count = self.prepared.campaign.mutations.as_slice().len() as u32;
+        let mut gained: u32 = 0;
+        'tests: for mutation in 0..count {
+            if stop_after == Some(gained) {
+                return Ok(());
+            }
+            if let Ask::Need(test) = state.ask_of(mutation) {
+                self.test_mutation(mutation, test, state, keeper, steps)?;
+                gained += 1;
+            }
+        }
+        Ok(())
+    }
 }

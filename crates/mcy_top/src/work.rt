@@ -17,7 +17,7 @@ ghost use Rattle.mcy_top.specs.declared.prepared.Prepared.{Prepared as Planned};
 use crate::command::Command;
 use crate::outcome::{BookRefusal, Outcome};
 use crate::prepared::Prepared;
-use crate::running::run_tests;
+use crate::running::Tester;
 use mcy_base::Steps;
 use mcy_keeper::{Book, KeepError, Keeper};
 use mcy_outside::Sink;
@@ -73,230 +73,6 @@ fn deliver<O: Sink>(text: &[u8], out: &mut O) -> Ending
     }
 }
 
-/// Makes the status text whole, and writes it.
-fn report<O: Sink>(alloc: Global, prepared: &Prepared, state: &State, out: &mut O) -> Ending
-    requires plan { IsPlan prepared.now }
-    requires state { IsStateOf prepared.now.campaign state.now.rows state.now }
-    ensures wrote { Delivers (O.written out.old) (O.written out.new) (status_text prepared.now.campaign state.now.rows) result }
-    ensures later { O.faults out.old ≤ O.faults out.new }
-    ensures cause { result ≡ Ending.Refused → Rose (O.faults out.old) (O.faults out.new) }
-{
-    match status_text(alloc, &prepared.campaign, state) {
-        Ok(text) => deliver(text.as_slice(), out),
-        Err(_) => Ending::NoMemory,
-    }
-}
-
-/// The text of `init`.
-fn begun_text(alloc: Global, prepared: &Prepared) -> Result<String, AllocError>
-    ensures { IfOk result (λ text. string_bytes text ≡ init_text prepared.now) }
-{
-    let mut text = String::new(alloc);
-    add_number(&mut text, "Sites", prepared.sites.as_slice().len())?;
-    let mutations = prepared.campaign.mutations.as_slice().len();
-    add_number(&mut text, "Mutations", mutations)?;
-    Ok(text)
-}
-
-/// Begins the campaign in an empty book, and writes how many mutations it has.
-fn init<K: Keeper, O: Sink>(
-    alloc: Global,
-    prepared: &Prepared,
-    keeper: &mut K,
-    out: &mut O,
-) -> Outcome
-    requires settled { IsTrue (K.is_settled keeper.old) }
-    requires plan { IsPlan prepared.now }
-    requires kept { K.tells keeper.old → Keeps (K.holds keeper.old) (K.leaves keeper.old) blank }
-    ensures tells { K.tells keeper.new → K.tells keeper.old }
-    ensures work { K.tells keeper.new → (n : ℕ) → Work (K.leaves keeper.new) (O.written out.old) (O.written out.new) n n Command.Init prepared.now blank result }
-    ensures ends { Ends (O.written out.old) (O.written out.new) (K.faults keeper.old) (K.faults keeper.new) (O.faults out.old) (O.faults out.new) result }
-{
-    match keeper.begin(&prepared.campaign.meta, &prepared.campaign.mutations) {
-        Ok(()) => {}
-        Err(error) => return failed(error),
-    }
-    match begun_text(alloc, prepared) {
-        Ok(text) => deliver(text.as_bytes(), out).outcome(Outcome::Done),
-        Err(_) => Outcome::Memory,
-    }
-}
-
-/// How a run ends whose text is written: with so many mutations left, or none.
-fn run_outcome(prepared: &Prepared, state: &State) -> Outcome
-    requires plan { IsPlan prepared.now }
-    requires state { IsStateOf prepared.now.campaign state.now.rows state.now }
-    ensures { result ≡ run_outcome prepared.now state.now.rows }
-{
-    let mutations = prepared.campaign.mutations.as_slice().len() as u32;
-    match mutations - state.finished() {
-        0 => Outcome::Done,
-        left => Outcome::Unfinished(left),
-    }
-}
-
-/// Runs tests from this state of the begun book, and writes the status.
-fn run<K: Keeper, O: Sink, L: Ledger>(
-    alloc: Global,
-    prepared: &Prepared,
-    stop_after: Option<u32>,
-    state: State,
-    keeper: &mut K,
-    out: &mut O,
-    steps: &mut Steps<L>,
-) -> Outcome
-    requires settled { IsTrue (K.is_settled keeper.old) }
-    requires plan { IsPlan prepared.now }
-    requires state { IsStateOf prepared.now.campaign state.rows state }
-    requires kept { K.tells keeper.old → Keeps (K.holds keeper.old) (K.leaves keeper.old) (book_of prepared.now state.rows) }
-    ensures tells { K.tells keeper.new → K.tells keeper.old }
-    ensures work { K.tells keeper.new → Work (K.leaves keeper.new) (O.written out.old) (O.written out.new) steps.old steps.new (Command.Run stop_after) prepared.now (book_of prepared.now state.rows) result }
-    ensures ends { Ends (O.written out.old) (O.written out.new) (K.faults keeper.old) (K.faults keeper.new) (O.faults out.old) (O.faults out.new) result }
-{
-    let mut state = state;
-    match run_tests(alloc, prepared, stop_after, &mut state, keeper, steps) {
-        Ok(()) => report(alloc, prepared, &state, out).outcome(run_outcome(prepared, &state)),
-        Err(error) => failed(error),
-    }
-}
-
-/// Begins the campaign in an empty book, runs tests, and writes the status.
-fn begin_and_run<K: Keeper, O: Sink, L: Ledger>(
-    alloc: Global,
-    prepared: &Prepared,
-    stop_after: Option<u32>,
-    keeper: &mut K,
-    out: &mut O,
-    steps: &mut Steps<L>,
-) -> Outcome
-    requires settled { IsTrue (K.is_settled keeper.old) }
-    requires plan { IsPlan prepared.now }
-    requires kept { K.tells keeper.old → Keeps (K.holds keeper.old) (K.leaves keeper.old) blank }
-    ensures tells { K.tells keeper.new → K.tells keeper.old }
-    ensures work { K.tells keeper.new → Work (K.leaves keeper.new) (O.written out.old) (O.written out.new) steps.old steps.new (Command.Run stop_after) prepared.now blank result }
-    ensures ends { Ends (O.written out.old) (O.written out.new) (K.faults keeper.old) (K.faults keeper.new) (O.faults out.old) (O.faults out.new) result }
-{
-    let Ok(state) = State::new(alloc, &prepared.campaign) else {
-        return Outcome::Memory;
-    };
-    match keeper.begin(&prepared.campaign.meta, &prepared.campaign.mutations) {
-        Ok(()) => run(alloc, prepared, stop_after, state, keeper, out, steps),
-        Err(error) => failed(error),
-    }
-}
-
-/// The work of a command over an empty book.
-fn start<K: Keeper, O: Sink, L: Ledger>(
-    alloc: Global,
-    command: Command,
-    prepared: &Prepared,
-    keeper: &mut K,
-    out: &mut O,
-    steps: &mut Steps<L>,
-) -> Outcome
-    requires settled { IsTrue (K.is_settled keeper.old) }
-    requires plan { IsPlan prepared.now }
-    requires kept { K.tells keeper.old → Keeps (K.holds keeper.old) (K.leaves keeper.old) blank }
-    ensures tells { K.tells keeper.new → K.tells keeper.old }
-    ensures work { K.tells keeper.new → Work (K.leaves keeper.new) (O.written out.old) (O.written out.new) steps.old steps.new command prepared.now blank result }
-    ensures ends { Ends (O.written out.old) (O.written out.new) (K.faults keeper.old) (K.faults keeper.new) (O.faults out.old) (O.faults out.new) result }
-{
-    match command {
-        Command::Init => init(alloc, prepared, keeper, out),
-        Command::Run { stop_after } => {
-            begin_and_run(alloc, prepared, stop_after, keeper, out, steps)
-        }
-        Command::Status => Outcome::NoCampaign,
-    }
-}
-
-/// The state of a begun book, where it is the campaign's.
-fn read_state(alloc: Global, prepared: &Prepared, loaded: &Book) -> Result<State, BookRefusal>
-    requires plan { IsPlan prepared.now }
-    requires begun { loaded.now.meta ≢ [] }
-    ensures form { OnOk result (IsWellFormed prepared.now.campaign loaded.now) }
-    ensures state { IfOk result (IsStateOf prepared.now.campaign loaded.now.journal) }
-    ensures refused { IfErr result (λ refusal. (command : Asked) → command ≢ Command.Init → RefusesBook command prepared.now loaded.now refusal) }
-{
-    refused_books_are_ill_formed();
-    match check_book(alloc, &prepared.campaign, loaded) {
-        Ok(state) => Ok(state),
-        Err(BookError::Memory) => Err(BookRefusal::Memory),
-        Err(error) => Err(BookRefusal::BookBad(error)),
-    }
-}
-
-/// Goes on with a begun book: runs tests, and writes the status.
-fn resume<K: Keeper, O: Sink, L: Ledger>(
-    alloc: Global,
-    prepared: &Prepared,
-    stop_after: Option<u32>,
-    loaded: &Book,
-    keeper: &mut K,
-    out: &mut O,
-    steps: &mut Steps<L>,
-) -> Outcome
-    requires settled { IsTrue (K.is_settled keeper.old) }
-    requires plan { IsPlan prepared.now }
-    requires begun { loaded.now.meta ≢ [] }
-    requires kept { K.tells keeper.old → Keeps (K.holds keeper.old) (K.leaves keeper.old) loaded.now }
-    ensures tells { K.tells keeper.new → K.tells keeper.old }
-    ensures work { K.tells keeper.new → Work (K.leaves keeper.new) (O.written out.old) (O.written out.new) steps.old steps.new (Command.Run stop_after) prepared.now loaded.now result }
-    ensures ends { Ends (O.written out.old) (O.written out.new) (K.faults keeper.old) (K.faults keeper.new) (O.faults out.old) (O.faults out.new) result }
-{
-    match read_state(alloc, prepared, loaded) {
-        Ok(state) => run(alloc, prepared, stop_after, state, keeper, out, steps),
-        Err(refusal) => refusal.into_outcome(),
-    }
-}
-
-/// Writes the status of a begun book.
-fn status<K: Keeper, O: Sink>(
-    alloc: Global,
-    prepared: &Prepared,
-    loaded: &Book,
-    keeper: &K,
-    out: &mut O,
-) -> Outcome
-    requires plan { IsPlan prepared.now }
-    requires begun { loaded.now.meta ≢ [] }
-    requires kept { K.tells keeper.now → Keeps (K.holds keeper.now) (K.leaves keeper.now) loaded.now }
-    ensures work { K.tells keeper.now → (n : ℕ) → Work (K.leaves keeper.now) (O.written out.old) (O.written out.new) n n Command.Status prepared.now loaded.now result }
-    ensures ends { Ends (O.written out.old) (O.written out.new) (K.faults keeper.now) (K.faults keeper.now) (O.faults out.old) (O.faults out.new) result }
-{
-    match read_state(alloc, prepared, loaded) {
-        Ok(state) => report(alloc, prepared, &state, out).outcome(Outcome::Done),
-        Err(refusal) => refusal.into_outcome(),
-    }
-}
-
-/// The work of a command over a begun book.
-fn go_on<K: Keeper, O: Sink, L: Ledger>(
-    alloc: Global,
-    command: Command,
-    prepared: &Prepared,
-    loaded: &Book,
-    keeper: &mut K,
-    out: &mut O,
-    steps: &mut Steps<L>,
-) -> Outcome
-    requires settled { IsTrue (K.is_settled keeper.old) }
-    requires plan { IsPlan prepared.now }
-    requires begun { loaded.now.meta ≢ [] }
-    requires kept { K.tells keeper.old → Keeps (K.holds keeper.old) (K.leaves keeper.old) loaded.now }
-    ensures tells { K.tells keeper.new → K.tells keeper.old }
-    ensures work { K.tells keeper.new → Work (K.leaves keeper.new) (O.written out.old) (O.written out.new) steps.old steps.new command prepared.now loaded.now result }
-    ensures ends { Ends (O.written out.old) (O.written out.new) (K.faults keeper.old) (K.faults keeper.new) (O.faults out.old) (O.faults out.new) result }
-{
-    match command {
-        Command::Init => Outcome::AlreadyBegun,
-        Command::Run { stop_after } => {
-            resume(alloc, prepared, stop_after, loaded, keeper, out, steps)
-        }
-        Command::Status => status(alloc, prepared, loaded, keeper, out),
-    }
-}
-
 /// A count as it is told, at most 4,294,967,295.
 fn told(count: usize) -> u32
     ensures { result ≡ told count }
@@ -315,28 +91,249 @@ fn stray(loaded: &Book) -> BookError
     BookError::Stray(mutations, rows)
 }
 
-/// Carries out a command over a loaded book.
-pub(crate) fn carry_out<K: Keeper, O: Sink, L: Ledger>(
-    alloc: Global,
-    command: Command,
-    prepared: &Prepared,
-    loaded: &Book,
-    keeper: &mut K,
-    out: &mut O,
-    steps: &mut Steps<L>,
-) -> Outcome
-    requires settled { IsTrue (K.is_settled keeper.old) }
-    requires plan { IsPlan prepared.now }
-    requires kept { K.tells keeper.old → Keeps (K.holds keeper.old) (K.leaves keeper.old) loaded.now }
-    ensures tells { K.tells keeper.new → K.tells keeper.old }
-    ensures work { K.tells keeper.new → Work (K.leaves keeper.new) (O.written out.old) (O.written out.new) steps.old steps.new command prepared.now loaded.now result }
-    ensures ends { Ends (O.written out.old) (O.written out.new) (K.faults keeper.old) (K.faults keeper.new) (O.faults out.old) (O.faults out.new) result }
-{
-    if loaded.is_blank() {
-        return start(alloc, command, prepared, keeper, out, steps);
+/// The campaign that a command works on.
+#[derive(Drop)]
+pub(crate) struct Task<'a> {
+    pub(crate) alloc: Global,
+    pub(crate) prepared: &'a Prepared,
+}
+
+impl Task<'_> {
+    /// Makes the status text whole, and writes it.
+    fn report<O: Sink>(&self, state: &State, out: &mut O) -> Ending
+        requires plan { IsPlan self.now.prepared.now }
+        requires state { IsStateOf self.now.prepared.now.campaign state.now.rows state.now }
+        ensures wrote { Delivers (O.written out.old) (O.written out.new) (status_text self.now.prepared.now.campaign state.now.rows) result }
+        ensures later { O.faults out.old ≤ O.faults out.new }
+        ensures cause { result ≡ Ending.Refused → Rose (O.faults out.old) (O.faults out.new) }
+    {
+        match status_text(self.alloc, &self.prepared.campaign, state) {
+            Ok(text) => deliver(text.as_slice(), out),
+            Err(_) => Ending::NoMemory,
+        }
     }
-    if loaded.meta.as_slice().is_empty() {
-        return Outcome::BookBad(stray(loaded));
+
+    /// The text of `init`.
+    fn begun_text(&self) -> Result<String, AllocError>
+        ensures { IfOk result (λ text. string_bytes text ≡ init_text self.now.prepared.now) }
+    {
+        let mut text = String::new(self.alloc);
+        add_number(&mut text, "Sites", self.prepared.sites.as_slice().len())?;
+        let mutations = self.prepared.campaign.mutations.as_slice().len();
+        add_number(&mut text, "Mutations", mutations)?;
+        Ok(text)
     }
-    go_on(alloc, command, prepared, loaded, keeper, out, steps)
+
+    /// Begins the campaign in an empty book, and writes how many mutations it has.
+    fn init<K: Keeper, O: Sink>(&self, keeper: &mut K, out: &mut O) -> Outcome
+        requires settled { IsTrue (K.is_settled keeper.old) }
+        requires plan { IsPlan self.now.prepared.now }
+        requires kept { K.tells keeper.old → Keeps (K.holds keeper.old) (K.leaves keeper.old) blank }
+        ensures tells { K.tells keeper.new → K.tells keeper.old }
+        ensures work { K.tells keeper.new → (n : ℕ) → Work (K.leaves keeper.new) (O.written out.old) (O.written out.new) n n Command.Init self.now.prepared.now blank result }
+        ensures ends { Ends (O.written out.old) (O.written out.new) (K.faults keeper.old) (K.faults keeper.new) (O.faults out.old) (O.faults out.new) result }
+    {
+        match keeper.begin(
+            &self.prepared.campaign.meta,
+            &self.prepared.campaign.mutations,
+        ) {
+            Ok(()) => {}
+            Err(error) => return failed(error),
+        }
+        match self.begun_text() {
+            Ok(text) => deliver(text.as_bytes(), out).outcome(Outcome::Done),
+            Err(_) => Outcome::Memory,
+        }
+    }
+
+    /// How a run ends whose text is written: with so many mutations left, or none.
+    fn run_outcome(&self, state: &State) -> Outcome
+        requires plan { IsPlan self.now.prepared.now }
+        requires state { IsStateOf self.now.prepared.now.campaign state.now.rows state.now }
+        ensures { result ≡ run_outcome self.now.prepared.now state.now.rows }
+    {
+        let mutations = self.prepared.campaign.mutations.as_slice().len() as u32;
+        match mutations - state.finished() {
+            0 => Outcome::Done,
+            left => Outcome::Unfinished(left),
+        }
+    }
+
+    /// Runs tests from this state of the begun book, and writes the status.
+    fn run<K: Keeper, O: Sink, L: Ledger>(
+        &self,
+        stop_after: Option<u32>,
+        state: State,
+        keeper: &mut K,
+        out: &mut O,
+        steps: &mut Steps<L>,
+    ) -> Outcome
+        requires settled { IsTrue (K.is_settled keeper.old) }
+        requires plan { IsPlan self.now.prepared.now }
+        requires state { IsStateOf self.now.prepared.now.campaign state.rows state }
+        requires kept { K.tells keeper.old → Keeps (K.holds keeper.old) (K.leaves keeper.old) (book_of self.now.prepared.now state.rows) }
+        ensures tells { K.tells keeper.new → K.tells keeper.old }
+        ensures work { K.tells keeper.new → Work (K.leaves keeper.new) (O.written out.old) (O.written out.new) steps.old steps.new (Command.Run stop_after) self.now.prepared.now (book_of self.now.prepared.now state.rows) result }
+        ensures ends { Ends (O.written out.old) (O.written out.new) (K.faults keeper.old) (K.faults keeper.new) (O.faults out.old) (O.faults out.new) result }
+    {
+        let Ok(tester) = Tester::new(self.alloc, self.prepared) else {
+            return Outcome::Memory;
+        };
+        let mut state = state;
+        match tester.run_tests(stop_after, &mut state, keeper, steps) {
+            Ok(()) => self.report(&state, out).outcome(self.run_outcome(&state)),
+            Err(error) => failed(error),
+        }
+    }
+
+    /// Begins the campaign in an empty book, runs tests, and writes the status.
+    fn begin_and_run<K: Keeper, O: Sink, L: Ledger>(
+        &self,
+        stop_after: Option<u32>,
+        keeper: &mut K,
+        out: &mut O,
+        steps: &mut Steps<L>,
+    ) -> Outcome
+        requires settled { IsTrue (K.is_settled keeper.old) }
+        requires plan { IsPlan self.now.prepared.now }
+        requires kept { K.tells keeper.old → Keeps (K.holds keeper.old) (K.leaves keeper.old) blank }
+        ensures tells { K.tells keeper.new → K.tells keeper.old }
+        ensures work { K.tells keeper.new → Work (K.leaves keeper.new) (O.written out.old) (O.written out.new) steps.old steps.new (Command.Run stop_after) self.now.prepared.now blank result }
+        ensures ends { Ends (O.written out.old) (O.written out.new) (K.faults keeper.old) (K.faults keeper.new) (O.faults out.old) (O.faults out.new) result }
+    {
+        let Ok(state) = State::new(self.alloc, &self.prepared.campaign) else {
+            return Outcome::Memory;
+        };
+        match keeper.begin(
+            &self.prepared.campaign.meta,
+            &self.prepared.campaign.mutations,
+        ) {
+            Ok(()) => self.run(stop_after, state, keeper, out, steps),
+            Err(error) => failed(error),
+        }
+    }
+
+    /// The work of a command over an empty book.
+    fn start<K: Keeper, O: Sink, L: Ledger>(
+        &self,
+        command: Command,
+        keeper: &mut K,
+        out: &mut O,
+        steps: &mut Steps<L>,
+    ) -> Outcome
+        requires settled { IsTrue (K.is_settled keeper.old) }
+        requires plan { IsPlan self.now.prepared.now }
+        requires kept { K.tells keeper.old → Keeps (K.holds keeper.old) (K.leaves keeper.old) blank }
+        ensures tells { K.tells keeper.new → K.tells keeper.old }
+        ensures work { K.tells keeper.new → Work (K.leaves keeper.new) (O.written out.old) (O.written out.new) steps.old steps.new command self.now.prepared.now blank result }
+        ensures ends { Ends (O.written out.old) (O.written out.new) (K.faults keeper.old) (K.faults keeper.new) (O.faults out.old) (O.faults out.new) result }
+    {
+        match command {
+            Command::Init => self.init(keeper, out),
+            Command::Run { stop_after } => { self.begin_and_run(stop_after, keeper, out, steps) }
+            Command::Status => Outcome::NoCampaign,
+        }
+    }
+
+    /// The state of a begun book, where it is the campaign's.
+    fn read_state(&self, loaded: &Book) -> Result<State, BookRefusal>
+        requires plan { IsPlan self.now.prepared.now }
+        requires begun { loaded.now.meta ≢ [] }
+        ensures form { OnOk result (IsWellFormed self.now.prepared.now.campaign loaded.now) }
+        ensures state { IfOk result (IsStateOf self.now.prepared.now.campaign loaded.now.journal) }
+        ensures refused { IfErr result (λ refusal. (command : Asked) → command ≢ Command.Init → RefusesBook command self.now.prepared.now loaded.now refusal) }
+    {
+        refused_books_are_ill_formed();
+        match check_book(self.alloc, &self.prepared.campaign, loaded) {
+            Ok(state) => Ok(state),
+            Err(BookError::Memory) => Err(BookRefusal::Memory),
+            Err(error) => Err(BookRefusal::BookBad(error)),
+        }
+    }
+
+    /// Goes on with a begun book: runs tests, and writes the status.
+    fn resume<K: Keeper, O: Sink, L: Ledger>(
+        &self,
+        stop_after: Option<u32>,
+        loaded: &Book,
+        keeper: &mut K,
+        out: &mut O,
+        steps: &mut Steps<L>,
+    ) -> Outcome
+        requires settled { IsTrue (K.is_settled keeper.old) }
+        requires plan { IsPlan self.now.prepared.now }
+        requires begun { loaded.now.meta ≢ [] }
+        requires kept { K.tells keeper.old → Keeps (K.holds keeper.old) (K.leaves keeper.old) loaded.now }
+        ensures tells { K.tells keeper.new → K.tells keeper.old }
+        ensures work { K.tells keeper.new → Work (K.leaves keeper.new) (O.written out.old) (O.written out.new) steps.old steps.new (Command.Run stop_after) self.now.prepared.now loaded.now result }
+        ensures ends { Ends (O.written out.old) (O.written out.new) (K.faults keeper.old) (K.faults keeper.new) (O.faults out.old) (O.faults out.new) result }
+    {
+        match self.read_state(loaded) {
+            Ok(state) => self.run(stop_after, state, keeper, out, steps),
+            Err(refusal) => refusal.into_outcome(),
+        }
+    }
+
+    /// Writes the status of a begun book.
+    fn status<K: Keeper, O: Sink>(&self, loaded: &Book, keeper: &K, out: &mut O) -> Outcome
+        requires plan { IsPlan self.now.prepared.now }
+        requires begun { loaded.now.meta ≢ [] }
+        requires kept { K.tells keeper.now → Keeps (K.holds keeper.now) (K.leaves keeper.now) loaded.now }
+        ensures work { K.tells keeper.now → (n : ℕ) → Work (K.leaves keeper.now) (O.written out.old) (O.written out.new) n n Command.Status self.now.prepared.now loaded.now result }
+        ensures ends { Ends (O.written out.old) (O.written out.new) (K.faults keeper.now) (K.faults keeper.now) (O.faults out.old) (O.faults out.new) result }
+    {
+        match self.read_state(loaded) {
+            Ok(state) => self.report(&state, out).outcome(Outcome::Done),
+            Err(refusal) => refusal.into_outcome(),
+        }
+    }
+
+    /// The work of a command over a begun book.
+    fn go_on<K: Keeper, O: Sink, L: Ledger>(
+        &self,
+        command: Command,
+        loaded: &Book,
+        keeper: &mut K,
+        out: &mut O,
+        steps: &mut Steps<L>,
+    ) -> Outcome
+        requires settled { IsTrue (K.is_settled keeper.old) }
+        requires plan { IsPlan self.now.prepared.now }
+        requires begun { loaded.now.meta ≢ [] }
+        requires kept { K.tells keeper.old → Keeps (K.holds keeper.old) (K.leaves keeper.old) loaded.now }
+        ensures tells { K.tells keeper.new → K.tells keeper.old }
+        ensures work { K.tells keeper.new → Work (K.leaves keeper.new) (O.written out.old) (O.written out.new) steps.old steps.new command self.now.prepared.now loaded.now result }
+        ensures ends { Ends (O.written out.old) (O.written out.new) (K.faults keeper.old) (K.faults keeper.new) (O.faults out.old) (O.faults out.new) result }
+    {
+        match command {
+            Command::Init => Outcome::AlreadyBegun,
+            Command::Run { stop_after } => { self.resume(stop_after, loaded, keeper, out, steps) }
+            Command::Status => self.status(loaded, keeper, out),
+        }
+    }
+
+    /// Carries out a command over a loaded book.
+    pub(crate) fn carry_out<K: Keeper, O: Sink, L: Ledger>(
+        &self,
+        command: Command,
+        loaded: &Book,
+        keeper: &mut K,
+        out: &mut O,
+        steps: &mut Steps<L>,
+    ) -> Outcome
+        requires settled { IsTrue (K.is_settled keeper.old) }
+        requires plan { IsPlan self.now.prepared.now }
+        requires kept { K.tells keeper.old → Keeps (K.holds keeper.old) (K.leaves keeper.old) loaded.now }
+        ensures tells { K.tells keeper.new → K.tells keeper.old }
+        ensures work { K.tells keeper.new → Work (K.leaves keeper.new) (O.written out.old) (O.written out.new) steps.old steps.new command self.now.prepared.now loaded.now result }
+        ensures ends { Ends (O.written out.old) (O.written out.new) (K.faults keeper.old) (K.faults keeper.new) (O.faults out.old) (O.faults out.new) result }
+    {
+        if loaded.is_blank() {
+            return self.start(command, keeper, out, steps);
+        }
+        if loaded.meta.as_slice().is_empty() {
+            return Outcome::BookBad(stray(loaded));
+        }
+        self.go_on(command, loaded, keeper, out, steps)
+    }
 }

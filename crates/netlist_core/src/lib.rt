@@ -26,6 +26,3 @@ pub use netlist::{NetError, Netlist};
 pub use port::{Port, Ports, Register, RegisterList};
 pub use raw::RawNetlist;
 pub use shape::{Shape, has_shape};
-
-#[cfg(test)]
-mod tests;

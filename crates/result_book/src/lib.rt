@@ -13,6 +13,3 @@ pub use check::{BookError, RowFault, check_book};
 pub use results::{MAX_TESTS, Results};
 pub use script::{Ask, TestWord};
 pub use state::State;
-
-#[cfg(test)]
-mod tests;

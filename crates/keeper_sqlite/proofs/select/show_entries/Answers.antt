@@ -45,7 +45,7 @@ rows-preserved g c =
     let mid = state g.S.Store c.rows.rows.conn.now in
     let new = state g.S.Store c.next.follows.lender-at-none.conn.now in
     let entries = c.rows.entries.items in
-    let grown : map shown_entry entries ++ c.in-Some.row.now ∷ [] ≡ map shown_entry c.push.new.self.items = ap (λ r. map shown_entry entries ++ r ∷ []) c.in_ok-entry.ensures ∙ sym (map-push shown_entry entries c.in_ok-entry.entry) ∙ ap (map shown_entry) (sym c.in_ok-push.ensures.items) in
+    let grown : map shown_entry entries ++ c.in-Some.row.now ∷ [] ≡ map shown_entry c.push.new.self.items = ap (λ r. map shown_entry entries ++ r ∷ []) c.in_ok-entry.ensures.found ∙ sym (map-push shown_entry entries c.in_ok-entry.entry) ∙ ap (map shown_entry) (sym c.in_ok-push.ensures.items) in
     record {
       same = search rules;
       crash = search rules;

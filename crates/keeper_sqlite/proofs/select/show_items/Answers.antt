@@ -46,7 +46,7 @@ rows-preserved g c =
     let mid = state g.S.Store c.rows.rows.conn.now in
     let new = state g.S.Store c.next.follows.lender-at-none.conn.now in
     let bodies = c.rows.items.items in
-    let row : c.in-Some.row.now ≡ shown_item (0 + length bodies) c.in_ok-item.item = c.in_ok-item.ensures ∙ ap (λ n. shown_item n c.in_ok-item.item) (omega (arith, c.rows.invariant.count)) in
+    let row : c.in-Some.row.now ≡ shown_item (0 + length bodies) c.in_ok-item.item = c.in_ok-item.ensures.found ∙ ap (λ n. shown_item n c.in_ok-item.item) (omega (arith, c.rows.invariant.count)) in
     let grown : shown_items 0 bodies ++ c.in-Some.row.now ∷ [] ≡ shown_items 0 c.push.new.self.items = ap (λ r. shown_items 0 bodies ++ r ∷ []) row ∙ sym (items_push 0 bodies c.in_ok-item.item) ∙ ap (shown_items 0) (sym c.in_ok-push.ensures.items) in
     record {
       same = search rules;

@@ -1,4 +1,0 @@
-use Rattle.mcy_cases.proofs.call.Given as goal
-
-abbrev pub ghosts-call_with : goal.ghosts-call_with
-ghosts-call_with g a = record { name = a.blank.name; parts = a.blank.parts }

@@ -1,5 +1,0 @@
-use Rattle.mcy_top.proofs.Plans.{plan_fit}
-use Rattle.mcy_top.proofs.work.read_state.Goals as goal
-
-pub check_book-requires-clause-fit : goal.check_book-requires-clause-fit
-check_book-requires-clause-fit c = plan_fit c.args.prepared.now c.requires.plan

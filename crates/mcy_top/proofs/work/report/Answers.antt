@@ -1,5 +1,0 @@
-use Rattle.mcy_top.proofs.Plans.{plan_fit}
-use Rattle.mcy_top.proofs.work.report.Goals as goal
-
-pub status_text-requires-clause-fit : goal.status_text-requires-clause-fit
-status_text-requires-clause-fit g c = plan_fit c.args.prepared.now c.requires.plan
