@@ -48,7 +48,7 @@ at_place p (y ∷ ys) zero x h e = let q : y ≡ x = cc in ap p (sym q) ∙ and_
 at_place p (y ∷ ys) (suc i) x h e = at_place p ys i x (and_right (p y) (every p ys) h) e
 
 unfoldable classes : List Class
-classes = c.Name ∷ c.SystemVerilog ∷ c.Number ∷ c.String ∷ c.System ∷ c.Module ∷ c.Semicolon ∷ c.EndModule ∷ c.Primitive ∷ c.Or ∷ c.OpenParen ∷ c.AttributeStar ∷ c.AttributeEnd ∷ c.AttributeText ∷ c.Hash ∷ c.Parameter ∷ c.CloseParen ∷ c.Comma ∷ c.Input ∷ c.Output ∷ c.Reg ∷ c.Integer ∷ c.Generate ∷ c.EndGenerate ∷ c.Wire ∷ c.Genvar ∷ c.Localparam ∷ c.Assign ∷ c.Always ∷ c.Initial ∷ c.For ∷ c.Equals ∷ c.If ∷ c.Case ∷ c.Begin ∷ c.End ∷ c.Else ∷ c.Colon ∷ c.Signed ∷ c.OpenBracket ∷ c.CloseBracket ∷ c.Dot ∷ c.EndCase ∷ c.While ∷ c.Repeat ∷ c.Forever ∷ c.At ∷ c.LessEqual ∷ c.CaseZ ∷ c.CaseX ∷ c.Default ∷ c.Star ∷ c.Posedge ∷ c.Negedge ∷ c.OpenBrace ∷ c.CloseBrace ∷ c.PlusColon ∷ c.Power ∷ c.Slash ∷ c.Percent ∷ c.Plus ∷ c.Minus ∷ c.ShiftLeft ∷ c.ShiftRight ∷ c.ShiftLeftSigned ∷ c.ShiftRightSigned ∷ c.Less ∷ c.Greater ∷ c.GreaterEqual ∷ c.Equal ∷ c.Unequal ∷ c.CaseEqual ∷ c.CaseUnequal ∷ c.And ∷ c.Xor ∷ c.Xnor ∷ c.Bar ∷ c.LogicalAnd ∷ c.LogicalOr ∷ c.Question ∷ c.Not ∷ c.Tilde ∷ c.Nand ∷ c.Nor ∷ c.NetKind ∷ c.Inout ∷ c.Function ∷ c.Task ∷ c.Specify ∷ c.Defparam ∷ c.RealOrTime ∷ c.Other ∷ c.Finish ∷ []
+classes = c.Name ∷ c.SystemVerilog ∷ c.Number ∷ c.String ∷ c.System ∷ c.UnaryFunction ∷ c.Module ∷ c.Semicolon ∷ c.EndModule ∷ c.Primitive ∷ c.Or ∷ c.OpenParen ∷ c.AttributeStar ∷ c.AttributeEnd ∷ c.AttributeText ∷ c.Hash ∷ c.Parameter ∷ c.CloseParen ∷ c.Comma ∷ c.Input ∷ c.Output ∷ c.Reg ∷ c.Integer ∷ c.Generate ∷ c.EndGenerate ∷ c.Wire ∷ c.Genvar ∷ c.Localparam ∷ c.Assign ∷ c.Always ∷ c.Initial ∷ c.For ∷ c.Equals ∷ c.If ∷ c.Case ∷ c.Begin ∷ c.End ∷ c.Else ∷ c.Colon ∷ c.Signed ∷ c.OpenBracket ∷ c.CloseBracket ∷ c.Dot ∷ c.EndCase ∷ c.While ∷ c.Repeat ∷ c.Forever ∷ c.At ∷ c.LessEqual ∷ c.CaseZ ∷ c.CaseX ∷ c.Default ∷ c.Star ∷ c.Posedge ∷ c.Negedge ∷ c.OpenBrace ∷ c.CloseBrace ∷ c.PlusColon ∷ c.Power ∷ c.Slash ∷ c.Percent ∷ c.Plus ∷ c.Minus ∷ c.ShiftLeft ∷ c.ShiftRight ∷ c.ShiftLeftSigned ∷ c.ShiftRightSigned ∷ c.Less ∷ c.Greater ∷ c.GreaterEqual ∷ c.Equal ∷ c.Unequal ∷ c.CaseEqual ∷ c.CaseUnequal ∷ c.And ∷ c.Xor ∷ c.Xnor ∷ c.Bar ∷ c.LogicalAnd ∷ c.LogicalOr ∷ c.Question ∷ c.Not ∷ c.Tilde ∷ c.Nand ∷ c.Nor ∷ c.NetKind ∷ c.Inout ∷ c.Function ∷ c.Task ∷ c.Specify ∷ c.Defparam ∷ c.RealOrTime ∷ c.Other ∷ c.Finish ∷ []
 
 class_at : (x : Class) → nth classes (tag_of class_type x) ≡ Some x
 unfolding classes

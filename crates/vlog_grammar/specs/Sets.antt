@@ -24,10 +24,10 @@ abbrev operators_or_ends : List Class
 operators_or_ends = c.Star ∷ c.Power ∷ c.Slash ∷ c.Percent ∷ c.Plus ∷ c.Minus ∷ c.ShiftLeft ∷ c.ShiftRight ∷ c.ShiftLeftSigned ∷ c.ShiftRightSigned ∷ comparisons_or_ends
 
 abbrev operand_begins : List Class
-operand_begins = c.Name ∷ c.SystemVerilog ∷ c.Number ∷ c.System ∷ c.OpenParen ∷ c.OpenBrace ∷ c.Plus ∷ c.Minus ∷ c.And ∷ c.Xor ∷ c.Xnor ∷ c.Bar ∷ c.Not ∷ c.Tilde ∷ c.Nand ∷ c.Nor ∷ []
+operand_begins = c.Name ∷ c.SystemVerilog ∷ c.Number ∷ c.System ∷ c.UnaryFunction ∷ c.OpenParen ∷ c.OpenBrace ∷ c.Plus ∷ c.Minus ∷ c.And ∷ c.Xor ∷ c.Xnor ∷ c.Bar ∷ c.Not ∷ c.Tilde ∷ c.Nand ∷ c.Nor ∷ []
 
 abbrev statement_begins : List Class
-statement_begins = c.Name ∷ c.SystemVerilog ∷ c.System ∷ c.Semicolon ∷ c.Hash ∷ c.For ∷ c.If ∷ c.Case ∷ c.Begin ∷ c.While ∷ c.Repeat ∷ c.Forever ∷ c.At ∷ c.CaseZ ∷ c.CaseX ∷ c.OpenBrace ∷ []
+statement_begins = c.Name ∷ c.SystemVerilog ∷ c.System ∷ c.UnaryFunction ∷ c.Semicolon ∷ c.Hash ∷ c.For ∷ c.If ∷ c.Case ∷ c.Begin ∷ c.While ∷ c.Repeat ∷ c.Forever ∷ c.At ∷ c.CaseZ ∷ c.CaseX ∷ c.OpenBrace ∷ []
 
 abbrev item_begins : List Class
 item_begins = c.Name ∷ c.SystemVerilog ∷ c.Primitive ∷ c.Or ∷ c.Reg ∷ c.Integer ∷ c.Wire ∷ c.Genvar ∷ c.Localparam ∷ c.Assign ∷ c.Always ∷ c.Initial ∷ c.For ∷ c.If ∷ c.Case ∷ []
@@ -130,7 +130,7 @@ firsts k.BraceEnd = c.Comma ∷ c.OpenBrace ∷ c.CloseBrace ∷ []
 -- the classes of the tokens behind a kind
 unfoldable pub follows : Kind → List Class
 follows k.SourceText = c.Finish ∷ []
-follows k.Identifier = c.System ∷ c.OpenParen ∷ c.Hash ∷ c.Equals ∷ c.Begin ∷ c.End ∷ c.OpenBracket ∷ c.While ∷ c.Repeat ∷ c.Forever ∷ c.At ∷ c.CaseZ ∷ c.CaseX ∷ (operators_or_ends ++ item_begins)
+follows k.Identifier = c.System ∷ c.UnaryFunction ∷ c.OpenParen ∷ c.Hash ∷ c.Equals ∷ c.Begin ∷ c.End ∷ c.OpenBracket ∷ c.While ∷ c.Repeat ∷ c.Forever ∷ c.At ∷ c.CaseZ ∷ c.CaseX ∷ (operators_or_ends ++ item_begins)
 follows k.Attributes = c.Primitive ∷ c.Or ∷ c.Parameter ∷ c.Input ∷ c.Output ∷ c.Reg ∷ c.Integer ∷ c.Generate ∷ c.Wire ∷ c.Genvar ∷ c.Localparam ∷ c.Assign ∷ c.Always ∷ c.Initial ∷ statement_begins
 follows k.AttributeSpecs = c.Primitive ∷ c.Or ∷ c.OpenParen ∷ c.Parameter ∷ c.Input ∷ c.Output ∷ c.Reg ∷ c.Integer ∷ c.Generate ∷ c.Wire ∷ c.Genvar ∷ c.Localparam ∷ c.Assign ∷ c.Always ∷ c.Initial ∷ statement_begins
 follows k.ParameterPorts = c.Semicolon ∷ c.OpenParen ∷ []

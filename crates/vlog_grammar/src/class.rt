@@ -1,6 +1,6 @@
 //! What the grammar sees of a token.
 /// The class of a token: a reserved word, an operator or punctuation of its own, or one of a kind of tokens.
-#[derive(Clone, Copy, Debug, PartialEq, Eq)]
+#[derive(Clone, Copy, PartialEq, Eq)]
 pub enum Class {
     /// A simple or escaped identifier that is no reserved word.
     Name,
@@ -10,6 +10,8 @@ pub enum Class {
     String,
     /// `$` and a name.
     System,
+    /// `$signed`, `$unsigned` or `$clog2`: a system function of one argument.
+    UnaryFunction,
     Module,
     /// `;`
     Semicolon,

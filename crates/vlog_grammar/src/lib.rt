@@ -7,8 +7,6 @@ mod rule;
 mod step;
 mod stop;
 mod table;
-#[cfg(test)]
-mod tests;
 
 pub use class::Class;
 pub use reader::{one_answer, read};

@@ -61,7 +61,7 @@ fn stopped(mut steps: Vec<Step>, count: usize, stop: Stop) -> Reading
 }
 
 /// What stands on top once productions are in the place of the kinds there.
-#[derive(Clone, Copy, Debug, PartialEq, Eq)]
+#[derive(Clone, Copy)]
 pub enum Asked {
     /// A token is asked for.
     Asks(Symbol),

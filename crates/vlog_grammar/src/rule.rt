@@ -1,6 +1,6 @@
 //! The names of the productions (IEEE 1364-2005, Annex A).
 /// A nonterminal: a part of the grammar that has productions.
-#[derive(Clone, Copy, Debug, PartialEq, Eq)]
+#[derive(Clone, Copy)]
 pub enum Kind {
     SourceText,
     Identifier,
@@ -97,7 +97,7 @@ pub enum Kind {
 }
 
 /// A production. `parts_of` has its parts.
-#[derive(Clone, Copy, Debug, PartialEq, Eq)]
+#[derive(Clone, Copy)]
 pub enum Rule {
     NoDescription,
     ModuleDeclaration,
@@ -231,6 +231,7 @@ pub enum Rule {
     EventControlStatement,
     DelayControlStatement,
     SystemTaskEnable,
+    UnaryFunctionEnable,
     Assignment,
     Blocking,
     Nonblocking,
@@ -331,6 +332,7 @@ pub enum Rule {
     NumberOperand,
     NameOperand,
     SystemFunctionCall,
+    UnaryFunctionCall,
     Parenthesized,
     Braces,
     NoFunctionArguments,

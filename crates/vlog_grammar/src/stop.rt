@@ -3,7 +3,7 @@ use crate::step::Step;
 use vlog_syntax::Feature;
 
 /// Why tokens are no source text, by the number of a token from 0. The end has the number past the last token.
-#[derive(Clone, Copy, Debug, PartialEq, Eq)]
+#[derive(Clone, Copy)]
 pub enum Stop {
     /// The first token after which no text of the grammar goes on.
     Unexpected(usize),
@@ -12,7 +12,7 @@ pub enum Stop {
 }
 
 /// What was read.
-#[derive(Debug, Drop)]
+#[derive(Drop)]
 pub struct Reading {
     /// The steps of the trees, or where reading stopped those up to the last token before.
     pub steps: Vec<Step>,

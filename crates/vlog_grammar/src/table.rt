@@ -10,7 +10,7 @@ use crate::rule::{Kind, Rule};
 use vlog_syntax::Feature;
 
 /// A part of a production: a token, a token at which a construct is refused by name, or a nonterminal.
-#[derive(Clone, Copy, Debug, PartialEq, Eq)]
+#[derive(Clone, Copy)]
 pub enum Symbol {
     Is(Class),
     Refused(Class, Feature),
@@ -196,6 +196,7 @@ pub fn parts_of(rule: Rule) -> &'static [Symbol]
         Rule::EventControlStatement => parts![[At] EventControl Statement],
         Rule::DelayControlStatement => parts![[Hash] DelayValue Statement],
         Rule::SystemTaskEnable => parts![[System] TaskArguments [Semicolon]],
+        Rule::UnaryFunctionEnable => parts![[UnaryFunction] TaskArguments [Semicolon]],
         Rule::Assignment => parts![LeftSide AssignmentOperator Expression [Semicolon]],
         Rule::Blocking => parts![[Equals]],
         Rule::Nonblocking => parts![[LessEqual]],
@@ -316,6 +317,7 @@ pub fn parts_of(rule: Rule) -> &'static [Symbol]
         Rule::NumberOperand => parts![[Number]],
         Rule::NameOperand => parts![Identifier SelectPart],
         Rule::SystemFunctionCall => parts![[System] FunctionArguments],
+        Rule::UnaryFunctionCall => parts![[UnaryFunction] [OpenParen] Expression [CloseParen]],
         Rule::Parenthesized => parts![[OpenParen] Expression [CloseParen]],
         Rule::Braces => parts![[OpenBrace] Expression BraceEnd],
         Rule::NoFunctionArguments => parts![],
@@ -550,6 +552,7 @@ pub fn choice(kind: Kind, next: Class) -> Option<Rule>
         Kind::StatementItem => match next {
             Class::Name | Class::SystemVerilog | Class::OpenBrace => Some(Rule::Assignment),
             Class::System => Some(Rule::SystemTaskEnable),
+            Class::UnaryFunction => Some(Rule::UnaryFunctionEnable),
             Class::Semicolon => Some(Rule::NullStatement),
             Class::Hash => Some(Rule::DelayControlStatement),
             Class::For => Some(Rule::ForStatement),
@@ -717,6 +720,7 @@ pub fn choice(kind: Kind, next: Class) -> Option<Rule>
         Kind::Operand => match next {
             Class::Number => Some(Rule::NumberOperand),
             Class::System => Some(Rule::SystemFunctionCall),
+            Class::UnaryFunction => Some(Rule::UnaryFunctionCall),
             Class::OpenParen => Some(Rule::Parenthesized),
             Class::OpenBrace => Some(Rule::Braces),
             Class::Plus => Some(Rule::UnaryPlus),

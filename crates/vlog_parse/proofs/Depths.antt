@@ -1,5 +1,5 @@
 -- How deep the constructs of a text are, by its trees and by its steps.
-use Rattle.std.proofs.Common.{◌≡◌, ℕ, zero, suc, ◌+◌, ◌-◌, Bool, true, false, if◌then◌else◌, List, [], ◌∷◌, ◌++◌, Option, Some, None, length, take, refl, sym, ap, ◌∙◌, append_assoc, eq-eqb, arith}
+use Rattle.std.proofs.Common.{◌≡◌, ℕ, zero, suc, ◌-◌, Bool, true, false, if◌then◌else◌, List, [], ◌∷◌, ◌++◌, Option, Some, None, length, take, refl, sym, ap, ◌∙◌, append_assoc, eq-eqb, arith}
 use Rattle.std.proofs.lemmas.Bool.{ne_eqb}
 use Rattle.std.specs.Prelude.{◌==◌, ◌&&◌}
 use Rattle.vlog_grammar.specs.declared.rule.Rule.{Rule}
@@ -39,7 +39,7 @@ begun-parts row rule = go (behind rule)
     go None = refl
     go (Some n) = refl
 
-ended-parts : (row : Row) (rule : Rule) (inner : Row) → (ended row rule inner).parts ≡ row.parts - 1
+pub ended-parts : (row : Row) (rule : Rule) (inner : Row) → (ended row rule inner).parts ≡ row.parts - 1
 unfolding ended
 ended-parts row rule inner = go (behind rule)
   where

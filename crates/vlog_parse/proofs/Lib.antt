@@ -1,4 +1,8 @@
 pub mod Depths
 pub mod Readings
 pub mod OneAnswer
+pub mod Nests
+pub mod RuleNests
+pub mod RowNests
+pub mod ModuleNests
 pub mod Parses

@@ -1,7 +1,9 @@
 -- What the parser answers, from its reading.
-use Rattle.std.proofs.Common.{◌≡◌, ℕ, List, [], Option, Some, None, inl, inr, refl, sym, subst, ◌∙◌}
+use Rattle.std.proofs.Common.{◌≡◌, ℕ, ◌≤◌, List, [], Option, Some, None, inl, inr, refl, sym, subst, ◌∙◌}
+use Rattle.std.specs.List.{All}
 use Rattle.mcy_base.specs.declared.span.Span.{Span}
 use Rattle.vlog_syntax.specs.declared.module.Module.{Module}
+use Rattle.vlog_syntax.specs.Nesting.{module_nest}
 use Rattle.vlog_token.specs.declared.token.Token.{Token}
 use Rattle.vlog_expand.specs.declared.error.ParseError.{ParseError}
 use Rattle.vlog_expand.specs.declared.error.ParseError.TheVariants as e
@@ -15,6 +17,7 @@ use Rattle.vlog_trees.proofs.Runs.{modules_by_steps}
 use Rattle.vlog_parse.specs.Classes.{classes}
 use Rattle.vlog_parse.specs.Nesting.{AllShallow, first_deep, outermost, walked}
 use Rattle.vlog_parse.specs.Parsing.{AreParsed, IsFault, place, stopped}
+use Rattle.vlog_parse.proofs.ModuleNests.{modules_nest}
 use Rattle.vlog_parse.proofs.OneAnswer.{not_shallow_whole, read_alone}
 use Rattle.vlog_parse.proofs.Readings.{deep_at, depths_by_steps, is_read, none_found, shallow_to}
 
@@ -35,6 +38,9 @@ are_parsed tokens steps ms reading none built =
       shallow = subst AllShallow (sym (depths_by_steps text steps is_text reading.are)) (none_found 0 (walked outermost [] steps) (sym none));
       mean = built text is_text reading.are;
     }
+
+pub are_shallow : (tokens : List Token) (steps : List Step) (ms : List Module) → IsReading (classes tokens) steps None → None ≡ first_deep 0 (walked outermost [] steps) → ((text : Trees) → IsText text → steps_of text ≡ steps → ms ≡ modules tokens text) → All (λ m. module_nest m ≤ 200) ms
+are_shallow tokens steps ms reading none built = modules_nest tokens ms (are_parsed tokens steps ms reading none built)
 
 -- the modules of tokens
 pub one_meaning : (tokens : List Token) (ms ns : List Module) → AreParsed tokens ms → AreParsed tokens ns → ms ≡ ns

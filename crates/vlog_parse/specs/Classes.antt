@@ -10,7 +10,7 @@ use Rattle.vlog_grammar.specs.declared.class.Class.TheVariants as c
 use Rattle.vlog_grammar.specs.declared.step.Token.{Token as Classed}
 use Rattle.vlog_parse.specs.declared.classes.Context.{Context}
 use Rattle.vlog_parse.specs.declared.classes.Context.TheVariants as x
-use Rattle.vlog_parse.specs.Words.{word_class, symbol_class}
+use Rattle.vlog_parse.specs.Words.{word_class, symbol_class, system_class}
 
 -- the second place is the one behind the first
 abbrev pub is_next : Span → Span → Bool
@@ -19,7 +19,7 @@ is_next s t = (t.file == s.file) && ((t.line == s.line) && (t.col == s.col + 1))
 abbrev kind_class : TokenKind → List ℕ → Class
 kind_class k.Name text = word_class text
 kind_class k.Escaped text = c.Name
-kind_class k.System text = c.System
+kind_class k.System text = system_class text
 kind_class k.Directive text = c.Other
 kind_class k.Number text = c.Number
 kind_class k.String text = c.String

@@ -29,6 +29,7 @@ is_construct r.ForeverStatement = true
 is_construct r.EventControlStatement = true
 is_construct r.DelayControlStatement = true
 is_construct r.SystemTaskEnable = true
+is_construct r.UnaryFunctionEnable = true
 is_construct r.Assignment = true
 is_construct r.DelayExpression = true
 is_construct r.LeftConcatenation = true
@@ -46,6 +47,7 @@ is_construct r.ReductionXnor = true
 is_construct r.Parenthesized = true
 is_construct r.Braces = true
 is_construct r.SomeFunctionArguments = true
+is_construct r.UnaryFunctionCall = true
 is_construct _ = false
 
 -- the operators behind a left operand, and the parts of each that are no part of its right operand: the chain that

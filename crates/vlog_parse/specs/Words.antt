@@ -69,6 +69,10 @@ abbrev pub symbols : ℕ → List (List ℕ × Class)
 symbols n =
     if n == 1 then symbols_of_1 else (if n == 2 then symbols_of_2 else (if n == 3 then symbols_of_3 else ([])))
 
+-- the system functions of one argument (IEEE 1364-2005, 17.9, 17.11.1)
+abbrev pub functions : List (List ℕ × Class)
+functions = (codes "$signed", c.UnaryFunction) ∷ (codes "$unsigned", c.UnaryFunction) ∷ (codes "$clog2", c.UnaryFunction) ∷ []
+
 -- an entry of a table in the code
 abbrev pub plain : Bor (List ℕ) × Class → List ℕ × Class
 plain e = (e.0.now, e.1)
@@ -89,3 +93,7 @@ word_class text = or_else (lookup (words (length text)) text) c.Name
 -- a symbol that stands in no production
 abbrev pub symbol_class : List ℕ → Class
 symbol_class text = or_else (lookup (symbols (length text)) text) c.Other
+
+-- the name of another system task or function
+abbrev pub system_class : List ℕ → Class
+system_class text = or_else (lookup functions text) c.System

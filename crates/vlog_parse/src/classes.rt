@@ -4,7 +4,7 @@
 ghost use Rattle.std.specs.Prelude.{◌≡◌, IfOk};
 ghost use Rattle.vlog_parse.specs.Classes as spec;
 
-use crate::words::{symbol_class, word_class};
+use crate::words::{symbol_class, system_class, word_class};
 use mcy_base::Span;
 use std::alloc::{AllocError, Global};
 use vlog_grammar::{Class, Token as Classed};
@@ -39,7 +39,7 @@ fn token_class(token: Token<'_>) -> Class
     match token.kind {
         TokenKind::Name => word_class(token.text),
         TokenKind::Escaped => Class::Name,
-        TokenKind::System => Class::System,
+        TokenKind::System => system_class(token.text),
         TokenKind::Directive => Class::Other,
         TokenKind::Number => Class::Number,
         TokenKind::String => Class::String,

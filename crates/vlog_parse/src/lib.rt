@@ -8,6 +8,3 @@ mod words;
 
 pub use parser::{one_answer, parse};
 pub use vlog_expand::ParseError;
-
-#[cfg(test)]
-mod tests;

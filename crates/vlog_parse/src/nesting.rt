@@ -31,6 +31,7 @@ fn is_construct(rule: Rule) -> bool
         Rule::EventControlStatement => true,
         Rule::DelayControlStatement => true,
         Rule::SystemTaskEnable => true,
+        Rule::UnaryFunctionEnable => true,
         Rule::Assignment => true,
         Rule::DelayExpression => true,
         Rule::LeftConcatenation => true,
@@ -48,6 +49,7 @@ fn is_construct(rule: Rule) -> bool
         Rule::Parenthesized => true,
         Rule::Braces => true,
         Rule::SomeFunctionArguments => true,
+        Rule::UnaryFunctionCall => true,
         _ => false,
     }
 }

@@ -1,9 +1,10 @@
 //! From the tokens of a source to its modules.
-ghost use Rattle.std.specs.Prelude.{◌≡◌, List, IfOk, IfErr};
+ghost use Rattle.std.specs.Prelude.{◌≡◌, ◌≤◌, All, List, IfOk, IfErr};
 ghost use Rattle.mcy_base.specs.declared.span.Span.{Span};
 ghost use Rattle.vlog_expand.specs.declared.error.ParseError.{ParseError};
 ghost use Rattle.vlog_expand.specs.declared.error.ParseError.TheVariants as e;
 ghost use Rattle.vlog_syntax.specs.declared.module.Module.{Module};
+ghost use Rattle.vlog_syntax.specs.Nesting.{module_nest};
 ghost use Rattle.vlog_token.specs.declared.token.Token.{Token};
 ghost use Rattle.vlog_parse.specs.Parsing.{AreOneFault, AreParsed, IsFault, place, stopped};
 
@@ -17,12 +18,14 @@ use vlog_syntax::Module;
 use vlog_token::Token;
 use vlog_trees::build_modules;
 
-#[tactic(auto, using(crate::proofs::Parses::is_stopped, crate::proofs::Parses::are_parsed))]
+#[tactic(auto, using(crate::proofs::Parses::is_stopped, crate::proofs::Parses::are_parsed, crate::proofs::Parses::are_shallow))]
 /// The modules whose trees derive exactly these tokens (IEEE 1364-2005, Annex A, in the profile of docs/PROFILE.md).
 /// `end` is the place of what is missing at the end.
 pub fn parse(alloc: Global, tokens: &[Token<'_>], end: Span) -> Result<Vec<Module>, ParseError>
     // What is given is the meaning of trees of exactly these tokens, none of which is refused or too deep.
     ensures trees { IfOk result (λ ms. AreParsed tokens.now ms.items) }
+    // No module nests deeper than 200 constructs.
+    ensures nesting { IfOk result (λ ms. All (λ m. module_nest m ≤ 200) ms.items) }
     // A fault stands at the first token at which no text goes on, that is refused by name, or that is too deep.
     ensures faults { IfErr result (IsFault tokens.now end) }
 {

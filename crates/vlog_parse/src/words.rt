@@ -1,6 +1,6 @@
 //! The classes of names and symbols, looked up by length and text.
 ghost use Rattle.std.specs.Prelude.{◌≡◌, ℕ, List, map};
-ghost use Rattle.vlog_parse.specs.Words.{words, symbols, lookup, plain, word_class, symbol_class};
+ghost use Rattle.vlog_parse.specs.Words.{words, symbols, functions, lookup, plain, word_class, symbol_class, system_class};
 
 use vlog_grammar::Class;
 
@@ -245,4 +245,22 @@ pub fn symbol_class(text: &str) -> Class
     ensures { result ≡ symbol_class text.now }
 {
     lookup(symbols(text.len()), text).unwrap_or(Class::Other)
+}
+
+/// The system functions of one argument.
+fn functions() -> &'static [(&'static str, Class)]
+    ensures { map plain result.now ≡ functions }
+{
+    &[
+        ("$signed", Class::UnaryFunction),
+        ("$unsigned", Class::UnaryFunction),
+        ("$clog2", Class::UnaryFunction),
+    ]
+}
+
+/// The class of the name of a system task or function.
+pub fn system_class(text: &str) -> Class
+    ensures { result ≡ system_class text.now }
+{
+    lookup(functions(), text).unwrap_or(Class::System)
 }

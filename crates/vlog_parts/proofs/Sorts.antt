@@ -1,5 +1,5 @@
 -- A part that is not of the kind that is asked for.
-use Rattle.std.proofs.Common.{◌≡◌, List, [], Option, Some, None, refl}
+use Rattle.std.proofs.Common.{true, ◌≡◌, List, [], Option, Some, None, refl}
 use Rattle.vlog_token.specs.declared.token.Token.{Token}
 use Rattle.vlog_syntax.specs.declared.identifier.Identifier.{Identifier}
 use Rattle.vlog_syntax.specs.declared.expr.Expr.{Expr}
@@ -8,7 +8,6 @@ use Rattle.vlog_syntax.specs.declared.stmt.Stmt.{Stmt}
 use Rattle.vlog_syntax.specs.declared.stmt.CaseItem.{CaseItem}
 use Rattle.vlog_syntax.specs.declared.stmt.EventExpression.{EventExpression}
 use Rattle.vlog_syntax.specs.declared.stmt.EventControl.{EventControl}
-use Rattle.vlog_syntax.specs.declared.stmt.EventControl.TheVariants as ec
 use Rattle.vlog_syntax.specs.declared.stmt.Argument.{Argument}
 use Rattle.vlog_syntax.specs.declared.stmt.Assignment.{Assignment}
 use Rattle.vlog_syntax.specs.declared.item.Range.{Range}
@@ -16,7 +15,6 @@ use Rattle.vlog_syntax.specs.declared.item.VectorType.{VectorType}
 use Rattle.vlog_syntax.specs.declared.item.DeclaredName.{DeclaredName}
 use Rattle.vlog_syntax.specs.declared.item.PortDeclaration.{PortDeclaration}
 use Rattle.vlog_syntax.specs.declared.item.ParameterType.{ParameterType}
-use Rattle.vlog_syntax.specs.declared.item.ParameterType.TheVariants as pt
 use Rattle.vlog_syntax.specs.declared.item.ParameterAssignment.{ParameterAssignment}
 use Rattle.vlog_syntax.specs.declared.item.ParameterDeclaration.{ParameterDeclaration}
 use Rattle.vlog_syntax.specs.declared.item.Ports.{Ports}
@@ -30,263 +28,284 @@ use Rattle.vlog_syntax.specs.declared.module.Module.{Module}
 use Rattle.vlog_parts.specs.declared.expression_parts.Link.{Link}
 use Rattle.vlog_parts.specs.declared.expression_parts.Select.{Select}
 use Rattle.vlog_parts.specs.declared.expression_parts.SelectEnd.{SelectEnd}
-use Rattle.vlog_parts.specs.declared.expression_parts.SelectEnd.TheVariants as se
 use Rattle.vlog_parts.specs.declared.expression_parts.BraceEnd.{BraceEnd}
-use Rattle.vlog_parts.specs.declared.expression_parts.BraceEnd.TheVariants as be
 use Rattle.vlog_parts.specs.declared.statement_parts.AssignmentSign.{AssignmentSign}
-use Rattle.vlog_parts.specs.declared.statement_parts.AssignmentSign.TheVariants as sg
 use Rattle.vlog_parts.specs.declared.statement_parts.CaseKeyword.{CaseKeyword}
 use Rattle.vlog_parts.specs.declared.declaration_parts.OutputNames.{OutputNames}
 use Rattle.vlog_parts.specs.declared.module_parts.ParameterPort.{ParameterPort}
 use Rattle.vlog_parts.specs.declared.module_parts.MoreParameters.{MoreParameters}
 use Rattle.vlog_parts.specs.declared.module_parts.MorePorts.{MorePorts}
 use Rattle.vlog_parts.specs.declared.module_parts.OutputPorts.{OutputPorts}
-use Rattle.vlog_parts.specs.declared.expression_parts.ExpressionValue.{ExpressionValue}
-use Rattle.vlog_parts.specs.declared.expression_parts.ExpressionValue.TheVariants as x_
-use Rattle.vlog_parts.specs.declared.statement_parts.StatementValue.{StatementValue}
-use Rattle.vlog_parts.specs.declared.statement_parts.StatementValue.TheVariants as y_
-use Rattle.vlog_parts.specs.declared.declaration_parts.DeclarationValue.{DeclarationValue}
-use Rattle.vlog_parts.specs.declared.declaration_parts.DeclarationValue.TheVariants as d_
-use Rattle.vlog_parts.specs.declared.item_parts.ItemValue.{ItemValue}
-use Rattle.vlog_parts.specs.declared.item_parts.ItemValue.TheVariants as z_
-use Rattle.vlog_parts.specs.declared.module_parts.ModuleValue.{ModuleValue}
-use Rattle.vlog_parts.specs.declared.module_parts.ModuleValue.TheVariants as m_
+use Rattle.vlog_parts.specs.declared.value.ExpressionPart.{ExpressionPart}
+use Rattle.vlog_parts.specs.declared.value.StatementPart.{StatementPart}
+use Rattle.vlog_parts.specs.declared.value.EventPart.{EventPart}
+use Rattle.vlog_parts.specs.declared.value.DeclarationPart.{DeclarationPart}
+use Rattle.vlog_parts.specs.declared.value.ParameterPart.{ParameterPart}
+use Rattle.vlog_parts.specs.declared.value.HeadPart.{HeadPart}
+use Rattle.vlog_parts.specs.declared.value.ItemPart.{ItemPart}
+use Rattle.vlog_parts.specs.declared.value.InstancePart.{InstancePart}
+use Rattle.vlog_parts.specs.declared.value.ModulePart.{ModulePart}
+use Rattle.vlog_parts.specs.declared.value.ExpressionPart.TheVariants as gexpression
+use Rattle.vlog_parts.specs.declared.value.StatementPart.TheVariants as gstatement
+use Rattle.vlog_parts.specs.declared.value.EventPart.TheVariants as gevent
+use Rattle.vlog_parts.specs.declared.value.DeclarationPart.TheVariants as gdeclaration
+use Rattle.vlog_parts.specs.declared.value.ParameterPart.TheVariants as gparameter
+use Rattle.vlog_parts.specs.declared.value.HeadPart.TheVariants as ghead
+use Rattle.vlog_parts.specs.declared.value.ItemPart.TheVariants as gitem
+use Rattle.vlog_parts.specs.declared.value.InstancePart.TheVariants as ginstance
+use Rattle.vlog_parts.specs.declared.value.ModulePart.TheVariants as gmodule
 use Rattle.vlog_parts.specs.declared.value.Value.{Value}
 use Rattle.vlog_parts.specs.declared.value.Value.TheVariants as v
-use Rattle.vlog_parts.specs.Values.{no_argument, no_assignment, no_case_item, no_connection, no_connections, no_declared, no_event, no_expr, no_identifier, no_instance, no_item, no_keyword, no_left, no_more_parameters, no_more_ports, no_output_names, no_output_ports, no_parameter, no_parameter_port, no_parameter_values, no_ports, no_span, no_stmt, no_vector, as_argument, as_arguments, as_assignment, as_assignments, as_brace_end, as_case_item, as_case_items, as_case_keyword, as_chain, as_connection, as_connections, as_declarations, as_declared, as_declareds, as_delay, as_event, as_event_control, as_events, as_expr, as_exprs, as_identifiers, as_instance, as_instances, as_item, as_items, as_left, as_lefts, as_modules, as_more_parameters, as_more_ports, as_option_expr, as_option_item, as_option_stmt, as_ordered, as_output_names, as_output_ports, as_parameter, as_parameter_port, as_parameter_ports, as_parameter_type, as_parameter_values, as_parameters, as_port_list, as_ports, as_range, as_select, as_select_end, as_sign, as_stmt, as_stmts, as_vector, declaration_of, expression_of, identifier_of, item_part_of, label_of, module_part_of, statement_of, token_of}
+use Rattle.vlog_parts.specs.Values.{is_expr, exprs_of, chain_of, as_select, is_as_select_end, is_as_brace_end, is_as_left, as_lefts, is_stmt, as_stmts, is_as_sign, is_as_case_keyword, is_as_case_item, as_case_items, is_as_event, as_events, is_as_event_control, is_as_argument, as_arguments, is_as_vector, is_as_declared, as_declareds, is_as_parameter_type, is_as_parameter, as_parameters, is_as_output_names, as_range, is_as_assignment, as_assignments, as_parameter_values, is_as_connection, as_connections, as_ordered, is_as_ports, is_as_instance, as_instances, is_item, as_items, as_delay, as_modules, as_parameter_ports, is_as_parameter_port, as_more_parameters, as_port_list, as_declarations, as_more_ports, is_as_output_ports, as_identifiers, expression_part_of, statement_part_of, event_part_of, declaration_part_of, parameter_part_of, head_part_of, item_part_of, instance_part_of, module_part_of, option_expr_of, option_stmt_of, option_item_of, token_of, is_identifier, label_of, no_more_parameters, no_more_ports, no_parameter_values, no_ports}
 
 pub not_token : (y : Value) → ((z : Token) → y ≡ v.Token z → ⊥) → token_of y ≡ None
 not_token (v.Token z) h = absurd (h z refl)
 not_token _ h = refl
 
-pub not_identifier : (y : Value) → ((z : Identifier) → y ≡ v.Identifier z → ⊥) → identifier_of y ≡ no_identifier
-not_identifier (v.Identifier z) h = absurd (h z refl)
-not_identifier _ h = refl
+pub only_identifier : (y : Value) → is_identifier y ≡ true → ((z : Identifier) → y ≡ v.Identifier z → ⊥) → ⊥
+only_identifier (v.Identifier z) is h = h z refl
+only_identifier _ is h = absurd cc
 
 pub not_label : (y : Value) → ((z : Identifier) → y ≡ v.Identifier z → ⊥) → label_of y ≡ None
 not_label (v.Identifier z) h = absurd (h z refl)
 not_label _ h = refl
 
-pub not_expression : (y : Value) → ((z : ExpressionValue) → y ≡ v.Expression z → ⊥) → expression_of y ≡ None
-not_expression (v.Expression z) h = absurd (h z refl)
-not_expression _ h = refl
+pub not_expression_part : (y : Value) → ((z : ExpressionPart) → y ≡ v.ExpressionPart z → ⊥) → expression_part_of y ≡ None
+not_expression_part (v.ExpressionPart z) h = absurd (h z refl)
+not_expression_part _ h = refl
 
-pub not_expr : (y : Option ExpressionValue) → ((z : Expr) → y ≡ Some (x_.Expr z) → ⊥) → as_expr y ≡ no_expr
-not_expr (Some (x_.Expr z)) h = absurd (h z refl)
-not_expr _ h = refl
+pub not_statement_part : (y : Value) → ((z : StatementPart) → y ≡ v.StatementPart z → ⊥) → statement_part_of y ≡ None
+not_statement_part (v.StatementPart z) h = absurd (h z refl)
+not_statement_part _ h = refl
 
-pub not_exprs : (y : Option ExpressionValue) → ((z : List Expr) → y ≡ Some (x_.Exprs z) → ⊥) → as_exprs y ≡ []
-not_exprs (Some (x_.Exprs z)) h = absurd (h z refl)
-not_exprs _ h = refl
+pub not_event_part : (y : Value) → ((z : EventPart) → y ≡ v.EventPart z → ⊥) → event_part_of y ≡ None
+not_event_part (v.EventPart z) h = absurd (h z refl)
+not_event_part _ h = refl
 
-pub not_chain : (y : Option ExpressionValue) → ((z : List Link) → y ≡ Some (x_.Chain z) → ⊥) → as_chain y ≡ []
-not_chain (Some (x_.Chain z)) h = absurd (h z refl)
-not_chain _ h = refl
+pub not_declaration_part : (y : Value) → ((z : DeclarationPart) → y ≡ v.DeclarationPart z → ⊥) → declaration_part_of y ≡ None
+not_declaration_part (v.DeclarationPart z) h = absurd (h z refl)
+not_declaration_part _ h = refl
 
-pub not_select_end : (y : Option ExpressionValue) → ((z : SelectEnd) → y ≡ Some (x_.SelectEnd z) → ⊥) → as_select_end y ≡ se.Bit
-not_select_end (Some (x_.SelectEnd z)) h = absurd (h z refl)
-not_select_end _ h = refl
+pub not_parameter_part : (y : Value) → ((z : ParameterPart) → y ≡ v.ParameterPart z → ⊥) → parameter_part_of y ≡ None
+not_parameter_part (v.ParameterPart z) h = absurd (h z refl)
+not_parameter_part _ h = refl
 
-pub not_brace_end : (y : Option ExpressionValue) → ((z : BraceEnd) → y ≡ Some (x_.BraceEnd z) → ⊥) → as_brace_end y ≡ be.Concatenation []
-not_brace_end (Some (x_.BraceEnd z)) h = absurd (h z refl)
-not_brace_end _ h = refl
+pub not_head_part : (y : Value) → ((z : HeadPart) → y ≡ v.HeadPart z → ⊥) → head_part_of y ≡ None
+not_head_part (v.HeadPart z) h = absurd (h z refl)
+not_head_part _ h = refl
 
-pub not_left : (y : Option ExpressionValue) → ((z : LeftSide) → y ≡ Some (x_.LeftSide z) → ⊥) → as_left y ≡ no_left
-not_left (Some (x_.LeftSide z)) h = absurd (h z refl)
-not_left _ h = refl
-
-pub not_lefts : (y : Option ExpressionValue) → ((z : List LeftSide) → y ≡ Some (x_.LeftSides z) → ⊥) → as_lefts y ≡ []
-not_lefts (Some (x_.LeftSides z)) h = absurd (h z refl)
-not_lefts _ h = refl
-
-pub not_select : (y : Option ExpressionValue) → ((z : Select) → y ≡ Some (x_.Select z) → ⊥) → as_select y ≡ None
-not_select (Some (x_.Select z)) h = absurd (h z refl)
-not_select _ h = refl
-
-pub not_option_expr : (y : Option ExpressionValue) → ((z : Expr) → y ≡ Some (x_.Expr z) → ⊥) → as_option_expr y ≡ None
-not_option_expr (Some (x_.Expr z)) h = absurd (h z refl)
-not_option_expr _ h = refl
-
-pub not_statement : (y : Value) → ((z : StatementValue) → y ≡ v.Statement z → ⊥) → statement_of y ≡ None
-not_statement (v.Statement z) h = absurd (h z refl)
-not_statement _ h = refl
-
-pub not_stmt : (y : Option StatementValue) → ((z : Stmt) → y ≡ Some (y_.Stmt z) → ⊥) → as_stmt y ≡ no_stmt
-not_stmt (Some (y_.Stmt z)) h = absurd (h z refl)
-not_stmt _ h = refl
-
-pub not_stmts : (y : Option StatementValue) → ((z : List Stmt) → y ≡ Some (y_.Stmts z) → ⊥) → as_stmts y ≡ []
-not_stmts (Some (y_.Stmts z)) h = absurd (h z refl)
-not_stmts _ h = refl
-
-pub not_sign : (y : Option StatementValue) → ((z : AssignmentSign) → y ≡ Some (y_.Sign z) → ⊥) → as_sign y ≡ sg.Blocking no_span
-not_sign (Some (y_.Sign z)) h = absurd (h z refl)
-not_sign _ h = refl
-
-pub not_case_keyword : (y : Option StatementValue) → ((z : CaseKeyword) → y ≡ Some (y_.CaseKeyword z) → ⊥) → as_case_keyword y ≡ no_keyword
-not_case_keyword (Some (y_.CaseKeyword z)) h = absurd (h z refl)
-not_case_keyword _ h = refl
-
-pub not_case_item : (y : Option StatementValue) → ((z : CaseItem) → y ≡ Some (y_.CaseItem z) → ⊥) → as_case_item y ≡ no_case_item
-not_case_item (Some (y_.CaseItem z)) h = absurd (h z refl)
-not_case_item _ h = refl
-
-pub not_case_items : (y : Option StatementValue) → ((z : List CaseItem) → y ≡ Some (y_.CaseItems z) → ⊥) → as_case_items y ≡ []
-not_case_items (Some (y_.CaseItems z)) h = absurd (h z refl)
-not_case_items _ h = refl
-
-pub not_event : (y : Option StatementValue) → ((z : EventExpression) → y ≡ Some (y_.Event z) → ⊥) → as_event y ≡ no_event
-not_event (Some (y_.Event z)) h = absurd (h z refl)
-not_event _ h = refl
-
-pub not_events : (y : Option StatementValue) → ((z : List EventExpression) → y ≡ Some (y_.Events z) → ⊥) → as_events y ≡ []
-not_events (Some (y_.Events z)) h = absurd (h z refl)
-not_events _ h = refl
-
-pub not_event_control : (y : Option StatementValue) → ((z : EventControl) → y ≡ Some (y_.EventControl z) → ⊥) → as_event_control y ≡ ec.Implicit
-not_event_control (Some (y_.EventControl z)) h = absurd (h z refl)
-not_event_control _ h = refl
-
-pub not_argument : (y : Option StatementValue) → ((z : Argument) → y ≡ Some (y_.Argument z) → ⊥) → as_argument y ≡ no_argument
-not_argument (Some (y_.Argument z)) h = absurd (h z refl)
-not_argument _ h = refl
-
-pub not_arguments : (y : Option StatementValue) → ((z : List Argument) → y ≡ Some (y_.Arguments z) → ⊥) → as_arguments y ≡ []
-not_arguments (Some (y_.Arguments z)) h = absurd (h z refl)
-not_arguments _ h = refl
-
-pub not_option_stmt : (y : Option StatementValue) → ((z : Stmt) → y ≡ Some (y_.Stmt z) → ⊥) → as_option_stmt y ≡ None
-not_option_stmt (Some (y_.Stmt z)) h = absurd (h z refl)
-not_option_stmt _ h = refl
-
-pub not_declaration : (y : Value) → ((z : DeclarationValue) → y ≡ v.Declaration z → ⊥) → declaration_of y ≡ None
-not_declaration (v.Declaration z) h = absurd (h z refl)
-not_declaration _ h = refl
-
-pub not_vector : (y : Option DeclarationValue) → ((z : VectorType) → y ≡ Some (d_.Vector z) → ⊥) → as_vector y ≡ no_vector
-not_vector (Some (d_.Vector z)) h = absurd (h z refl)
-not_vector _ h = refl
-
-pub not_declared : (y : Option DeclarationValue) → ((z : DeclaredName) → y ≡ Some (d_.DeclaredName z) → ⊥) → as_declared y ≡ no_declared
-not_declared (Some (d_.DeclaredName z)) h = absurd (h z refl)
-not_declared _ h = refl
-
-pub not_declareds : (y : Option DeclarationValue) → ((z : List DeclaredName) → y ≡ Some (d_.DeclaredNames z) → ⊥) → as_declareds y ≡ []
-not_declareds (Some (d_.DeclaredNames z)) h = absurd (h z refl)
-not_declareds _ h = refl
-
-pub not_parameter_type : (y : Option DeclarationValue) → ((z : ParameterType) → y ≡ Some (d_.ParameterType z) → ⊥) → as_parameter_type y ≡ pt.Integer
-not_parameter_type (Some (d_.ParameterType z)) h = absurd (h z refl)
-not_parameter_type _ h = refl
-
-pub not_parameter : (y : Option DeclarationValue) → ((z : ParameterAssignment) → y ≡ Some (d_.Parameter z) → ⊥) → as_parameter y ≡ no_parameter
-not_parameter (Some (d_.Parameter z)) h = absurd (h z refl)
-not_parameter _ h = refl
-
-pub not_parameters : (y : Option DeclarationValue) → ((z : List ParameterAssignment) → y ≡ Some (d_.Parameters z) → ⊥) → as_parameters y ≡ []
-not_parameters (Some (d_.Parameters z)) h = absurd (h z refl)
-not_parameters _ h = refl
-
-pub not_output_names : (y : Option DeclarationValue) → ((z : OutputNames) → y ≡ Some (d_.OutputNames z) → ⊥) → as_output_names y ≡ no_output_names
-not_output_names (Some (d_.OutputNames z)) h = absurd (h z refl)
-not_output_names _ h = refl
-
-pub not_range : (y : Option DeclarationValue) → ((z : Range) → y ≡ Some (d_.Range z) → ⊥) → as_range y ≡ None
-not_range (Some (d_.Range z)) h = absurd (h z refl)
-not_range _ h = refl
-
-pub not_item_part : (y : Value) → ((z : ItemValue) → y ≡ v.Item z → ⊥) → item_part_of y ≡ None
-not_item_part (v.Item z) h = absurd (h z refl)
+pub not_item_part : (y : Value) → ((z : ItemPart) → y ≡ v.ItemPart z → ⊥) → item_part_of y ≡ None
+not_item_part (v.ItemPart z) h = absurd (h z refl)
 not_item_part _ h = refl
 
-pub not_assignment : (y : Option ItemValue) → ((z : Assignment) → y ≡ Some (z_.Assignment z) → ⊥) → as_assignment y ≡ no_assignment
-not_assignment (Some (z_.Assignment z)) h = absurd (h z refl)
-not_assignment _ h = refl
+pub not_instance_part : (y : Value) → ((z : InstancePart) → y ≡ v.InstancePart z → ⊥) → instance_part_of y ≡ None
+not_instance_part (v.InstancePart z) h = absurd (h z refl)
+not_instance_part _ h = refl
 
-pub not_assignments : (y : Option ItemValue) → ((z : List Assignment) → y ≡ Some (z_.Assignments z) → ⊥) → as_assignments y ≡ []
-not_assignments (Some (z_.Assignments z)) h = absurd (h z refl)
-not_assignments _ h = refl
-
-pub not_parameter_values : (y : Option ItemValue) → ((z : ParameterValues) → y ≡ Some (z_.ParameterValues z) → ⊥) → as_parameter_values y ≡ no_parameter_values
-not_parameter_values (Some (z_.ParameterValues z)) h = absurd (h z refl)
-not_parameter_values _ h = refl
-
-pub not_connection : (y : Option ItemValue) → ((z : NamedConnection) → y ≡ Some (z_.Connection z) → ⊥) → as_connection y ≡ no_connection
-not_connection (Some (z_.Connection z)) h = absurd (h z refl)
-not_connection _ h = refl
-
-pub not_connections : (y : Option ItemValue) → ((z : List NamedConnection) → y ≡ Some (z_.NamedConnections z) → ⊥) → as_connections y ≡ []
-not_connections (Some (z_.NamedConnections z)) h = absurd (h z refl)
-not_connections _ h = refl
-
-pub not_ordered : (y : Option ItemValue) → ((z : List (Option Expr)) → y ≡ Some (z_.OrderedConnections z) → ⊥) → as_ordered y ≡ []
-not_ordered (Some (z_.OrderedConnections z)) h = absurd (h z refl)
-not_ordered _ h = refl
-
-pub not_ports : (y : Option ItemValue) → ((z : Connections) → y ≡ Some (z_.Connections z) → ⊥) → as_ports y ≡ no_connections
-not_ports (Some (z_.Connections z)) h = absurd (h z refl)
-not_ports _ h = refl
-
-pub not_instance : (y : Option ItemValue) → ((z : Instance) → y ≡ Some (z_.Instance z) → ⊥) → as_instance y ≡ no_instance
-not_instance (Some (z_.Instance z)) h = absurd (h z refl)
-not_instance _ h = refl
-
-pub not_instances : (y : Option ItemValue) → ((z : List Instance) → y ≡ Some (z_.Instances z) → ⊥) → as_instances y ≡ []
-not_instances (Some (z_.Instances z)) h = absurd (h z refl)
-not_instances _ h = refl
-
-pub not_item : (y : Option ItemValue) → ((z : Item) → y ≡ Some (z_.Item z) → ⊥) → as_item y ≡ no_item
-not_item (Some (z_.Item z)) h = absurd (h z refl)
-not_item _ h = refl
-
-pub not_items : (y : Option ItemValue) → ((z : List Item) → y ≡ Some (z_.Items z) → ⊥) → as_items y ≡ []
-not_items (Some (z_.Items z)) h = absurd (h z refl)
-not_items _ h = refl
-
-pub not_delay : (y : Option ItemValue) → ((z : Delay) → y ≡ Some (z_.Delay z) → ⊥) → as_delay y ≡ None
-not_delay (Some (z_.Delay z)) h = absurd (h z refl)
-not_delay _ h = refl
-
-pub not_option_item : (y : Option ItemValue) → ((z : Item) → y ≡ Some (z_.Item z) → ⊥) → as_option_item y ≡ None
-not_option_item (Some (z_.Item z)) h = absurd (h z refl)
-not_option_item _ h = refl
-
-pub not_module_part : (y : Value) → ((z : ModuleValue) → y ≡ v.Module z → ⊥) → module_part_of y ≡ None
-not_module_part (v.Module z) h = absurd (h z refl)
+pub not_module_part : (y : Value) → ((z : ModulePart) → y ≡ v.ModulePart z → ⊥) → module_part_of y ≡ None
+not_module_part (v.ModulePart z) h = absurd (h z refl)
 not_module_part _ h = refl
 
-pub not_modules : (y : Option ModuleValue) → ((z : List Module) → y ≡ Some (m_.Modules z) → ⊥) → as_modules y ≡ []
-not_modules (Some (m_.Modules z)) h = absurd (h z refl)
+pub not_option_expr : (y : Value) → ((z : Expr) → y ≡ v.Expr z → ⊥) → option_expr_of y ≡ None
+not_option_expr (v.Expr z) h = absurd (h z refl)
+not_option_expr _ h = refl
+
+pub only_expr : (y : Value) → is_expr y ≡ true → ((z : Expr) → y ≡ v.Expr z → ⊥) → ⊥
+only_expr (v.Expr z) is h = h z refl
+only_expr _ is h = absurd cc
+
+pub not_exprs : (y : Value) → ((z : List Expr) → y ≡ v.Exprs z → ⊥) → exprs_of y ≡ []
+not_exprs (v.Exprs z) h = absurd (h z refl)
+not_exprs _ h = refl
+
+pub not_chain : (y : Value) → ((z : List Link) → y ≡ v.Chain z → ⊥) → chain_of y ≡ []
+not_chain (v.Chain z) h = absurd (h z refl)
+not_chain _ h = refl
+
+pub not_select : (y : Option ExpressionPart) → ((x : Select) → y ≡ Some (gexpression.Select x) → ⊥) → as_select y ≡ None
+not_select (Some (gexpression.Select x)) h = absurd (h x refl)
+not_select _ h = refl
+
+pub only_select_end : (y : Option ExpressionPart) → is_as_select_end y ≡ true → ((x : SelectEnd) → y ≡ Some (gexpression.SelectEnd x) → ⊥) → ⊥
+only_select_end (Some (gexpression.SelectEnd x)) is h = h x refl
+only_select_end _ is h = absurd cc
+
+pub only_brace_end : (y : Option ExpressionPart) → is_as_brace_end y ≡ true → ((x : BraceEnd) → y ≡ Some (gexpression.BraceEnd x) → ⊥) → ⊥
+only_brace_end (Some (gexpression.BraceEnd x)) is h = h x refl
+only_brace_end _ is h = absurd cc
+
+pub only_left : (y : Option ExpressionPart) → is_as_left y ≡ true → ((x : LeftSide) → y ≡ Some (gexpression.LeftSide x) → ⊥) → ⊥
+only_left (Some (gexpression.LeftSide x)) is h = h x refl
+only_left _ is h = absurd cc
+
+pub not_lefts : (y : Option ExpressionPart) → ((x : List LeftSide) → y ≡ Some (gexpression.LeftSides x) → ⊥) → as_lefts y ≡ []
+not_lefts (Some (gexpression.LeftSides x)) h = absurd (h x refl)
+not_lefts _ h = refl
+
+pub not_option_stmt : (y : Value) → ((z : Stmt) → y ≡ v.Stmt z → ⊥) → option_stmt_of y ≡ None
+not_option_stmt (v.Stmt z) h = absurd (h z refl)
+not_option_stmt _ h = refl
+
+pub only_stmt : (y : Value) → is_stmt y ≡ true → ((z : Stmt) → y ≡ v.Stmt z → ⊥) → ⊥
+only_stmt (v.Stmt z) is h = h z refl
+only_stmt _ is h = absurd cc
+
+pub not_stmts : (y : Option StatementPart) → ((x : List Stmt) → y ≡ Some (gstatement.Stmts x) → ⊥) → as_stmts y ≡ []
+not_stmts (Some (gstatement.Stmts x)) h = absurd (h x refl)
+not_stmts _ h = refl
+
+pub only_sign : (y : Option StatementPart) → is_as_sign y ≡ true → ((x : AssignmentSign) → y ≡ Some (gstatement.Sign x) → ⊥) → ⊥
+only_sign (Some (gstatement.Sign x)) is h = h x refl
+only_sign _ is h = absurd cc
+
+pub only_case_keyword : (y : Option StatementPart) → is_as_case_keyword y ≡ true → ((x : CaseKeyword) → y ≡ Some (gstatement.CaseKeyword x) → ⊥) → ⊥
+only_case_keyword (Some (gstatement.CaseKeyword x)) is h = h x refl
+only_case_keyword _ is h = absurd cc
+
+pub only_case_item : (y : Option StatementPart) → is_as_case_item y ≡ true → ((x : CaseItem) → y ≡ Some (gstatement.CaseItem x) → ⊥) → ⊥
+only_case_item (Some (gstatement.CaseItem x)) is h = h x refl
+only_case_item _ is h = absurd cc
+
+pub not_case_items : (y : Option StatementPart) → ((x : List CaseItem) → y ≡ Some (gstatement.CaseItems x) → ⊥) → as_case_items y ≡ []
+not_case_items (Some (gstatement.CaseItems x)) h = absurd (h x refl)
+not_case_items _ h = refl
+
+pub only_event : (y : Option EventPart) → is_as_event y ≡ true → ((x : EventExpression) → y ≡ Some (gevent.Event x) → ⊥) → ⊥
+only_event (Some (gevent.Event x)) is h = h x refl
+only_event _ is h = absurd cc
+
+pub not_events : (y : Option EventPart) → ((x : List EventExpression) → y ≡ Some (gevent.Events x) → ⊥) → as_events y ≡ []
+not_events (Some (gevent.Events x)) h = absurd (h x refl)
+not_events _ h = refl
+
+pub only_event_control : (y : Option EventPart) → is_as_event_control y ≡ true → ((x : EventControl) → y ≡ Some (gevent.EventControl x) → ⊥) → ⊥
+only_event_control (Some (gevent.EventControl x)) is h = h x refl
+only_event_control _ is h = absurd cc
+
+pub only_argument : (y : Option EventPart) → is_as_argument y ≡ true → ((x : Argument) → y ≡ Some (gevent.Argument x) → ⊥) → ⊥
+only_argument (Some (gevent.Argument x)) is h = h x refl
+only_argument _ is h = absurd cc
+
+pub not_arguments : (y : Option EventPart) → ((x : List Argument) → y ≡ Some (gevent.Arguments x) → ⊥) → as_arguments y ≡ []
+not_arguments (Some (gevent.Arguments x)) h = absurd (h x refl)
+not_arguments _ h = refl
+
+pub only_vector : (y : Option DeclarationPart) → is_as_vector y ≡ true → ((x : VectorType) → y ≡ Some (gdeclaration.Vector x) → ⊥) → ⊥
+only_vector (Some (gdeclaration.Vector x)) is h = h x refl
+only_vector _ is h = absurd cc
+
+pub only_declared : (y : Option DeclarationPart) → is_as_declared y ≡ true → ((x : DeclaredName) → y ≡ Some (gdeclaration.DeclaredName x) → ⊥) → ⊥
+only_declared (Some (gdeclaration.DeclaredName x)) is h = h x refl
+only_declared _ is h = absurd cc
+
+pub not_declareds : (y : Option DeclarationPart) → ((x : List DeclaredName) → y ≡ Some (gdeclaration.DeclaredNames x) → ⊥) → as_declareds y ≡ []
+not_declareds (Some (gdeclaration.DeclaredNames x)) h = absurd (h x refl)
+not_declareds _ h = refl
+
+pub only_parameter_type : (y : Option ParameterPart) → is_as_parameter_type y ≡ true → ((x : ParameterType) → y ≡ Some (gparameter.ParameterType x) → ⊥) → ⊥
+only_parameter_type (Some (gparameter.ParameterType x)) is h = h x refl
+only_parameter_type _ is h = absurd cc
+
+pub only_parameter : (y : Option ParameterPart) → is_as_parameter y ≡ true → ((x : ParameterAssignment) → y ≡ Some (gparameter.Parameter x) → ⊥) → ⊥
+only_parameter (Some (gparameter.Parameter x)) is h = h x refl
+only_parameter _ is h = absurd cc
+
+pub not_parameters : (y : Option ParameterPart) → ((x : List ParameterAssignment) → y ≡ Some (gparameter.Parameters x) → ⊥) → as_parameters y ≡ []
+not_parameters (Some (gparameter.Parameters x)) h = absurd (h x refl)
+not_parameters _ h = refl
+
+pub only_output_names : (y : Option DeclarationPart) → is_as_output_names y ≡ true → ((x : OutputNames) → y ≡ Some (gdeclaration.OutputNames x) → ⊥) → ⊥
+only_output_names (Some (gdeclaration.OutputNames x)) is h = h x refl
+only_output_names _ is h = absurd cc
+
+pub not_range : (y : Option DeclarationPart) → ((x : Range) → y ≡ Some (gdeclaration.Range x) → ⊥) → as_range y ≡ None
+not_range (Some (gdeclaration.Range x)) h = absurd (h x refl)
+not_range _ h = refl
+
+pub only_assignment : (y : Option ItemPart) → is_as_assignment y ≡ true → ((x : Assignment) → y ≡ Some (gitem.Assignment x) → ⊥) → ⊥
+only_assignment (Some (gitem.Assignment x)) is h = h x refl
+only_assignment _ is h = absurd cc
+
+pub not_assignments : (y : Option ItemPart) → ((x : List Assignment) → y ≡ Some (gitem.Assignments x) → ⊥) → as_assignments y ≡ []
+not_assignments (Some (gitem.Assignments x)) h = absurd (h x refl)
+not_assignments _ h = refl
+
+pub not_parameter_values : (y : Option InstancePart) → ((x : ParameterValues) → y ≡ Some (ginstance.ParameterValues x) → ⊥) → as_parameter_values y ≡ no_parameter_values
+not_parameter_values (Some (ginstance.ParameterValues x)) h = absurd (h x refl)
+not_parameter_values _ h = refl
+
+pub only_connection : (y : Option InstancePart) → is_as_connection y ≡ true → ((x : NamedConnection) → y ≡ Some (ginstance.Connection x) → ⊥) → ⊥
+only_connection (Some (ginstance.Connection x)) is h = h x refl
+only_connection _ is h = absurd cc
+
+pub not_connections : (y : Option InstancePart) → ((x : List NamedConnection) → y ≡ Some (ginstance.NamedConnections x) → ⊥) → as_connections y ≡ []
+not_connections (Some (ginstance.NamedConnections x)) h = absurd (h x refl)
+not_connections _ h = refl
+
+pub not_ordered : (y : Option InstancePart) → ((x : List (Option Expr)) → y ≡ Some (ginstance.OrderedConnections x) → ⊥) → as_ordered y ≡ []
+not_ordered (Some (ginstance.OrderedConnections x)) h = absurd (h x refl)
+not_ordered _ h = refl
+
+pub only_ports : (y : Option InstancePart) → is_as_ports y ≡ true → ((x : Connections) → y ≡ Some (ginstance.Connections x) → ⊥) → ⊥
+only_ports (Some (ginstance.Connections x)) is h = h x refl
+only_ports _ is h = absurd cc
+
+pub only_instance : (y : Option InstancePart) → is_as_instance y ≡ true → ((x : Instance) → y ≡ Some (ginstance.Instance x) → ⊥) → ⊥
+only_instance (Some (ginstance.Instance x)) is h = h x refl
+only_instance _ is h = absurd cc
+
+pub not_instances : (y : Option InstancePart) → ((x : List Instance) → y ≡ Some (ginstance.Instances x) → ⊥) → as_instances y ≡ []
+not_instances (Some (ginstance.Instances x)) h = absurd (h x refl)
+not_instances _ h = refl
+
+pub not_option_item : (y : Value) → ((z : Item) → y ≡ v.Item z → ⊥) → option_item_of y ≡ None
+not_option_item (v.Item z) h = absurd (h z refl)
+not_option_item _ h = refl
+
+pub only_item : (y : Value) → is_item y ≡ true → ((z : Item) → y ≡ v.Item z → ⊥) → ⊥
+only_item (v.Item z) is h = h z refl
+only_item _ is h = absurd cc
+
+pub not_items : (y : Option ItemPart) → ((x : List Item) → y ≡ Some (gitem.Items x) → ⊥) → as_items y ≡ []
+not_items (Some (gitem.Items x)) h = absurd (h x refl)
+not_items _ h = refl
+
+pub not_delay : (y : Option ItemPart) → ((x : Delay) → y ≡ Some (gitem.Delay x) → ⊥) → as_delay y ≡ None
+not_delay (Some (gitem.Delay x)) h = absurd (h x refl)
+not_delay _ h = refl
+
+pub not_modules : (y : Option ModulePart) → ((x : List Module) → y ≡ Some (gmodule.Modules x) → ⊥) → as_modules y ≡ []
+not_modules (Some (gmodule.Modules x)) h = absurd (h x refl)
 not_modules _ h = refl
 
-pub not_parameter_ports : (y : Option ModuleValue) → ((z : List ParameterDeclaration) → y ≡ Some (m_.ParameterDeclarations z) → ⊥) → as_parameter_ports y ≡ []
-not_parameter_ports (Some (m_.ParameterDeclarations z)) h = absurd (h z refl)
+pub not_parameter_ports : (y : Option HeadPart) → ((x : List ParameterDeclaration) → y ≡ Some (ghead.ParameterDeclarations x) → ⊥) → as_parameter_ports y ≡ []
+not_parameter_ports (Some (ghead.ParameterDeclarations x)) h = absurd (h x refl)
 not_parameter_ports _ h = refl
 
-pub not_parameter_port : (y : Option ModuleValue) → ((z : ParameterPort) → y ≡ Some (m_.ParameterPort z) → ⊥) → as_parameter_port y ≡ no_parameter_port
-not_parameter_port (Some (m_.ParameterPort z)) h = absurd (h z refl)
-not_parameter_port _ h = refl
+pub only_parameter_port : (y : Option HeadPart) → is_as_parameter_port y ≡ true → ((x : ParameterPort) → y ≡ Some (ghead.ParameterPort x) → ⊥) → ⊥
+only_parameter_port (Some (ghead.ParameterPort x)) is h = h x refl
+only_parameter_port _ is h = absurd cc
 
-pub not_more_parameters : (y : Option ModuleValue) → ((z : MoreParameters) → y ≡ Some (m_.MoreParameters z) → ⊥) → as_more_parameters y ≡ no_more_parameters
-not_more_parameters (Some (m_.MoreParameters z)) h = absurd (h z refl)
+pub not_more_parameters : (y : Option HeadPart) → ((x : MoreParameters) → y ≡ Some (ghead.MoreParameters x) → ⊥) → as_more_parameters y ≡ no_more_parameters
+not_more_parameters (Some (ghead.MoreParameters x)) h = absurd (h x refl)
 not_more_parameters _ h = refl
 
-pub not_port_list : (y : Option ModuleValue) → ((z : Ports) → y ≡ Some (m_.Ports z) → ⊥) → as_port_list y ≡ no_ports
-not_port_list (Some (m_.Ports z)) h = absurd (h z refl)
+pub not_port_list : (y : Option ModulePart) → ((x : Ports) → y ≡ Some (gmodule.Ports x) → ⊥) → as_port_list y ≡ no_ports
+not_port_list (Some (gmodule.Ports x)) h = absurd (h x refl)
 not_port_list _ h = refl
 
-pub not_declarations : (y : Option ModuleValue) → ((z : List PortDeclaration) → y ≡ Some (m_.PortDeclarations z) → ⊥) → as_declarations y ≡ []
-not_declarations (Some (m_.PortDeclarations z)) h = absurd (h z refl)
+pub not_declarations : (y : Option ModulePart) → ((x : List PortDeclaration) → y ≡ Some (gmodule.PortDeclarations x) → ⊥) → as_declarations y ≡ []
+not_declarations (Some (gmodule.PortDeclarations x)) h = absurd (h x refl)
 not_declarations _ h = refl
 
-pub not_more_ports : (y : Option ModuleValue) → ((z : MorePorts) → y ≡ Some (m_.MorePorts z) → ⊥) → as_more_ports y ≡ no_more_ports
-not_more_ports (Some (m_.MorePorts z)) h = absurd (h z refl)
+pub not_more_ports : (y : Option ModulePart) → ((x : MorePorts) → y ≡ Some (gmodule.MorePorts x) → ⊥) → as_more_ports y ≡ no_more_ports
+not_more_ports (Some (gmodule.MorePorts x)) h = absurd (h x refl)
 not_more_ports _ h = refl
 
-pub not_output_ports : (y : Option ModuleValue) → ((z : OutputPorts) → y ≡ Some (m_.OutputPorts z) → ⊥) → as_output_ports y ≡ no_output_ports
-not_output_ports (Some (m_.OutputPorts z)) h = absurd (h z refl)
-not_output_ports _ h = refl
+pub only_output_ports : (y : Option ModulePart) → is_as_output_ports y ≡ true → ((x : OutputPorts) → y ≡ Some (gmodule.OutputPorts x) → ⊥) → ⊥
+only_output_ports (Some (gmodule.OutputPorts x)) is h = h x refl
+only_output_ports _ is h = absurd cc
 
-pub not_identifiers : (y : Option ModuleValue) → ((z : List Identifier) → y ≡ Some (m_.Identifiers z) → ⊥) → as_identifiers y ≡ []
-not_identifiers (Some (m_.Identifiers z)) h = absurd (h z refl)
+pub not_identifiers : (y : Option ModulePart) → ((x : List Identifier) → y ≡ Some (gmodule.Identifiers x) → ⊥) → as_identifiers y ≡ []
+not_identifiers (Some (gmodule.Identifiers x)) h = absurd (h x refl)
 not_identifiers _ h = refl

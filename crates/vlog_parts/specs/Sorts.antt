@@ -37,11 +37,15 @@ use Rattle.vlog_parts.specs.declared.expression_parts.SelectEnd.{SelectEnd as Th
 use Rattle.vlog_syntax.specs.declared.stmt.Stmt.{Stmt as TheStmt}
 use Rattle.vlog_syntax.specs.declared.item.VectorType.{VectorType as TheVectorType}
 use Rattle.vlog_token.specs.declared.token.Token.{Token as TheToken}
-use Rattle.vlog_parts.specs.declared.expression_parts.ExpressionValue.TheVariants as x_
-use Rattle.vlog_parts.specs.declared.statement_parts.StatementValue.TheVariants as y_
-use Rattle.vlog_parts.specs.declared.declaration_parts.DeclarationValue.TheVariants as d_
-use Rattle.vlog_parts.specs.declared.item_parts.ItemValue.TheVariants as z_
-use Rattle.vlog_parts.specs.declared.module_parts.ModuleValue.TheVariants as m_
+use Rattle.vlog_parts.specs.declared.value.ExpressionPart.TheVariants as gexpression
+use Rattle.vlog_parts.specs.declared.value.StatementPart.TheVariants as gstatement
+use Rattle.vlog_parts.specs.declared.value.EventPart.TheVariants as gevent
+use Rattle.vlog_parts.specs.declared.value.DeclarationPart.TheVariants as gdeclaration
+use Rattle.vlog_parts.specs.declared.value.ParameterPart.TheVariants as gparameter
+use Rattle.vlog_parts.specs.declared.value.HeadPart.TheVariants as ghead
+use Rattle.vlog_parts.specs.declared.value.ItemPart.TheVariants as gitem
+use Rattle.vlog_parts.specs.declared.value.InstancePart.TheVariants as ginstance
+use Rattle.vlog_parts.specs.declared.value.ModulePart.TheVariants as gmodule
 use Rattle.vlog_parts.specs.declared.value.Value.{Value}
 use Rattle.vlog_parts.specs.declared.value.Value.TheVariants as v
 
@@ -55,148 +59,148 @@ abbrev pub Identifier : TheIdentifier → Value
 Identifier x = v.Identifier x
 
 abbrev pub Expr : TheExpr → Value
-Expr x = v.Expression (x_.Expr x)
+Expr x = v.Expr x
 
 abbrev pub Exprs : List TheExpr → Value
-Exprs x = v.Expression (x_.Exprs x)
+Exprs x = v.Exprs x
 
 abbrev pub Chain : List TheLink → Value
-Chain x = v.Expression (x_.Chain x)
-
-abbrev pub Branches : TheBranches → Value
-Branches x = v.Expression (x_.Branches x)
-
-abbrev pub SelectEnd : TheSelectEnd → Value
-SelectEnd x = v.Expression (x_.SelectEnd x)
-
-abbrev pub BraceEnd : TheBraceEnd → Value
-BraceEnd x = v.Expression (x_.BraceEnd x)
-
-abbrev pub LeftSide : TheLeftSide → Value
-LeftSide x = v.Expression (x_.LeftSide x)
-
-abbrev pub LeftSides : List TheLeftSide → Value
-LeftSides x = v.Expression (x_.LeftSides x)
+Chain x = v.Chain x
 
 abbrev pub Select : TheSelect → Value
-Select x = v.Expression (x_.Select x)
+Select x = v.ExpressionPart (gexpression.Select x)
+
+abbrev pub SelectEnd : TheSelectEnd → Value
+SelectEnd x = v.ExpressionPart (gexpression.SelectEnd x)
+
+abbrev pub BraceEnd : TheBraceEnd → Value
+BraceEnd x = v.ExpressionPart (gexpression.BraceEnd x)
+
+abbrev pub LeftSide : TheLeftSide → Value
+LeftSide x = v.ExpressionPart (gexpression.LeftSide x)
+
+abbrev pub LeftSides : List TheLeftSide → Value
+LeftSides x = v.ExpressionPart (gexpression.LeftSides x)
+
+abbrev pub Branches : TheBranches → Value
+Branches x = v.Branches x
 
 abbrev pub Stmt : TheStmt → Value
-Stmt x = v.Statement (y_.Stmt x)
+Stmt x = v.Stmt x
 
 abbrev pub Stmts : List TheStmt → Value
-Stmts x = v.Statement (y_.Stmts x)
+Stmts x = v.StatementPart (gstatement.Stmts x)
 
 abbrev pub Sign : TheAssignmentSign → Value
-Sign x = v.Statement (y_.Sign x)
+Sign x = v.StatementPart (gstatement.Sign x)
 
 abbrev pub CaseKeyword : TheCaseKeyword → Value
-CaseKeyword x = v.Statement (y_.CaseKeyword x)
+CaseKeyword x = v.StatementPart (gstatement.CaseKeyword x)
 
 abbrev pub CaseItem : TheCaseItem → Value
-CaseItem x = v.Statement (y_.CaseItem x)
+CaseItem x = v.StatementPart (gstatement.CaseItem x)
 
 abbrev pub CaseItems : List TheCaseItem → Value
-CaseItems x = v.Statement (y_.CaseItems x)
+CaseItems x = v.StatementPart (gstatement.CaseItems x)
 
 abbrev pub Event : TheEventExpression → Value
-Event x = v.Statement (y_.Event x)
+Event x = v.EventPart (gevent.Event x)
 
 abbrev pub Events : List TheEventExpression → Value
-Events x = v.Statement (y_.Events x)
+Events x = v.EventPart (gevent.Events x)
 
 abbrev pub EventControl : TheEventControl → Value
-EventControl x = v.Statement (y_.EventControl x)
+EventControl x = v.EventPart (gevent.EventControl x)
 
 abbrev pub Argument : TheArgument → Value
-Argument x = v.Statement (y_.Argument x)
+Argument x = v.EventPart (gevent.Argument x)
 
 abbrev pub Arguments : List TheArgument → Value
-Arguments x = v.Statement (y_.Arguments x)
+Arguments x = v.EventPart (gevent.Arguments x)
 
 abbrev pub Vector : TheVectorType → Value
-Vector x = v.Declaration (d_.Vector x)
+Vector x = v.DeclarationPart (gdeclaration.Vector x)
 
 abbrev pub DeclaredName : TheDeclaredName → Value
-DeclaredName x = v.Declaration (d_.DeclaredName x)
+DeclaredName x = v.DeclarationPart (gdeclaration.DeclaredName x)
 
 abbrev pub DeclaredNames : List TheDeclaredName → Value
-DeclaredNames x = v.Declaration (d_.DeclaredNames x)
+DeclaredNames x = v.DeclarationPart (gdeclaration.DeclaredNames x)
 
 abbrev pub ParameterType : TheParameterType → Value
-ParameterType x = v.Declaration (d_.ParameterType x)
+ParameterType x = v.ParameterPart (gparameter.ParameterType x)
 
 abbrev pub Parameter : TheParameterAssignment → Value
-Parameter x = v.Declaration (d_.Parameter x)
+Parameter x = v.ParameterPart (gparameter.Parameter x)
 
 abbrev pub Parameters : List TheParameterAssignment → Value
-Parameters x = v.Declaration (d_.Parameters x)
+Parameters x = v.ParameterPart (gparameter.Parameters x)
 
 abbrev pub OutputNames : TheOutputNames → Value
-OutputNames x = v.Declaration (d_.OutputNames x)
+OutputNames x = v.DeclarationPart (gdeclaration.OutputNames x)
 
 abbrev pub Range : TheRange → Value
-Range x = v.Declaration (d_.Range x)
+Range x = v.DeclarationPart (gdeclaration.Range x)
 
 abbrev pub Assignment : TheAssignment → Value
-Assignment x = v.Item (z_.Assignment x)
+Assignment x = v.ItemPart (gitem.Assignment x)
 
 abbrev pub Assignments : List TheAssignment → Value
-Assignments x = v.Item (z_.Assignments x)
+Assignments x = v.ItemPart (gitem.Assignments x)
 
 abbrev pub ParameterValues : TheParameterValues → Value
-ParameterValues x = v.Item (z_.ParameterValues x)
+ParameterValues x = v.InstancePart (ginstance.ParameterValues x)
 
 abbrev pub Connection : TheNamedConnection → Value
-Connection x = v.Item (z_.Connection x)
+Connection x = v.InstancePart (ginstance.Connection x)
 
 abbrev pub NamedConnections : List TheNamedConnection → Value
-NamedConnections x = v.Item (z_.NamedConnections x)
+NamedConnections x = v.InstancePart (ginstance.NamedConnections x)
 
 abbrev pub OrderedConnections : List (Option TheExpr) → Value
-OrderedConnections x = v.Item (z_.OrderedConnections x)
+OrderedConnections x = v.InstancePart (ginstance.OrderedConnections x)
 
 abbrev pub Connections : TheConnections → Value
-Connections x = v.Item (z_.Connections x)
+Connections x = v.InstancePart (ginstance.Connections x)
 
 abbrev pub Instance : TheInstance → Value
-Instance x = v.Item (z_.Instance x)
+Instance x = v.InstancePart (ginstance.Instance x)
 
 abbrev pub Instances : List TheInstance → Value
-Instances x = v.Item (z_.Instances x)
+Instances x = v.InstancePart (ginstance.Instances x)
 
 abbrev pub Item : TheItem → Value
-Item x = v.Item (z_.Item x)
+Item x = v.Item x
 
 abbrev pub Items : List TheItem → Value
-Items x = v.Item (z_.Items x)
+Items x = v.ItemPart (gitem.Items x)
 
 abbrev pub Delay : TheDelay → Value
-Delay x = v.Item (z_.Delay x)
+Delay x = v.ItemPart (gitem.Delay x)
 
 abbrev pub Modules : List TheModule → Value
-Modules x = v.Module (m_.Modules x)
+Modules x = v.ModulePart (gmodule.Modules x)
 
 abbrev pub ParameterDeclarations : List TheParameterDeclaration → Value
-ParameterDeclarations x = v.Module (m_.ParameterDeclarations x)
+ParameterDeclarations x = v.HeadPart (ghead.ParameterDeclarations x)
 
 abbrev pub ParameterPort : TheParameterPort → Value
-ParameterPort x = v.Module (m_.ParameterPort x)
+ParameterPort x = v.HeadPart (ghead.ParameterPort x)
 
 abbrev pub MoreParameters : TheMoreParameters → Value
-MoreParameters x = v.Module (m_.MoreParameters x)
+MoreParameters x = v.HeadPart (ghead.MoreParameters x)
 
 abbrev pub Ports : ThePorts → Value
-Ports x = v.Module (m_.Ports x)
+Ports x = v.ModulePart (gmodule.Ports x)
 
 abbrev pub PortDeclarations : List ThePortDeclaration → Value
-PortDeclarations x = v.Module (m_.PortDeclarations x)
+PortDeclarations x = v.ModulePart (gmodule.PortDeclarations x)
 
 abbrev pub MorePorts : TheMorePorts → Value
-MorePorts x = v.Module (m_.MorePorts x)
+MorePorts x = v.ModulePart (gmodule.MorePorts x)
 
 abbrev pub OutputPorts : TheOutputPorts → Value
-OutputPorts x = v.Module (m_.OutputPorts x)
+OutputPorts x = v.ModulePart (gmodule.OutputPorts x)
 
 abbrev pub Identifiers : List TheIdentifier → Value
-Identifiers x = v.Module (m_.Identifiers x)
+Identifiers x = v.ModulePart (gmodule.Identifiers x)

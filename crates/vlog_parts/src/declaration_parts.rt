@@ -1,10 +1,9 @@
 //! Parts of declarations.
-ghost use Rattle.std.specs.Prelude.{◌≡◌};
-ghost use Rattle.vlog_parts.specs.Values.{first, rest, no_declared, no_parameter, no_output_names, declaration_of, declared_of, declareds_of, output_names_of, parameter_of, parameter_type_of, parameters_of, range_of, vector_of};
+ghost use Rattle.std.specs.Prelude.{◌≡◌, true};
+ghost use Rattle.vlog_parts.specs.Values.{first, rest, declaration_part_of, parameter_part_of, vector_of, declared_of, declareds_of, parameter_type_of, parameter_of, parameters_of, output_names_of, range_of, is_vector, is_declared, is_parameter_type, is_parameter, is_output_names};
 
-use crate::expression_parts::no_expr;
 use crate::stack::Stack;
-use crate::value::{Value, no_identifier};
+use crate::value::{DeclarationPart, ParameterPart, Value};
 use std::alloc::Global;
 use vlog_syntax::{DataType, DeclaredName, ParameterAssignment, ParameterType, Range, VectorType};
 
@@ -15,63 +14,30 @@ pub struct OutputNames {
     pub names: Stack<DeclaredName>,
 }
 
-/// What a part of a declaration means.
-#[derive(Drop)]
-pub enum DeclarationValue {
-    Vector(VectorType),
-    DeclaredName(DeclaredName),
-    DeclaredNames(Stack<DeclaredName>),
-    ParameterType(ParameterType),
-    Parameter(ParameterAssignment),
-    Parameters(Stack<ParameterAssignment>),
-    OutputNames(OutputNames),
-    Range(Range),
-}
-
-const NO_VECTOR: VectorType = VectorType {
-    is_signed: false,
-    range: None,
-};
-
-/// The name in the place of what is none.
-fn no_declared(alloc: Global) -> DeclaredName
-    ensures { result ≡ no_declared }
-{
-    DeclaredName {
-        name: no_identifier(alloc),
-        initial: None,
-    }
-}
-
-/// The parameter in the place of what is none.
-pub fn no_parameter(alloc: Global) -> ParameterAssignment
-    ensures { result ≡ no_parameter }
-{
-    ParameterAssignment {
-        name: no_identifier(alloc),
-        value: no_expr(alloc),
-    }
-}
-
-/// The outputs in the place of what is none.
-fn no_output_names(alloc: Global) -> OutputNames
-    ensures { result ≡ no_output_names }
-{
-    OutputNames {
-        data_type: DataType::Integer,
-        names: Stack::new(alloc),
-    }
-}
-
 impl Stack<Value<'_>> {
     /// The next part, where it is of this group.
-    #[tactic(auto, using(crate::proofs::Sorts::not_declaration))]
-    fn declaration(&mut self) -> Option<DeclarationValue>
-        ensures value { result ≡ declaration_of (first self.old) }
+    #[tactic(auto, using(crate::proofs::Sorts::not_declaration_part))]
+    fn declaration_part(&mut self) -> Option<DeclarationPart>
+        ensures value { result ≡ declaration_part_of (first self.old) }
         ensures rest { self.new ≡ rest self.old }
     {
         match self.next() {
-            Value::Declaration(value) => Some(value),
+            Value::DeclarationPart(part) => Some(part.into_inner()),
+            other => {
+                drop(other);
+                None
+            }
+        }
+    }
+
+    /// The next part, where it is of this group.
+    #[tactic(auto, using(crate::proofs::Sorts::not_parameter_part))]
+    fn parameter_part(&mut self) -> Option<ParameterPart>
+        ensures value { result ≡ parameter_part_of (first self.old) }
+        ensures rest { self.new ≡ rest self.old }
+    {
+        match self.next() {
+            Value::ParameterPart(part) => Some(part.into_inner()),
             other => {
                 drop(other);
                 None
@@ -80,32 +46,28 @@ impl Stack<Value<'_>> {
     }
 
     /// The next part, the type of a vector.
-    #[tactic(auto, using(crate::proofs::Sorts::not_vector))]
+    #[tactic(auto, using(crate::proofs::Sorts::only_vector))]
     pub fn vector(&mut self) -> VectorType
+        requires { is_vector (first self.old) ≡ true }
         ensures value { result ≡ vector_of (first self.old) }
         ensures rest { self.new ≡ rest self.old }
     {
-        match self.declaration() {
-            Some(DeclarationValue::Vector(vector)) => vector,
-            other => {
-                drop(other);
-                NO_VECTOR
-            }
+        match self.declaration_part() {
+            Some(DeclarationPart::Vector(vector)) => vector,
+            _ => unreachable!(),
         }
     }
 
     /// The next part, a declared name.
-    #[tactic(auto, using(crate::proofs::Sorts::not_declared))]
-    pub fn declared(&mut self, alloc: Global) -> DeclaredName
+    #[tactic(auto, using(crate::proofs::Sorts::only_declared))]
+    pub fn declared(&mut self) -> DeclaredName
+        requires { is_declared (first self.old) ≡ true }
         ensures value { result ≡ declared_of (first self.old) }
         ensures rest { self.new ≡ rest self.old }
     {
-        match self.declaration() {
-            Some(DeclarationValue::DeclaredName(declared)) => declared,
-            other => {
-                drop(other);
-                no_declared(alloc)
-            }
+        match self.declaration_part() {
+            Some(DeclarationPart::DeclaredName(declared)) => declared,
+            _ => unreachable!(),
         }
     }
 
@@ -115,8 +77,8 @@ impl Stack<Value<'_>> {
         ensures value { result ≡ declareds_of (first self.old) }
         ensures rest { self.new ≡ rest self.old }
     {
-        match self.declaration() {
-            Some(DeclarationValue::DeclaredNames(declareds)) => declareds,
+        match self.declaration_part() {
+            Some(DeclarationPart::DeclaredNames(declareds)) => declareds,
             other => {
                 drop(other);
                 Stack::new(alloc)
@@ -125,32 +87,28 @@ impl Stack<Value<'_>> {
     }
 
     /// The next part, the type of a parameter.
-    #[tactic(auto, using(crate::proofs::Sorts::not_parameter_type))]
+    #[tactic(auto, using(crate::proofs::Sorts::only_parameter_type))]
     pub fn parameter_type(&mut self) -> ParameterType
+        requires { is_parameter_type (first self.old) ≡ true }
         ensures value { result ≡ parameter_type_of (first self.old) }
         ensures rest { self.new ≡ rest self.old }
     {
-        match self.declaration() {
-            Some(DeclarationValue::ParameterType(parameter_type)) => parameter_type,
-            other => {
-                drop(other);
-                ParameterType::Integer
-            }
+        match self.parameter_part() {
+            Some(ParameterPart::ParameterType(parameter_type)) => parameter_type,
+            _ => unreachable!(),
         }
     }
 
     /// The next part, a parameter.
-    #[tactic(auto, using(crate::proofs::Sorts::not_parameter))]
-    pub fn parameter(&mut self, alloc: Global) -> ParameterAssignment
+    #[tactic(auto, using(crate::proofs::Sorts::only_parameter))]
+    pub fn parameter(&mut self) -> ParameterAssignment
+        requires { is_parameter (first self.old) ≡ true }
         ensures value { result ≡ parameter_of (first self.old) }
         ensures rest { self.new ≡ rest self.old }
     {
-        match self.declaration() {
-            Some(DeclarationValue::Parameter(parameter)) => parameter,
-            other => {
-                drop(other);
-                no_parameter(alloc)
-            }
+        match self.parameter_part() {
+            Some(ParameterPart::Parameter(parameter)) => parameter,
+            _ => unreachable!(),
         }
     }
 
@@ -160,8 +118,8 @@ impl Stack<Value<'_>> {
         ensures value { result ≡ parameters_of (first self.old) }
         ensures rest { self.new ≡ rest self.old }
     {
-        match self.declaration() {
-            Some(DeclarationValue::Parameters(parameters)) => parameters,
+        match self.parameter_part() {
+            Some(ParameterPart::Parameters(parameters)) => parameters,
             other => {
                 drop(other);
                 Stack::new(alloc)
@@ -170,17 +128,15 @@ impl Stack<Value<'_>> {
     }
 
     /// The next part, outputs of one type.
-    #[tactic(auto, using(crate::proofs::Sorts::not_output_names))]
-    pub fn output_names(&mut self, alloc: Global) -> OutputNames
+    #[tactic(auto, using(crate::proofs::Sorts::only_output_names))]
+    pub fn output_names(&mut self) -> OutputNames
+        requires { is_output_names (first self.old) ≡ true }
         ensures value { result ≡ output_names_of (first self.old) }
         ensures rest { self.new ≡ rest self.old }
     {
-        match self.declaration() {
-            Some(DeclarationValue::OutputNames(output_names)) => output_names,
-            other => {
-                drop(other);
-                no_output_names(alloc)
-            }
+        match self.declaration_part() {
+            Some(DeclarationPart::OutputNames(output_names)) => output_names,
+            _ => unreachable!(),
         }
     }
 
@@ -190,8 +146,8 @@ impl Stack<Value<'_>> {
         ensures value { result ≡ range_of (first self.old) }
         ensures rest { self.new ≡ rest self.old }
     {
-        match self.declaration() {
-            Some(DeclarationValue::Range(range)) => Some(range),
+        match self.declaration_part() {
+            Some(DeclarationPart::Range(range)) => Some(range),
             other => {
                 drop(other);
                 None

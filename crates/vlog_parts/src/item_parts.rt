@@ -1,86 +1,39 @@
 //! Parts of items.
-ghost use Rattle.std.specs.Prelude.{◌≡◌};
-ghost use Rattle.vlog_parts.specs.Values.{first, rest, no_assignment, no_parameter_values, no_connection, no_connections, no_instance, assignment_of, assignments_of, connection_of, connections_of, delay_of, instance_of, instances_of, item_of, item_part_of, items_of, option_item_of, ordered_of, parameter_values_of, ports_of};
+ghost use Rattle.std.specs.Prelude.{◌≡◌, true};
+ghost use Rattle.vlog_parts.specs.Values.{first, rest, instance_part_of, item_part_of, assignment_of, assignments_of, parameter_values_of, connection_of, connections_of, ordered_of, ports_of, instance_of, instances_of, item_of, items_of, delay_of, is_assignment, is_connection, is_ports, is_instance, is_item, option_item_of};
 
-use crate::expression_parts::{no_expr, no_left};
 use crate::stack::Stack;
-use crate::value::{NO_SPAN, Value, no_identifier};
+use crate::value::{InstancePart, ItemPart, Value};
 use std::alloc::Global;
 use vlog_syntax::{
-    Assignment, Connections, Delay, Expr, Instance, Item, Listed, NamedConnection, ParameterValues,
+    Assignment, Boxed, Connections, Delay, Expr, Instance, Item, Listed, NamedConnection,
+    ParameterValues,
 };
-
-/// What a part of an item means.
-#[derive(Drop)]
-pub enum ItemValue {
-    Assignment(Assignment),
-    Assignments(Stack<Assignment>),
-    ParameterValues(ParameterValues),
-    Connection(NamedConnection),
-    NamedConnections(Stack<NamedConnection>),
-    OrderedConnections(Stack<Option<Expr>>),
-    Connections(Connections),
-    Instance(Instance),
-    Instances(Stack<Instance>),
-    Item(Item),
-    Items(Stack<Item>),
-    Delay(Delay),
-}
-
-/// The assignment in the place of what is none.
-fn no_assignment(alloc: Global) -> Assignment
-    ensures { result ≡ no_assignment }
-{
-    Assignment {
-        left: no_left(alloc),
-        span: NO_SPAN,
-        value: no_expr(alloc),
-    }
-}
-
-/// The parameters in the place of what is none.
-fn no_parameter_values(alloc: Global) -> ParameterValues
-    ensures { result ≡ no_parameter_values }
-{
-    ParameterValues::Ordered(Listed::from_vec(Vec::new(alloc)))
-}
-
-/// The connection in the place of what is none.
-fn no_connection(alloc: Global) -> NamedConnection
-    ensures { result ≡ no_connection }
-{
-    NamedConnection {
-        name: no_identifier(alloc),
-        value: None,
-    }
-}
-
-/// The connections in the place of what is none.
-fn no_connections(alloc: Global) -> Connections
-    ensures { result ≡ no_connections }
-{
-    Connections::Ordered(Listed::from_vec(Vec::new(alloc)))
-}
-
-/// The instance in the place of what is none.
-fn no_instance(alloc: Global) -> Instance
-    ensures { result ≡ no_instance }
-{
-    Instance {
-        name: no_identifier(alloc),
-        ports: no_connections(alloc),
-    }
-}
 
 impl Stack<Value<'_>> {
     /// The next part, where it is of this group.
+    #[tactic(auto, using(crate::proofs::Sorts::not_instance_part))]
+    fn instance_part(&mut self) -> Option<InstancePart>
+        ensures value { result ≡ instance_part_of (first self.old) }
+        ensures rest { self.new ≡ rest self.old }
+    {
+        match self.next() {
+            Value::InstancePart(part) => Some(part.into_inner()),
+            other => {
+                drop(other);
+                None
+            }
+        }
+    }
+
+    /// The next part, where it is of this group.
     #[tactic(auto, using(crate::proofs::Sorts::not_item_part))]
-    fn item_part(&mut self) -> Option<ItemValue>
+    fn item_part(&mut self) -> Option<ItemPart>
         ensures value { result ≡ item_part_of (first self.old) }
         ensures rest { self.new ≡ rest self.old }
     {
         match self.next() {
-            Value::Item(value) => Some(value),
+            Value::ItemPart(part) => Some(part.into_inner()),
             other => {
                 drop(other);
                 None
@@ -89,17 +42,15 @@ impl Stack<Value<'_>> {
     }
 
     /// The next part, an assignment.
-    #[tactic(auto, using(crate::proofs::Sorts::not_assignment))]
-    pub fn assignment(&mut self, alloc: Global) -> Assignment
+    #[tactic(auto, using(crate::proofs::Sorts::only_assignment))]
+    pub fn assignment(&mut self) -> Assignment
+        requires { is_assignment (first self.old) ≡ true }
         ensures value { result ≡ assignment_of (first self.old) }
         ensures rest { self.new ≡ rest self.old }
     {
         match self.item_part() {
-            Some(ItemValue::Assignment(assignment)) => assignment,
-            other => {
-                drop(other);
-                no_assignment(alloc)
-            }
+            Some(ItemPart::Assignment(assignment)) => assignment,
+            _ => unreachable!(),
         }
     }
 
@@ -110,7 +61,7 @@ impl Stack<Value<'_>> {
         ensures rest { self.new ≡ rest self.old }
     {
         match self.item_part() {
-            Some(ItemValue::Assignments(assignments)) => assignments,
+            Some(ItemPart::Assignments(assignments)) => assignments,
             other => {
                 drop(other);
                 Stack::new(alloc)
@@ -118,44 +69,42 @@ impl Stack<Value<'_>> {
         }
     }
 
-    /// The next part, an instance's parameters.
+    /// The next part, the parameters of an instance.
     #[tactic(auto, using(crate::proofs::Sorts::not_parameter_values))]
     pub fn parameter_values(&mut self, alloc: Global) -> ParameterValues
         ensures value { result ≡ parameter_values_of (first self.old) }
         ensures rest { self.new ≡ rest self.old }
     {
-        match self.item_part() {
-            Some(ItemValue::ParameterValues(parameter_values)) => parameter_values,
+        match self.instance_part() {
+            Some(InstancePart::ParameterValues(parameter_values)) => parameter_values,
             other => {
                 drop(other);
-                no_parameter_values(alloc)
+                ParameterValues::Ordered(Listed::from_vec(Vec::new(alloc)))
             }
         }
     }
 
-    /// The next part, a connection.
-    #[tactic(auto, using(crate::proofs::Sorts::not_connection))]
-    pub fn connection(&mut self, alloc: Global) -> NamedConnection
+    /// The next part, a named connection.
+    #[tactic(auto, using(crate::proofs::Sorts::only_connection))]
+    pub fn connection(&mut self) -> NamedConnection
+        requires { is_connection (first self.old) ≡ true }
         ensures value { result ≡ connection_of (first self.old) }
         ensures rest { self.new ≡ rest self.old }
     {
-        match self.item_part() {
-            Some(ItemValue::Connection(connection)) => connection,
-            other => {
-                drop(other);
-                no_connection(alloc)
-            }
+        match self.instance_part() {
+            Some(InstancePart::Connection(connection)) => connection,
+            _ => unreachable!(),
         }
     }
 
-    /// The next part, connections by name.
+    /// The next part, named connections.
     #[tactic(auto, using(crate::proofs::Sorts::not_connections))]
     pub fn connections(&mut self, alloc: Global) -> Stack<NamedConnection>
         ensures value { result ≡ connections_of (first self.old) }
         ensures rest { self.new ≡ rest self.old }
     {
-        match self.item_part() {
-            Some(ItemValue::NamedConnections(connections)) => connections,
+        match self.instance_part() {
+            Some(InstancePart::NamedConnections(connections)) => connections,
             other => {
                 drop(other);
                 Stack::new(alloc)
@@ -163,14 +112,14 @@ impl Stack<Value<'_>> {
         }
     }
 
-    /// The next part, connections by place.
+    /// The next part, ordered connections.
     #[tactic(auto, using(crate::proofs::Sorts::not_ordered))]
     pub fn ordered(&mut self, alloc: Global) -> Stack<Option<Expr>>
         ensures value { result ≡ ordered_of (first self.old) }
         ensures rest { self.new ≡ rest self.old }
     {
-        match self.item_part() {
-            Some(ItemValue::OrderedConnections(ordered)) => ordered,
+        match self.instance_part() {
+            Some(InstancePart::OrderedConnections(ordered)) => ordered,
             other => {
                 drop(other);
                 Stack::new(alloc)
@@ -178,33 +127,29 @@ impl Stack<Value<'_>> {
         }
     }
 
-    /// The next part, an instance's ports.
-    #[tactic(auto, using(crate::proofs::Sorts::not_ports))]
-    pub fn ports(&mut self, alloc: Global) -> Connections
+    /// The next part, the ports of an instance.
+    #[tactic(auto, using(crate::proofs::Sorts::only_ports))]
+    pub fn ports(&mut self) -> Connections
+        requires { is_ports (first self.old) ≡ true }
         ensures value { result ≡ ports_of (first self.old) }
         ensures rest { self.new ≡ rest self.old }
     {
-        match self.item_part() {
-            Some(ItemValue::Connections(ports)) => ports,
-            other => {
-                drop(other);
-                no_connections(alloc)
-            }
+        match self.instance_part() {
+            Some(InstancePart::Connections(ports)) => ports,
+            _ => unreachable!(),
         }
     }
 
     /// The next part, an instance.
-    #[tactic(auto, using(crate::proofs::Sorts::not_instance))]
-    pub fn instance(&mut self, alloc: Global) -> Instance
+    #[tactic(auto, using(crate::proofs::Sorts::only_instance))]
+    pub fn instance(&mut self) -> Instance
+        requires { is_instance (first self.old) ≡ true }
         ensures value { result ≡ instance_of (first self.old) }
         ensures rest { self.new ≡ rest self.old }
     {
-        match self.item_part() {
-            Some(ItemValue::Instance(instance)) => instance,
-            other => {
-                drop(other);
-                no_instance(alloc)
-            }
+        match self.instance_part() {
+            Some(InstancePart::Instance(instance)) => instance,
+            _ => unreachable!(),
         }
     }
 
@@ -214,8 +159,8 @@ impl Stack<Value<'_>> {
         ensures value { result ≡ instances_of (first self.old) }
         ensures rest { self.new ≡ rest self.old }
     {
-        match self.item_part() {
-            Some(ItemValue::Instances(instances)) => instances,
+        match self.instance_part() {
+            Some(InstancePart::Instances(instances)) => instances,
             other => {
                 drop(other);
                 Stack::new(alloc)
@@ -224,17 +169,15 @@ impl Stack<Value<'_>> {
     }
 
     /// The next part, an item.
-    #[tactic(auto, using(crate::proofs::Sorts::not_item))]
-    pub fn item(&mut self) -> Item
+    #[tactic(auto, using(crate::proofs::Sorts::only_item))]
+    pub fn item(&mut self) -> Boxed<Item>
+        requires { is_item (first self.old) ≡ true }
         ensures value { result ≡ item_of (first self.old) }
         ensures rest { self.new ≡ rest self.old }
     {
-        match self.item_part() {
-            Some(ItemValue::Item(item)) => item,
-            other => {
-                drop(other);
-                Item::NullGenerate(NO_SPAN)
-            }
+        match self.next() {
+            Value::Item(item) => item,
+            _ => unreachable!(),
         }
     }
 
@@ -245,7 +188,7 @@ impl Stack<Value<'_>> {
         ensures rest { self.new ≡ rest self.old }
     {
         match self.item_part() {
-            Some(ItemValue::Items(items)) => items,
+            Some(ItemPart::Items(items)) => items,
             other => {
                 drop(other);
                 Stack::new(alloc)
@@ -260,7 +203,7 @@ impl Stack<Value<'_>> {
         ensures rest { self.new ≡ rest self.old }
     {
         match self.item_part() {
-            Some(ItemValue::Delay(delay)) => Some(delay),
+            Some(ItemPart::Delay(delay)) => Some(delay),
             other => {
                 drop(other);
                 None
@@ -270,12 +213,12 @@ impl Stack<Value<'_>> {
 
     /// The next part, an item where there is one.
     #[tactic(auto, using(crate::proofs::Sorts::not_option_item))]
-    pub fn option_item(&mut self) -> Option<Item>
+    pub fn option_item(&mut self) -> Option<Boxed<Item>>
         ensures value { result ≡ option_item_of (first self.old) }
         ensures rest { self.new ≡ rest self.old }
     {
-        match self.item_part() {
-            Some(ItemValue::Item(option_item)) => Some(option_item),
+        match self.next() {
+            Value::Item(item) => Some(item),
             other => {
                 drop(other);
                 None

@@ -1,9 +1,9 @@
 //! Identifiers, numbers and strings, from their tokens.
 ghost use Rattle.std.specs.Prelude.{◌≡◌, IfOk};
 ghost use Rattle.vlog_parts.specs.Leaves as spec;
+ghost use Rattle.vlog_parts.specs.Values.{no_expr};
 
-use crate::expression_parts::no_expr;
-use crate::value::no_identifier;
+use crate::value::NO_SPAN;
 use mcy_base::{Bytes, Text};
 use std::alloc::{AllocError, Global};
 use vlog_syntax::{Expr, Identifier, Number};
@@ -19,7 +19,10 @@ pub fn identifier(alloc: Global, token: Option<Token<'_>>) -> Result<Identifier,
             name: Text::copy(alloc, name_of(&token))?,
             span: token.span,
         }),
-        None => Ok(no_identifier(alloc)),
+        None => Ok(Identifier {
+            name: Text::from_string(String::new(alloc)),
+            span: NO_SPAN,
+        }),
     }
 }
 
@@ -32,6 +35,16 @@ pub fn string(alloc: Global, token: Option<Token<'_>>) -> Result<Bytes, AllocErr
         Some(token) => Ok(Bytes::from_vec(string_value(alloc, token.text)?)),
         None => Ok(Bytes::from_vec(Vec::new(alloc))),
     }
+}
+
+/// The expression in the place of what is no number.
+fn no_expr(alloc: Global) -> Expr
+    ensures { result ≡ no_expr }
+{
+    Expr::Name(Identifier {
+        name: Text::from_string(String::new(alloc)),
+        span: NO_SPAN,
+    })
 }
 
 /// The number of a token.

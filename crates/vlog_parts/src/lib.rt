@@ -13,14 +13,13 @@ mod stack;
 mod statement_parts;
 mod value;
 
-pub use declaration_parts::{DeclarationValue, OutputNames};
-pub use expression_parts::{BraceEnd, Branches, ExpressionValue, Link, Select, SelectEnd};
-pub use item_parts::ItemValue;
+pub use declaration_parts::OutputNames;
+pub use expression_parts::{BraceEnd, Branches, Link, Select, SelectEnd};
 pub use leaves::{identifier, number, string};
-pub use module_parts::{
-    ModuleValue, MoreParameters, MorePorts, OutputPorts, ParameterPort, no_more_parameters,
-    no_more_ports, no_ports,
-};
+pub use module_parts::{MoreParameters, MorePorts, OutputPorts, ParameterPort};
 pub use stack::Stack;
-pub use statement_parts::{AssignmentSign, CaseKeyword, StatementValue};
-pub use value::{NO_SPAN, Parts, Value};
+pub use statement_parts::{AssignmentSign, CaseKeyword};
+pub use value::{
+    DeclarationPart, EventPart, ExpressionPart, HeadPart, InstancePart, ItemPart, ModulePart,
+    NO_SPAN, ParameterPart, Parts, StatementPart, Value,
+};

@@ -1,10 +1,9 @@
 //! Parts of the heads of modules.
-ghost use Rattle.std.specs.Prelude.{◌≡◌};
-ghost use Rattle.vlog_parts.specs.Values.{first, rest, no_parameter_port, no_more_parameters, no_ports, no_more_ports, no_output_ports, declarations_of, identifiers_of, module_part_of, modules_of, more_parameters_of, more_ports_of, output_ports_of, parameter_port_of, parameter_ports_of, port_list_of};
+ghost use Rattle.std.specs.Prelude.{◌≡◌, true};
+ghost use Rattle.vlog_parts.specs.Values.{first, rest, head_part_of, module_part_of, modules_of, parameter_ports_of, parameter_port_of, more_parameters_of, port_list_of, declarations_of, more_ports_of, output_ports_of, identifiers_of, is_parameter_port, is_output_ports};
 
-use crate::declaration_parts::no_parameter;
 use crate::stack::Stack;
-use crate::value::Value;
+use crate::value::{HeadPart, ModulePart, Value};
 use mcy_base::Span;
 use std::alloc::Global;
 use vlog_syntax::{
@@ -43,74 +42,30 @@ pub struct OutputPorts {
     pub others: Stack<PortDeclaration>,
 }
 
-/// What a part of a module's head means.
-#[derive(Drop)]
-pub enum ModuleValue {
-    Modules(Stack<Module>),
-    ParameterDeclarations(Stack<ParameterDeclaration>),
-    ParameterPort(ParameterPort),
-    MoreParameters(MoreParameters),
-    Ports(Ports),
-    PortDeclarations(Stack<PortDeclaration>),
-    MorePorts(MorePorts),
-    OutputPorts(OutputPorts),
-    Identifiers(Stack<Identifier>),
-}
-
-/// The parameter in the place of what is none.
-fn no_parameter_port(alloc: Global) -> ParameterPort
-    ensures { result ≡ no_parameter_port }
-{
-    ParameterPort::Next(no_parameter(alloc))
-}
-
-/// No parameters.
-pub fn no_more_parameters(alloc: Global) -> MoreParameters
-    ensures { result ≡ no_more_parameters }
-{
-    MoreParameters {
-        same: Stack::new(alloc),
-        others: Stack::new(alloc),
-    }
-}
-
-/// No ports.
-pub fn no_ports(alloc: Global) -> Ports
-    ensures { result ≡ no_ports }
-{
-    Ports::Names(Listed::from_vec(Vec::new(alloc)))
-}
-
-/// No ports.
-pub fn no_more_ports(alloc: Global) -> MorePorts
-    ensures { result ≡ no_more_ports }
-{
-    MorePorts {
-        same: Stack::new(alloc),
-        others: Stack::new(alloc),
-    }
-}
-
-/// The outputs in the place of what is none.
-fn no_output_ports(alloc: Global) -> OutputPorts
-    ensures { result ≡ no_output_ports }
-{
-    OutputPorts {
-        data_type: DataType::Integer,
-        names: Stack::new(alloc),
-        others: Stack::new(alloc),
-    }
-}
-
 impl Stack<Value<'_>> {
     /// The next part, where it is of this group.
+    #[tactic(auto, using(crate::proofs::Sorts::not_head_part))]
+    fn head_part(&mut self) -> Option<HeadPart>
+        ensures value { result ≡ head_part_of (first self.old) }
+        ensures rest { self.new ≡ rest self.old }
+    {
+        match self.next() {
+            Value::HeadPart(part) => Some(part.into_inner()),
+            other => {
+                drop(other);
+                None
+            }
+        }
+    }
+
+    /// The next part, where it is of this group.
     #[tactic(auto, using(crate::proofs::Sorts::not_module_part))]
-    fn module_part(&mut self) -> Option<ModuleValue>
+    fn module_part(&mut self) -> Option<ModulePart>
         ensures value { result ≡ module_part_of (first self.old) }
         ensures rest { self.new ≡ rest self.old }
     {
         match self.next() {
-            Value::Module(value) => Some(value),
+            Value::ModulePart(part) => Some(part.into_inner()),
             other => {
                 drop(other);
                 None
@@ -125,7 +80,7 @@ impl Stack<Value<'_>> {
         ensures rest { self.new ≡ rest self.old }
     {
         match self.module_part() {
-            Some(ModuleValue::Modules(modules)) => modules,
+            Some(ModulePart::Modules(modules)) => modules,
             other => {
                 drop(other);
                 Stack::new(alloc)
@@ -139,8 +94,8 @@ impl Stack<Value<'_>> {
         ensures value { result ≡ parameter_ports_of (first self.old) }
         ensures rest { self.new ≡ rest self.old }
     {
-        match self.module_part() {
-            Some(ModuleValue::ParameterDeclarations(parameter_ports)) => parameter_ports,
+        match self.head_part() {
+            Some(HeadPart::ParameterDeclarations(parameter_ports)) => parameter_ports,
             other => {
                 drop(other);
                 Stack::new(alloc)
@@ -148,32 +103,33 @@ impl Stack<Value<'_>> {
         }
     }
 
-    /// The next part, a parameter of a module.
-    #[tactic(auto, using(crate::proofs::Sorts::not_parameter_port))]
-    pub fn parameter_port(&mut self, alloc: Global) -> ParameterPort
+    /// The next part, a parameter in the head of a module.
+    #[tactic(auto, using(crate::proofs::Sorts::only_parameter_port))]
+    pub fn parameter_port(&mut self) -> ParameterPort
+        requires { is_parameter_port (first self.old) ≡ true }
         ensures value { result ≡ parameter_port_of (first self.old) }
         ensures rest { self.new ≡ rest self.old }
     {
-        match self.module_part() {
-            Some(ModuleValue::ParameterPort(parameter_port)) => parameter_port,
-            other => {
-                drop(other);
-                ParameterPort::Next(no_parameter(alloc))
-            }
+        match self.head_part() {
+            Some(HeadPart::ParameterPort(parameter_port)) => parameter_port,
+            _ => unreachable!(),
         }
     }
 
-    /// The next part, the parameters behind a first one.
+    /// The next part, parameters behind a first one.
     #[tactic(auto, using(crate::proofs::Sorts::not_more_parameters))]
     pub fn more_parameters(&mut self, alloc: Global) -> MoreParameters
         ensures value { result ≡ more_parameters_of (first self.old) }
         ensures rest { self.new ≡ rest self.old }
     {
-        match self.module_part() {
-            Some(ModuleValue::MoreParameters(more_parameters)) => more_parameters,
+        match self.head_part() {
+            Some(HeadPart::MoreParameters(more_parameters)) => more_parameters,
             other => {
                 drop(other);
-                no_more_parameters(alloc)
+                MoreParameters {
+                    same: Stack::new(alloc),
+                    others: Stack::new(alloc),
+                }
             }
         }
     }
@@ -185,10 +141,10 @@ impl Stack<Value<'_>> {
         ensures rest { self.new ≡ rest self.old }
     {
         match self.module_part() {
-            Some(ModuleValue::Ports(port_list)) => port_list,
+            Some(ModulePart::Ports(port_list)) => port_list,
             other => {
                 drop(other);
-                no_ports(alloc)
+                Ports::Names(Listed::from_vec(Vec::new(alloc)))
             }
         }
     }
@@ -200,7 +156,7 @@ impl Stack<Value<'_>> {
         ensures rest { self.new ≡ rest self.old }
     {
         match self.module_part() {
-            Some(ModuleValue::PortDeclarations(declarations)) => declarations,
+            Some(ModulePart::PortDeclarations(declarations)) => declarations,
             other => {
                 drop(other);
                 Stack::new(alloc)
@@ -208,33 +164,34 @@ impl Stack<Value<'_>> {
         }
     }
 
-    /// The next part, the ports behind a first one.
+    /// The next part, ports behind a first one.
     #[tactic(auto, using(crate::proofs::Sorts::not_more_ports))]
     pub fn more_ports(&mut self, alloc: Global) -> MorePorts
         ensures value { result ≡ more_ports_of (first self.old) }
         ensures rest { self.new ≡ rest self.old }
     {
         match self.module_part() {
-            Some(ModuleValue::MorePorts(more_ports)) => more_ports,
+            Some(ModulePart::MorePorts(more_ports)) => more_ports,
             other => {
                 drop(other);
-                no_more_ports(alloc)
+                MorePorts {
+                    same: Stack::new(alloc),
+                    others: Stack::new(alloc),
+                }
             }
         }
     }
 
-    /// The next part, outputs with the ports behind them.
-    #[tactic(auto, using(crate::proofs::Sorts::not_output_ports))]
-    pub fn output_ports(&mut self, alloc: Global) -> OutputPorts
+    /// The next part, outputs of one type.
+    #[tactic(auto, using(crate::proofs::Sorts::only_output_ports))]
+    pub fn output_ports(&mut self) -> OutputPorts
+        requires { is_output_ports (first self.old) ≡ true }
         ensures value { result ≡ output_ports_of (first self.old) }
         ensures rest { self.new ≡ rest self.old }
     {
         match self.module_part() {
-            Some(ModuleValue::OutputPorts(output_ports)) => output_ports,
-            other => {
-                drop(other);
-                no_output_ports(alloc)
-            }
+            Some(ModulePart::OutputPorts(output_ports)) => output_ports,
+            _ => unreachable!(),
         }
     }
 
@@ -245,7 +202,7 @@ impl Stack<Value<'_>> {
         ensures rest { self.new ≡ rest self.old }
     {
         match self.module_part() {
-            Some(ModuleValue::Identifiers(identifiers)) => identifiers,
+            Some(ModulePart::Identifiers(identifiers)) => identifiers,
             other => {
                 drop(other);
                 Stack::new(alloc)

@@ -58,6 +58,26 @@ impl<T: Drop> Stack<T> {
         Ok(())
     }
 
+    /// The stack with an item more on top.
+    pub fn with(self, item: T) -> Result<Stack<T>, AllocError>
+        ensures { IfOk result (λ s. s ≡ item ∷ self) }
+    {
+        let mut stack = self;
+        stack.push(item)?;
+        Ok(stack)
+    }
+
+    /// The stack with an item more on top, and what stands beside it. A value that is held beside a call that can fail is
+    /// dear to prove, so it goes through here.
+    pub fn with_beside<U: Drop>(self, item: T, beside: U) -> Result<(Stack<T>, U), AllocError>
+        ensures { IfOk result (λ s. (s.0 ≡ item ∷ self) × (s.1 ≡ beside)) }
+    {
+        match self.with(item) {
+            Ok(stack) => Ok((stack, beside)),
+            Err(error) => Err(error),
+        }
+    }
+
     #[tactic(auto, using(crate::proofs::Splits::top_is, crate::proofs::Splits::below_is))]
     /// Takes the top items, as many as are asked for, or all where there are fewer.
     pub fn pop_many(&mut self, count: usize) -> Result<Stack<T>, AllocError>

@@ -1,81 +1,51 @@
 //! Parts of statements.
-ghost use Rattle.std.specs.Prelude.{◌≡◌};
-ghost use Rattle.vlog_parts.specs.Values.{first, rest, no_case_item, no_event, argument_of, arguments_of, case_item_of, case_items_of, case_keyword_of, event_control_of, event_of, events_of, option_stmt_of, sign_of, statement_of, stmt_of, stmts_of};
+ghost use Rattle.std.specs.Prelude.{◌≡◌, true};
+ghost use Rattle.vlog_parts.specs.Values.{first, rest, event_part_of, statement_part_of, stmt_of, stmts_of, sign_of, case_keyword_of, case_item_of, case_items_of, event_of, events_of, event_control_of, argument_of, arguments_of, is_stmt, is_sign, is_case_keyword, is_case_item, is_event, is_event_control, is_argument, option_stmt_of};
 
-use crate::expression_parts::no_expr;
 use crate::stack::Stack;
-use crate::value::{NO_SPAN, Value, no_identifier};
+use crate::value::{EventPart, StatementPart, Value};
 use mcy_base::Span;
 use std::alloc::Global;
-use vlog_syntax::{
-    Argument, CaseItem, CaseKind, Edge, EventControl, EventExpression, Listed, Stmt,
-};
+use vlog_syntax::{Argument, Boxed, CaseItem, CaseKind, EventControl, EventExpression, Stmt};
 
-/// `=` or `<=`, with its place.
-#[derive(Clone, Copy, Debug, PartialEq, Eq)]
+/// The sign of an assignment, with its place.
+#[derive(Clone, Copy)]
 pub enum AssignmentSign {
     Blocking(Span),
     Nonblocking(Span),
 }
 
-/// `case`, `casez` or `casex`, with its place.
-#[derive(Clone, Copy, Debug, PartialEq, Eq)]
+/// The keyword of a case statement, with its place.
+#[derive(Clone, Copy)]
 pub struct CaseKeyword {
     pub span: Span,
     pub kind: CaseKind,
 }
 
-/// What a part of a statement means.
-#[derive(Drop)]
-pub enum StatementValue {
-    Stmt(Stmt),
-    Stmts(Stack<Stmt>),
-    Sign(AssignmentSign),
-    CaseKeyword(CaseKeyword),
-    CaseItem(CaseItem),
-    CaseItems(Stack<CaseItem>),
-    Event(EventExpression),
-    Events(Stack<EventExpression>),
-    EventControl(EventControl),
-    Argument(Argument),
-    Arguments(Stack<Argument>),
-}
-
-const NO_KEYWORD: CaseKeyword = CaseKeyword {
-    span: NO_SPAN,
-    kind: CaseKind::Case,
-};
-
-/// The item in the place of what is none.
-fn no_case_item(alloc: Global) -> CaseItem
-    ensures { result ≡ no_case_item }
-{
-    CaseItem {
-        span: NO_SPAN,
-        labels: Listed::from_vec(Vec::new(alloc)),
-        body: Stmt::Null(NO_SPAN),
-    }
-}
-
-/// The event in the place of what is none.
-fn no_event(alloc: Global) -> EventExpression
-    ensures { result ≡ no_event }
-{
-    EventExpression {
-        edge: Edge::Any,
-        name: no_identifier(alloc),
-    }
-}
-
 impl Stack<Value<'_>> {
     /// The next part, where it is of this group.
-    #[tactic(auto, using(crate::proofs::Sorts::not_statement))]
-    fn statement(&mut self) -> Option<StatementValue>
-        ensures value { result ≡ statement_of (first self.old) }
+    #[tactic(auto, using(crate::proofs::Sorts::not_event_part))]
+    fn event_part(&mut self) -> Option<EventPart>
+        ensures value { result ≡ event_part_of (first self.old) }
         ensures rest { self.new ≡ rest self.old }
     {
         match self.next() {
-            Value::Statement(value) => Some(value),
+            Value::EventPart(part) => Some(part.into_inner()),
+            other => {
+                drop(other);
+                None
+            }
+        }
+    }
+
+    /// The next part, where it is of this group.
+    #[tactic(auto, using(crate::proofs::Sorts::not_statement_part))]
+    fn statement_part(&mut self) -> Option<StatementPart>
+        ensures value { result ≡ statement_part_of (first self.old) }
+        ensures rest { self.new ≡ rest self.old }
+    {
+        match self.next() {
+            Value::StatementPart(part) => Some(part.into_inner()),
             other => {
                 drop(other);
                 None
@@ -84,17 +54,15 @@ impl Stack<Value<'_>> {
     }
 
     /// The next part, a statement.
-    #[tactic(auto, using(crate::proofs::Sorts::not_stmt))]
-    pub fn stmt(&mut self) -> Stmt
+    #[tactic(auto, using(crate::proofs::Sorts::only_stmt))]
+    pub fn stmt(&mut self) -> Boxed<Stmt>
+        requires { is_stmt (first self.old) ≡ true }
         ensures value { result ≡ stmt_of (first self.old) }
         ensures rest { self.new ≡ rest self.old }
     {
-        match self.statement() {
-            Some(StatementValue::Stmt(stmt)) => stmt,
-            other => {
-                drop(other);
-                Stmt::Null(NO_SPAN)
-            }
+        match self.next() {
+            Value::Stmt(stmt) => stmt,
+            _ => unreachable!(),
         }
     }
 
@@ -104,8 +72,8 @@ impl Stack<Value<'_>> {
         ensures value { result ≡ stmts_of (first self.old) }
         ensures rest { self.new ≡ rest self.old }
     {
-        match self.statement() {
-            Some(StatementValue::Stmts(stmts)) => stmts,
+        match self.statement_part() {
+            Some(StatementPart::Stmts(stmts)) => stmts,
             other => {
                 drop(other);
                 Stack::new(alloc)
@@ -114,47 +82,41 @@ impl Stack<Value<'_>> {
     }
 
     /// The next part, the sign of an assignment.
-    #[tactic(auto, using(crate::proofs::Sorts::not_sign))]
+    #[tactic(auto, using(crate::proofs::Sorts::only_sign))]
     pub fn sign(&mut self) -> AssignmentSign
+        requires { is_sign (first self.old) ≡ true }
         ensures value { result ≡ sign_of (first self.old) }
         ensures rest { self.new ≡ rest self.old }
     {
-        match self.statement() {
-            Some(StatementValue::Sign(sign)) => sign,
-            other => {
-                drop(other);
-                AssignmentSign::Blocking(NO_SPAN)
-            }
+        match self.statement_part() {
+            Some(StatementPart::Sign(sign)) => sign,
+            _ => unreachable!(),
         }
     }
 
     /// The next part, the keyword of a case statement.
-    #[tactic(auto, using(crate::proofs::Sorts::not_case_keyword))]
+    #[tactic(auto, using(crate::proofs::Sorts::only_case_keyword))]
     pub fn case_keyword(&mut self) -> CaseKeyword
+        requires { is_case_keyword (first self.old) ≡ true }
         ensures value { result ≡ case_keyword_of (first self.old) }
         ensures rest { self.new ≡ rest self.old }
     {
-        match self.statement() {
-            Some(StatementValue::CaseKeyword(case_keyword)) => case_keyword,
-            other => {
-                drop(other);
-                NO_KEYWORD
-            }
+        match self.statement_part() {
+            Some(StatementPart::CaseKeyword(case_keyword)) => case_keyword,
+            _ => unreachable!(),
         }
     }
 
     /// The next part, an item of a case statement.
-    #[tactic(auto, using(crate::proofs::Sorts::not_case_item))]
-    pub fn case_item(&mut self, alloc: Global) -> CaseItem
+    #[tactic(auto, using(crate::proofs::Sorts::only_case_item))]
+    pub fn case_item(&mut self) -> CaseItem
+        requires { is_case_item (first self.old) ≡ true }
         ensures value { result ≡ case_item_of (first self.old) }
         ensures rest { self.new ≡ rest self.old }
     {
-        match self.statement() {
-            Some(StatementValue::CaseItem(case_item)) => case_item,
-            other => {
-                drop(other);
-                no_case_item(alloc)
-            }
+        match self.statement_part() {
+            Some(StatementPart::CaseItem(case_item)) => case_item,
+            _ => unreachable!(),
         }
     }
 
@@ -164,8 +126,8 @@ impl Stack<Value<'_>> {
         ensures value { result ≡ case_items_of (first self.old) }
         ensures rest { self.new ≡ rest self.old }
     {
-        match self.statement() {
-            Some(StatementValue::CaseItems(case_items)) => case_items,
+        match self.statement_part() {
+            Some(StatementPart::CaseItems(case_items)) => case_items,
             other => {
                 drop(other);
                 Stack::new(alloc)
@@ -174,17 +136,15 @@ impl Stack<Value<'_>> {
     }
 
     /// The next part, an event.
-    #[tactic(auto, using(crate::proofs::Sorts::not_event))]
-    pub fn event(&mut self, alloc: Global) -> EventExpression
+    #[tactic(auto, using(crate::proofs::Sorts::only_event))]
+    pub fn event(&mut self) -> EventExpression
+        requires { is_event (first self.old) ≡ true }
         ensures value { result ≡ event_of (first self.old) }
         ensures rest { self.new ≡ rest self.old }
     {
-        match self.statement() {
-            Some(StatementValue::Event(event)) => event,
-            other => {
-                drop(other);
-                no_event(alloc)
-            }
+        match self.event_part() {
+            Some(EventPart::Event(event)) => event,
+            _ => unreachable!(),
         }
     }
 
@@ -194,8 +154,8 @@ impl Stack<Value<'_>> {
         ensures value { result ≡ events_of (first self.old) }
         ensures rest { self.new ≡ rest self.old }
     {
-        match self.statement() {
-            Some(StatementValue::Events(events)) => events,
+        match self.event_part() {
+            Some(EventPart::Events(events)) => events,
             other => {
                 drop(other);
                 Stack::new(alloc)
@@ -204,32 +164,28 @@ impl Stack<Value<'_>> {
     }
 
     /// The next part, an event control.
-    #[tactic(auto, using(crate::proofs::Sorts::not_event_control))]
+    #[tactic(auto, using(crate::proofs::Sorts::only_event_control))]
     pub fn event_control(&mut self) -> EventControl
+        requires { is_event_control (first self.old) ≡ true }
         ensures value { result ≡ event_control_of (first self.old) }
         ensures rest { self.new ≡ rest self.old }
     {
-        match self.statement() {
-            Some(StatementValue::EventControl(event_control)) => event_control,
-            other => {
-                drop(other);
-                EventControl::Implicit
-            }
+        match self.event_part() {
+            Some(EventPart::EventControl(event_control)) => event_control,
+            _ => unreachable!(),
         }
     }
 
     /// The next part, an argument.
-    #[tactic(auto, using(crate::proofs::Sorts::not_argument))]
-    pub fn argument(&mut self, alloc: Global) -> Argument
+    #[tactic(auto, using(crate::proofs::Sorts::only_argument))]
+    pub fn argument(&mut self) -> Argument
+        requires { is_argument (first self.old) ≡ true }
         ensures value { result ≡ argument_of (first self.old) }
         ensures rest { self.new ≡ rest self.old }
     {
-        match self.statement() {
-            Some(StatementValue::Argument(argument)) => argument,
-            other => {
-                drop(other);
-                Argument::Expr(no_expr(alloc))
-            }
+        match self.event_part() {
+            Some(EventPart::Argument(argument)) => argument,
+            _ => unreachable!(),
         }
     }
 
@@ -239,8 +195,8 @@ impl Stack<Value<'_>> {
         ensures value { result ≡ arguments_of (first self.old) }
         ensures rest { self.new ≡ rest self.old }
     {
-        match self.statement() {
-            Some(StatementValue::Arguments(arguments)) => arguments,
+        match self.event_part() {
+            Some(EventPart::Arguments(arguments)) => arguments,
             other => {
                 drop(other);
                 Stack::new(alloc)
@@ -250,12 +206,12 @@ impl Stack<Value<'_>> {
 
     /// The next part, a statement where there is one.
     #[tactic(auto, using(crate::proofs::Sorts::not_option_stmt))]
-    pub fn option_stmt(&mut self) -> Option<Stmt>
+    pub fn option_stmt(&mut self) -> Option<Boxed<Stmt>>
         ensures value { result ≡ option_stmt_of (first self.old) }
         ensures rest { self.new ≡ rest self.old }
     {
-        match self.statement() {
-            Some(StatementValue::Stmt(option_stmt)) => Some(option_stmt),
+        match self.next() {
+            Value::Stmt(stmt) => Some(stmt),
             other => {
                 drop(other);
                 None

@@ -25,7 +25,7 @@ impl Identifier {
 }
 
 /// A number (IEEE 1364-2005, 3.5): its value, in which an x or z bit is 0, and which of its bits are x and which z.
-#[derive(Clone, Copy, Debug, PartialEq, Eq)]
+#[derive(Clone, Copy)]
 pub struct Number {
     pub value: Word,
     pub is_signed: bool,

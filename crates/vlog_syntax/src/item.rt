@@ -15,7 +15,7 @@ pub struct Range {
 }
 
 /// The direction of a port.
-#[derive(Clone, Copy, Debug, PartialEq, Eq)]
+#[derive(Clone, Copy)]
 pub enum Direction {
     Input,
     Output,
@@ -61,7 +61,7 @@ pub struct DataDeclaration {
 }
 
 /// Whether an instance can give a parameter another value.
-#[derive(Clone, Copy, Debug, PartialEq, Eq)]
+#[derive(Clone, Copy)]
 pub enum ParameterKind {
     Parameter,
     Localparam,
@@ -132,7 +132,7 @@ pub struct Instance {
 }
 
 /// When a process runs (IEEE 1364-2005, 9.9).
-#[derive(Clone, Copy, Debug, PartialEq, Eq)]
+#[derive(Clone, Copy)]
 pub enum ProcessKind {
     Initial,
     Always,
@@ -186,7 +186,8 @@ pub enum PlainItem {
 /// An item of a module. The place is that of its first token, attributes aside.
 #[derive(Drop)]
 pub enum Item {
-    Plain(PlainItem),
+    /// An item that is no generate construct.
+    Plain(Boxed<PlainItem>),
     /// `generate .. endgenerate`
     GenerateRegion(Span, Listed<Item>),
     /// `for (..) block`

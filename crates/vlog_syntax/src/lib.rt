@@ -6,6 +6,7 @@ mod expr;
 mod feature;
 mod identifier;
 mod item;
+mod laws;
 mod left_side;
 mod listed;
 mod module;
@@ -21,6 +22,7 @@ pub use item::{
     Item, NamedConnection, ParameterAssignment, ParameterDeclaration, ParameterKind, ParameterType,
     ParameterValues, PlainItem, PortDeclaration, Ports, Process, ProcessKind, Range, VectorType,
 };
+pub use laws::nesting;
 pub use left_side::LeftSide;
 pub use listed::Listed;
 pub use module::Module;

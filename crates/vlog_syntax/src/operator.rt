@@ -1,6 +1,6 @@
 //! Operators (IEEE 1364-2005, 5.1).
 /// A unary operator.
-#[derive(Clone, Copy, Debug, PartialEq, Eq)]
+#[derive(Clone, Copy)]
 pub enum UnaryOperator {
     /// `+`
     Plus,
@@ -25,7 +25,7 @@ pub enum UnaryOperator {
 }
 
 /// A binary operator.
-#[derive(Clone, Copy, Debug, PartialEq, Eq)]
+#[derive(Clone, Copy)]
 pub enum BinaryOperator {
     /// `**`
     Power,

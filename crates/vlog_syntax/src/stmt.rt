@@ -10,7 +10,7 @@ use mcy_base::{Bytes, Span};
 use std::alloc::{AllocError, Global};
 
 /// Which bits of a label are no matter (IEEE 1364-2005, 9.5.1).
-#[derive(Clone, Copy, Debug, PartialEq, Eq)]
+#[derive(Clone, Copy)]
 pub enum CaseKind {
     Case,
     Casez,
@@ -18,7 +18,7 @@ pub enum CaseKind {
 }
 
 /// At which changes of its name an event comes (IEEE 1364-2005, 9.7.1).
-#[derive(Clone, Copy, Debug, PartialEq, Eq)]
+#[derive(Clone, Copy)]
 pub enum Edge {
     Any,
     Posedge,
@@ -100,7 +100,7 @@ pub enum Stmt {
 
 impl EventExpression {
     /// The same event.
-    pub fn copy(&self, alloc: Global) -> Result<EventExpression, AllocError>
+    fn copy(&self, alloc: Global) -> Result<EventExpression, AllocError>
         ensures { IfOk result (λ e. e ≡ self.now) }
     {
         Ok(EventExpression {
@@ -112,7 +112,7 @@ impl EventExpression {
 
 impl EventControl {
     /// The same event control.
-    pub fn copy(&self, alloc: Global) -> Result<EventControl, AllocError>
+    fn copy(&self, alloc: Global) -> Result<EventControl, AllocError>
         ensures { IfOk result (λ e. e ≡ self.now) }
     {
         match self {
@@ -140,7 +140,7 @@ fn copy_events(
 
 impl Assignment {
     /// The same assignment.
-    pub fn copy(&self, alloc: Global) -> Result<Assignment, AllocError>
+    fn copy(&self, alloc: Global) -> Result<Assignment, AllocError>
         ensures { IfOk result (λ a. a ≡ self.now) }
     {
         Ok(Assignment {
@@ -153,7 +153,7 @@ impl Assignment {
 
 impl Argument {
     /// The same argument.
-    pub fn copy(&self, alloc: Global) -> Result<Argument, AllocError>
+    fn copy(&self, alloc: Global) -> Result<Argument, AllocError>
         ensures { IfOk result (λ a. a ≡ self.now) }
     {
         match self {

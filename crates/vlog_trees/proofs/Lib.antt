@@ -1,2 +1,4 @@
 pub mod Chains
 pub mod Runs
+pub mod Sorted
+pub mod LaterParts

@@ -1,5 +1,5 @@
 -- Declarations (IEEE 1364-2005, A.2): what each production means, from what its parts mean.
-use Rattle.std.specs.Prelude.{true, false, List, [], ◌∷◌, None}
+use Rattle.std.specs.Prelude.{true, false, List, ◌∷◌, None}
 use Rattle.vlog_syntax.specs.declared.item.Direction.TheVariants as di
 use Rattle.vlog_syntax.specs.declared.item.DataType.{DataType}
 use Rattle.vlog_syntax.specs.declared.item.DataType.TheVariants as dt
@@ -7,18 +7,13 @@ use Rattle.vlog_syntax.specs.declared.item.DeclaredName.{DeclaredName}
 use Rattle.vlog_syntax.specs.declared.item.ParameterKind.{ParameterKind}
 use Rattle.vlog_syntax.specs.declared.item.ParameterKind.TheVariants as pk
 use Rattle.vlog_syntax.specs.declared.item.ParameterType.TheVariants as pt
-use Rattle.vlog_syntax.specs.declared.item.PlainItem.{PlainItem}
 use Rattle.vlog_syntax.specs.declared.item.PlainItem.TheVariants as p
-use Rattle.vlog_syntax.specs.declared.item.Item.TheVariants as i
 use Rattle.vlog_grammar.specs.declared.rule.Rule.{Rule}
 use Rattle.vlog_grammar.specs.declared.rule.Rule.TheVariants as r
 use Rattle.vlog_parts.specs.declared.value.Value.{Value}
 use Rattle.vlog_parts.specs.Sorts as v
-use Rattle.vlog_trees.specs.Statements.{made_statement}
+use Rattle.vlog_trees.specs.Items.{made_item, plain}
 use Rattle.vlog_parts.specs.Values.{first, second, third, fourth, span_of, identifier_of, expr_of, option_expr_of, range_of, vector_of, declared_of, declareds_of, parameter_type_of, parameter_of, parameters_of, output_names_of}
-
-abbrev pub plain : PlainItem → Value
-plain item = v.Item (i.Plain item)
 
 -- a declaration of parameters
 abbrev pub parameters : ParameterKind → List Value → Value
@@ -29,22 +24,16 @@ abbrev pub declaration : Value → DataType → List DeclaredName → Value
 declaration x type names = plain (p.DataDeclaration (record { span = span_of x; data_type = type; names = names }))
 
 unfoldable pub made_declaration : Rule → List Value → Value
-made_declaration r.ImplicitNet ms = first ms
-made_declaration r.ExplicitNet ms = second ms
 made_declaration r.UnsignedRange ms = v.Vector (record { is_signed = false; range = range_of (first ms) })
 made_declaration r.SignedRange ms = v.Vector (record { is_signed = true; range = range_of (second ms) })
 made_declaration r.SomeRange ms = v.Range (record { span = span_of (first ms); msb = expr_of (second ms); lsb = expr_of (fourth ms) })
 made_declaration r.NameDeclared ms = v.DeclaredName (record { name = identifier_of (first ms); initial = None })
-made_declaration r.NoMoreDeclaredName ms = v.DeclaredNames []
 made_declaration r.NextDeclaredName ms = v.DeclaredNames (declared_of (second ms) ∷ declareds_of (third ms))
 made_declaration r.VariableDeclared ms = v.DeclaredName (record { name = (declared_of (first ms)).name; initial = option_expr_of (second ms) })
-made_declaration r.SomeInitialValue ms = second ms
-made_declaration r.NoMoreVariable ms = v.DeclaredNames []
 made_declaration r.NextVariable ms = v.DeclaredNames (declared_of (second ms) ∷ declareds_of (third ms))
 made_declaration r.VectorParameter ms = v.ParameterType (pt.Vector (vector_of (first ms)))
 made_declaration r.IntegerParameter ms = v.ParameterType pt.Integer
 made_declaration r.ParamAssigned ms = v.Parameter (record { name = (declared_of (first ms)).name; value = expr_of (third ms) })
-made_declaration r.NoMoreParamAssignment ms = v.Parameters []
 made_declaration r.NextParamAssignment ms = v.Parameters (parameter_of (second ms) ∷ parameters_of (third ms))
 made_declaration r.OutputNet ms = v.OutputNames (record { data_type = dt.Wire (vector_of (first ms)); names = declared_of (second ms) ∷ declareds_of (third ms) })
 made_declaration r.OutputReg ms = v.OutputNames (record { data_type = dt.Reg (vector_of (second ms)); names = declared_of (third ms) ∷ declareds_of (fourth ms) })
@@ -57,4 +46,4 @@ made_declaration r.NetDeclaration ms = declaration (first ms) (dt.Wire (vector_o
 made_declaration r.RegDeclaration ms = declaration (first ms) (dt.Reg (vector_of (second ms))) (declared_of (third ms) ∷ declareds_of (fourth ms))
 made_declaration r.IntegerDeclaration ms = declaration (first ms) dt.Integer (declared_of (second ms) ∷ declareds_of (third ms))
 made_declaration r.GenvarDeclaration ms = plain (p.GenvarDeclaration (span_of (first ms)) (declared_of (second ms) ∷ declareds_of (third ms)))
-made_declaration rule ms = made_statement rule ms
+made_declaration rule ms = made_item rule ms

@@ -20,10 +20,10 @@ use Rattle.vlog_parts.specs.declared.expression_parts.SelectEnd.TheVariants as s
 use Rattle.vlog_parts.specs.declared.expression_parts.BraceEnd.{BraceEnd}
 use Rattle.vlog_parts.specs.declared.expression_parts.BraceEnd.TheVariants as be
 use Rattle.vlog_parts.specs.declared.value.Value.{Value}
-use Rattle.vlog_parts.specs.declared.value.Value.TheVariants.{Expression}
-use Rattle.vlog_parts.specs.declared.expression_parts.ExpressionValue.TheVariants.{Chain, Branches}
+use Rattle.vlog_parts.specs.declared.value.Value.TheVariants as y
 use Rattle.vlog_parts.specs.Sorts as v
 use Rattle.vlog_parts.specs.Leaves.{identifier, number}
+use Rattle.vlog_trees.specs.Passed.{made_passed}
 use Rattle.vlog_parts.specs.Values.{first, rest, second, third, fourth, span_of, token_of, identifier_of, expr_of, exprs_of, chain_of, select_of, select_end_of, brace_end_of, left_of, lefts_of}
 
 -- operators of one precedence with their right operands, to the left
@@ -33,8 +33,8 @@ chained x (o ∷ os) = chained (e.Binary o.span o.operator x o.right) os
 
 -- an operand with a chain behind it, or with the branches of a condition
 unfoldable pub extended : Expr → Value → Expr
-extended x (Expression (Chain os)) = chained x os
-extended x (Expression (Branches c)) = e.Conditional c.span x c.yes c.no
+extended x (y.Chain os) = chained x os
+extended x (y.Branches c) = e.Conditional c.span x c.yes c.no
 extended x _ = x
 
 -- an operand with all that stands behind it, the operators of the highest precedence first
@@ -81,56 +81,40 @@ braced place x (be.Replication xs) = e.MultipleConcatenation place x xs
 unfoldable pub made_expression : Rule → List Value → Value
 made_expression r.PlainIdentifier ms = v.Identifier (identifier (token_of (first ms)))
 made_expression r.SystemVerilogIdentifier ms = v.Identifier (identifier (token_of (first ms)))
-made_expression r.NoExpression ms = v.Nothing
 made_expression r.SomeExpression ms = first ms
-made_expression r.NoMoreExpression ms = v.Exprs []
 made_expression r.NextExpression ms = v.Exprs (expr_of (second ms) ∷ exprs_of (third ms))
 made_expression r.LeftName ms = v.LeftSide (left_selected (identifier_of (first ms)) (select_of (second ms)))
 made_expression r.LeftConcatenation ms = v.LeftSide (l.Concatenation (span_of (first ms)) (left_of (second ms) ∷ lefts_of (third ms)))
-made_expression r.NoMoreLeftSide ms = v.LeftSides []
 made_expression r.NextLeftSide ms = v.LeftSides (left_of (second ms) ∷ lefts_of (third ms))
-made_expression r.NoSelect ms = v.Nothing
 made_expression r.SomeSelect ms = v.Select (select (span_of (first ms)) (expr_of (second ms)) (select_end_of (third ms)))
 made_expression r.BitSelect ms = v.SelectEnd se.Bit
 made_expression r.PartSelect ms = v.SelectEnd (se.Part (expr_of (second ms)))
 made_expression r.IndexedPartSelect ms = v.SelectEnd (se.Indexed (expr_of (second ms)))
 made_expression r.OperandWithChains ms = v.Expr (operated (expr_of (first ms)) (rest ms))
-made_expression r.NoPower ms = v.Chain []
 made_expression r.Power ms = link b.Power ms
-made_expression r.NoProduct ms = v.Chain []
 made_expression r.Times ms = link b.Multiply ms
 made_expression r.Divide ms = link b.Divide ms
 made_expression r.Remainder ms = link b.Modulus ms
-made_expression r.NoSum ms = v.Chain []
 made_expression r.Plus ms = link b.Add ms
 made_expression r.Minus ms = link b.Subtract ms
-made_expression r.NoShift ms = v.Chain []
 made_expression r.ShiftLeft ms = link b.LogicalShiftLeft ms
 made_expression r.ShiftRight ms = link b.LogicalShiftRight ms
 made_expression r.ShiftLeftSigned ms = link b.ArithmeticShiftLeft ms
 made_expression r.ShiftRightSigned ms = link b.ArithmeticShiftRight ms
-made_expression r.NoRelation ms = v.Chain []
 made_expression r.Less ms = link b.Less ms
 made_expression r.LessEqual ms = link b.LessEqual ms
 made_expression r.Greater ms = link b.Greater ms
 made_expression r.GreaterEqual ms = link b.GreaterEqual ms
-made_expression r.NoEquality ms = v.Chain []
 made_expression r.Equal ms = link b.LogicalEquality ms
 made_expression r.Unequal ms = link b.LogicalInequality ms
 made_expression r.CaseEqual ms = link b.CaseEquality ms
 made_expression r.CaseUnequal ms = link b.CaseInequality ms
-made_expression r.NoAnd ms = v.Chain []
 made_expression r.BitAnd ms = link b.BitwiseAnd ms
-made_expression r.NoXor ms = v.Chain []
 made_expression r.BitXor ms = link b.BitwiseXor ms
 made_expression r.BitXnor ms = link b.BitwiseXnor ms
-made_expression r.NoOr ms = v.Chain []
 made_expression r.BitOr ms = link b.BitwiseOr ms
-made_expression r.NoLogicalAnd ms = v.Chain []
 made_expression r.LogicalAnd ms = link b.LogicalAnd ms
-made_expression r.NoLogicalOr ms = v.Chain []
 made_expression r.LogicalOr ms = link b.LogicalOr ms
-made_expression r.NoCondition ms = v.Nothing
 made_expression r.SomeCondition ms = v.Branches (record { span = span_of (first ms); yes = expr_of (second ms); no = expr_of (fourth ms) })
 made_expression r.UnaryPlus ms = unary u.Plus ms
 made_expression r.UnaryMinus ms = unary u.Minus ms
@@ -146,11 +130,10 @@ made_expression r.NumberOperand ms = v.Expr (number (token_of (first ms)))
 made_expression r.DelayNumber ms = v.Expr (number (token_of (first ms)))
 made_expression r.NameOperand ms = v.Expr (selected (identifier_of (first ms)) (select_of (second ms)))
 made_expression r.SystemFunctionCall ms = v.Expr (e.SystemFunctionCall (identifier (token_of (first ms))) (exprs_of (second ms)))
+made_expression r.UnaryFunctionCall ms = v.Expr (e.SystemFunctionCall (identifier (token_of (first ms))) (expr_of (third ms) ∷ []))
 made_expression r.Parenthesized ms = v.Expr (e.Parenthesized (span_of (first ms)) (expr_of (second ms)))
 made_expression r.Braces ms = v.Expr (braced (span_of (first ms)) (expr_of (second ms)) (brace_end_of (third ms)))
-made_expression r.NoFunctionArguments ms = v.Exprs []
 made_expression r.SomeFunctionArguments ms = v.Exprs (expr_of (second ms) ∷ exprs_of (third ms))
 made_expression r.Concatenation ms = v.BraceEnd (be.Concatenation (exprs_of (first ms)))
 made_expression r.Replication ms = v.BraceEnd (be.Replication (expr_of (second ms) ∷ exprs_of (third ms)))
--- the others mean nothing
-made_expression _ ms = v.Nothing
+made_expression rule ms = made_passed rule ms

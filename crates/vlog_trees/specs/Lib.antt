@@ -1,6 +1,9 @@
-pub mod Expressions
-pub mod Statements
-pub mod Declarations
-pub mod Items
+pub mod Kinds
 pub mod Modules
+pub mod Items
+pub mod Declarations
+pub mod Statements
+pub mod Expressions
 pub mod Meaning
+pub mod Events
+pub mod Passed

@@ -10,12 +10,18 @@ use Rattle.vlog_grammar.specs.Trees.{Trees, Nil, Leaf, Node}
 use Rattle.vlog_syntax.specs.declared.module.Module.{Module}
 use Rattle.vlog_parts.specs.declared.value.Value.{Value}
 use Rattle.vlog_parts.specs.declared.value.Value.TheVariants as v
-use Rattle.vlog_trees.specs.Modules.{made_module}
+use Rattle.vlog_grammar.specs.declared.table.Symbol.{Symbol}
+use Rattle.vlog_trees.specs.Expressions.{made_expression}
 use Rattle.vlog_parts.specs.Values.{first, modules_of}
+
+-- a production without parts means nothing
+abbrev pub made_by : List Symbol → Rule → List Value → Value
+made_by [] rule ms = v.Nothing
+made_by (s ∷ ss) rule ms = made_expression rule ms
 
 -- what a production means
 unfoldable pub made : Rule → List Value → Value
-made = made_module
+made rule ms = made_by (parts_of rule) rule ms
 
 abbrev value_of : Option Token → Value
 value_of None = v.Nothing

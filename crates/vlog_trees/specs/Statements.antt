@@ -9,24 +9,16 @@ use Rattle.vlog_syntax.specs.declared.stmt.Stmt.TheVariants as t
 use Rattle.vlog_syntax.specs.declared.stmt.CaseItem.{roll-CaseItem}
 use Rattle.vlog_syntax.specs.declared.stmt.CaseKind.{CaseKind}
 use Rattle.vlog_syntax.specs.declared.stmt.CaseKind.TheVariants as ck
-use Rattle.vlog_syntax.specs.declared.stmt.Edge.{Edge}
-use Rattle.vlog_syntax.specs.declared.stmt.Edge.TheVariants as ed
-use Rattle.vlog_syntax.specs.declared.stmt.EventControl.TheVariants as ec
-use Rattle.vlog_syntax.specs.declared.stmt.Argument.TheVariants as ar
-use Rattle.vlog_syntax.specs.declared.stmt.Assignment.{Assignment}
 use Rattle.vlog_grammar.specs.declared.rule.Rule.{Rule}
 use Rattle.vlog_grammar.specs.declared.rule.Rule.TheVariants as r
 use Rattle.vlog_parts.specs.declared.statement_parts.AssignmentSign.{AssignmentSign}
 use Rattle.vlog_parts.specs.declared.statement_parts.AssignmentSign.TheVariants as sg
 use Rattle.vlog_parts.specs.declared.value.Value.{Value}
 use Rattle.vlog_parts.specs.Sorts as v
-use Rattle.vlog_parts.specs.Leaves.{identifier, string}
-use Rattle.vlog_trees.specs.Expressions.{made_expression}
-use Rattle.vlog_parts.specs.Values.{first, second, third, fourth, fifth, sixth, seventh, ninth, tenth, eleventh, thirteenth, span_of, token_of, identifier_of, label_of, expr_of, exprs_of, left_of, stmt_of, stmts_of, option_stmt_of, sign_of, case_keyword_of, case_item_of, case_items_of, event_of, events_of, event_control_of, argument_of, arguments_of}
-
--- `left = value`
-abbrev pub assignment : Value → Value → Value → Assignment
-assignment x y z = record { left = left_of x; span = span_of y; value = expr_of z }
+use Rattle.vlog_parts.specs.Leaves.{identifier}
+use Rattle.vlog_trees.specs.Events.{made_event}
+use Rattle.vlog_trees.specs.Items.{assignment}
+use Rattle.vlog_parts.specs.Values.{first, second, third, fourth, fifth, sixth, seventh, ninth, tenth, eleventh, thirteenth, span_of, token_of, identifier_of, label_of, expr_of, exprs_of, left_of, stmt_of, stmts_of, option_stmt_of, sign_of, case_keyword_of, case_item_of, case_items_of, event_control_of, arguments_of}
 
 unfoldable pub assigned : LeftSide → AssignmentSign → Expr → Stmt
 assigned x (sg.Blocking place) y = t.BlockingAssignment (record { left = x; span = place; value = y })
@@ -35,11 +27,10 @@ assigned x (sg.Nonblocking place) y = t.NonblockingAssignment (record { left = x
 abbrev pub case_keyword : CaseKind → List Value → Value
 case_keyword kind ms = v.CaseKeyword (record { span = span_of (first ms); kind = kind })
 
-abbrev pub edge_event : Edge → List Value → Value
-edge_event edge ms = v.Event (record { edge = edge; name = identifier_of (second ms) })
+abbrev pub system_task : List Value → Value
+system_task ms = v.Stmt (t.SystemTaskEnable (identifier (token_of (first ms))) (arguments_of (second ms)))
 
 unfoldable pub made_statement : Rule → List Value → Value
-made_statement r.StatementWithAttributes ms = second ms
 made_statement r.NullStatement ms = v.Stmt (t.Null (span_of (first ms)))
 made_statement r.SeqBlock ms = v.Stmt (t.SeqBlock (span_of (first ms)) (label_of (second ms)) (stmts_of (third ms)))
 made_statement r.ConditionalStatement ms = v.Stmt (t.Conditional (span_of (first ms)) (expr_of (third ms)) (stmt_of (fifth ms)) (option_stmt_of (sixth ms)))
@@ -50,44 +41,22 @@ made_statement r.RepeatStatement ms = v.Stmt (t.Repeat (span_of (first ms)) (exp
 made_statement r.ForeverStatement ms = v.Stmt (t.Forever (span_of (first ms)) (stmt_of (second ms)))
 made_statement r.EventControlStatement ms = v.Stmt (t.EventControl (span_of (first ms)) (event_control_of (second ms)) (stmt_of (third ms)))
 made_statement r.DelayControlStatement ms = v.Stmt (t.DelayControl (span_of (first ms)) (expr_of (second ms)) (stmt_of (third ms)))
-made_statement r.SystemTaskEnable ms = v.Stmt (t.SystemTaskEnable (identifier (token_of (first ms))) (arguments_of (second ms)))
+made_statement r.UnaryFunctionEnable ms = system_task ms
+made_statement r.SystemTaskEnable ms = system_task ms
 made_statement r.Assignment ms = v.Stmt (assigned (left_of (first ms)) (sign_of (second ms)) (expr_of (third ms)))
 made_statement r.Blocking ms = v.Sign (sg.Blocking (span_of (first ms)))
 made_statement r.Nonblocking ms = v.Sign (sg.Nonblocking (span_of (first ms)))
-made_statement r.NoStatement ms = v.Stmts []
 made_statement r.MoreStatements ms = v.Stmts (stmt_of (first ms) ∷ stmts_of (second ms))
-made_statement r.SomeElse ms = second ms
 made_statement r.CaseExact ms = case_keyword ck.Case ms
 made_statement r.CaseZ ms = case_keyword ck.Casez ms
 made_statement r.CaseX ms = case_keyword ck.Casex ms
 made_statement r.FirstCaseItem ms = v.CaseItems (case_item_of (first ms) ∷ case_items_of (second ms))
 made_statement r.FirstDefault ms = v.CaseItems (case_item_of (first ms) ∷ case_items_of (second ms))
-made_statement r.NoMoreCaseItem ms = v.CaseItems []
 made_statement r.NextCaseItem ms = v.CaseItems (case_item_of (first ms) ∷ case_items_of (second ms))
 made_statement r.NextDefault ms = v.CaseItems (case_item_of (first ms) ∷ case_items_of (second ms))
-made_statement r.NoLabelledItem ms = v.CaseItems []
 made_statement r.NextLabelledItem ms = v.CaseItems (case_item_of (first ms) ∷ case_items_of (second ms))
 made_statement r.LabelledCaseItem ms = v.CaseItem (roll-CaseItem (record { span = first_token (expr_of (first ms)); labels = expr_of (first ms) ∷ exprs_of (second ms); body = stmt_of (fourth ms) }))
 made_statement r.DefaultCaseItem ms = v.CaseItem (roll-CaseItem (record { span = span_of (first ms); labels = []; body = stmt_of (third ms) }))
-made_statement r.EventAny ms = v.EventControl ec.Implicit
-made_statement r.EventIdentifier ms = v.EventControl (ec.List (record { edge = ed.Any; name = identifier_of (first ms) } ∷ []))
-made_statement r.EventInParens ms = second ms
-made_statement r.EventAnyInParens ms = v.EventControl ec.Implicit
-made_statement r.EventList ms = v.EventControl (ec.List (event_of (first ms) ∷ events_of (second ms)))
-made_statement r.PosedgeEvent ms = edge_event ed.Posedge ms
-made_statement r.NegedgeEvent ms = edge_event ed.Negedge ms
-made_statement r.PlainEvent ms = v.Event (record { edge = ed.Any; name = identifier_of (first ms) })
-made_statement r.NoMoreEvent ms = v.Events []
-made_statement r.OrEvent ms = v.Events (event_of (second ms) ∷ events_of (third ms))
-made_statement r.CommaEvent ms = v.Events (event_of (second ms) ∷ events_of (third ms))
-made_statement r.NoTaskArguments ms = v.Arguments []
-made_statement r.SomeTaskArguments ms = second ms
-made_statement r.NoTaskArgument ms = v.Arguments []
-made_statement r.FirstTaskArgument ms = v.Arguments (argument_of (first ms) ∷ arguments_of (second ms))
-made_statement r.NoMoreTaskArgument ms = v.Arguments []
-made_statement r.NextTaskArgument ms = v.Arguments (argument_of (second ms) ∷ arguments_of (third ms))
-made_statement r.StringArgument ms = v.Argument (ar.String (string (token_of (first ms))) (span_of (first ms)))
-made_statement r.ExpressionArgument ms = v.Argument (ar.Expr (expr_of (first ms)))
 made_statement r.DelayName ms = v.Expr (e.Name (identifier_of (first ms)))
 made_statement r.DelayExpression ms = v.Expr (e.Parenthesized (span_of (first ms)) (expr_of (second ms)))
-made_statement rule ms = made_expression rule ms
+made_statement rule ms = made_event rule ms

@@ -1,14 +1,16 @@
 //! From the steps of a reading to the modules of its trees, from the last step to the first.
 //!
 //! `values` holds what the steps behind the one at hand mean, the nearest on top: a token pushes itself, and a
-//! production puts what it means in the place of its parts.
-ghost use Rattle.std.specs.Prelude.{◌≡◌, ◌∷◌, IfOk, OnOk, length, take, drop};
+//! production puts what it means in the place of its parts. Each part is of the sort of its kind.
+ghost use Rattle.std.specs.Prelude.{◌≡◌, ◌∷◌, true, List, IfOk, OnOk, length, take, drop};
 ghost use Rattle.vlog_grammar.specs.Grammar.{parts_of};
-ghost use Rattle.vlog_grammar.specs.Reading.{IsText};
+ghost use Rattle.vlog_grammar.specs.Reading.{AreStepsOf, IsText};
 ghost use Rattle.vlog_grammar.specs.Trees.{Trees, steps_of};
+ghost use Rattle.vlog_grammar.specs.declared.step.Token.{Token as Classed};
+ghost use Rattle.vlog_trees.specs.Kinds.{sorted};
 ghost use Rattle.vlog_trees.specs.Meaning.{leaf, made, modules, run};
 
-use crate::modules::make_module;
+use crate::expressions::make_expression;
 use std::alloc::{AllocError, Global};
 use vlog_grammar::{Rule, Step, Token as Classed, parts_of};
 use vlog_parts::{Stack, Value};
@@ -21,6 +23,7 @@ pub fn build_modules(
     tokens: &[Token<'_>],
     steps: &[Step],
 ) -> Result<Vec<Module>, AllocError>
+    requires { (read : List Classed) × AreStepsOf steps.now read }
     ensures { IfOk result (λ ms. (text : Trees) → IsText text → steps_of text ≡ steps.now → ms.items ≡ modules tokens.now text) }
 {
     let mut values = build(alloc, tokens, steps)?;
@@ -41,11 +44,16 @@ fn leaf<'a>(tokens: &[Token<'a>], token: Classed) -> Value<'a>
 /// Puts what the production means in the place of its parts.
 #[tactic(auto, unfolding(crate::specs::Meaning::made))]
 fn apply<'a>(alloc: Global, rule: Rule, values: &mut Stack<Value<'a>>) -> Result<(), AllocError>
+    requires { sorted rule (take (length (parts_of rule)) values.old) ≡ true }
     ensures { OnOk result (values.new ≡ made rule (take (length (parts_of rule)) values.old) ∷ drop (length (parts_of rule)) values.old) }
 {
-    let mut parts = values.pop_many(parts_of(rule).len())?;
-    let value = make_module(alloc, rule, &mut parts)?;
-    values.push(value)?;
+    let count = parts_of(rule).len();
+    if count == 0 {
+        values.push(Value::Nothing)?;
+    } else {
+        let mut parts = values.pop_many(count)?;
+        values.push(make_expression(alloc, rule, &mut parts)?)?;
+    }
     Ok(())
 }
 
@@ -55,6 +63,7 @@ fn build<'a>(
     tokens: &[Token<'a>],
     steps: &[Step],
 ) -> Result<Stack<Value<'a>>, AllocError>
+    requires { (read : List Classed) × AreStepsOf steps.now read }
     ensures { IfOk result (λ values. values ≡ run tokens.now steps.now) }
 {
     let mut values = Stack::new(alloc);

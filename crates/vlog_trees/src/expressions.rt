@@ -1,57 +1,65 @@
 //! Expressions, from their parts (IEEE 1364-2005, A.8).
-#![tactic(auto, unfolding(crate::specs::Expressions::made_expression))]
+#![tactic(auto, unfolding(crate::specs::Expressions::made_expression, crate::specs::Kinds::is_of_kind, vlog_grammar::specs::Grammar::production))]
 
-ghost use Rattle.std.specs.Prelude.{◌≡◌, ◌∷◌, IfOk};
+ghost use Rattle.std.specs.Prelude.{◌≡◌, ◌∷◌, true, IfOk};
 ghost use Rattle.vlog_syntax.specs.declared.expr.Expr.TheVariants as e;
 ghost use Rattle.vlog_grammar.specs.declared.rule.Rule.TheVariants as r;
 ghost use Rattle.vlog_parts.specs.Sorts as v;
-ghost use Rattle.vlog_parts.specs.Values.{first, rest, second, third, span_of, token_of, expr_of, exprs_of};
+ghost use Rattle.vlog_parts.specs.Values.{first, rest, second, third, span_of, token_of, expr_of, exprs_of, is_expr};
 ghost use Rattle.vlog_parts.specs.Leaves.{identifier, number};
 ghost use Rattle.vlog_trees.specs.Expressions as spec;
+ghost use Rattle.vlog_trees.specs.Kinds.{sorted};
+ghost use Rattle.vlog_trees.specs.Passed.{made_passed};
 
+use crate::node::{boxed_branches, boxed_expr, boxed_part};
 use crate::selects::{
     indexed_part_select, left_concatenation, left_name, next_left_side, part_select, some_select,
 };
+use crate::statements::make_statement;
 use mcy_base::Span;
 use std::alloc::{AllocError, Global};
 use vlog_grammar::Rule;
 use vlog_parts::{
-    BraceEnd, Branches, ExpressionValue, Link, Parts, Select, SelectEnd, Stack, Value, identifier,
+    BraceEnd, Branches, ExpressionPart, Link, Parts, Select, SelectEnd, Stack, Value, identifier,
     number,
 };
 use vlog_syntax::{BinaryOperator, Boxed, Expr, Identifier, UnaryOperator};
 
 #[tactic(auto, using(crate::proofs::Chains::chained_none, crate::proofs::Chains::chained_more))]
 /// Operators of one precedence, to the left.
-fn chained(alloc: Global, operand: Expr, chain: Stack<Link>) -> Result<Expr, AllocError>
+fn chained(
+    alloc: Global,
+    operand: Boxed<Expr>,
+    chain: Stack<Link>,
+) -> Result<Boxed<Expr>, AllocError>
     ensures { IfOk result (λ e. e ≡ spec.chained operand chain) }
 {
     let mut left = operand;
     let mut chain = chain;
     while let Some(link) = chain.pop() {
-        left = Expr::Binary(
-            link.span,
-            link.operator,
-            Boxed::new(alloc, left)?,
-            Boxed::new(alloc, link.right)?,
-        );
+        left = Boxed::new(
+            alloc,
+            Expr::Binary(link.span, link.operator, left, link.right),
+        )?;
     }
     Ok(left)
 }
 
 /// An operand with what stands behind it: operators of one precedence, or the branches of a condition.
 #[tactic(auto, unfolding(crate::specs::Expressions::extended))]
-fn extended(alloc: Global, operand: Expr, value: Value<'_>) -> Result<Expr, AllocError>
+fn extended(
+    alloc: Global,
+    operand: Boxed<Expr>,
+    value: Value<'_>,
+) -> Result<Boxed<Expr>, AllocError>
     ensures { IfOk result (λ e. e ≡ spec.extended operand value.entry) }
 {
     match value {
-        Value::Expression(ExpressionValue::Chain(chain)) => Ok(chained(alloc, operand, chain)?),
-        Value::Expression(ExpressionValue::Branches(branches)) => Ok(Expr::Conditional(
-            branches.span,
-            Boxed::new(alloc, operand)?,
-            Boxed::new(alloc, branches.yes)?,
-            Boxed::new(alloc, branches.no)?,
-        )),
+        Value::Chain(chain) => chained(alloc, operand, chain),
+        Value::Branches(branches) => {
+            let Branches { span, yes, no } = branches.into_inner();
+            Boxed::new(alloc, Expr::Conditional(span, operand, yes, no))
+        }
         other => {
             drop(other);
             Ok(operand)
@@ -62,13 +70,14 @@ fn extended(alloc: Global, operand: Expr, value: Value<'_>) -> Result<Expr, Allo
 #[tactic(auto, using(crate::proofs::Chains::operated_none, crate::proofs::Chains::operated_more))]
 /// An operand with all that stands behind it.
 fn operated<'a>(alloc: Global, parts: &mut Parts<'a>) -> Result<Value<'a>, AllocError>
+    requires { is_expr (first parts.old) ≡ true }
     ensures { IfOk result (λ x. x ≡ v.Expr (spec.operated (expr_of (first parts.old)) (rest parts.old))) }
 {
-    let mut operand = parts.expr(alloc);
+    let mut operand = parts.expr();
     while let Some(value) = parts.pop() {
         operand = extended(alloc, operand, value)?;
     }
-    Ok(Value::Expression(ExpressionValue::Expr(operand)))
+    Ok(Value::Expr(operand))
 }
 
 #[tactic(auto, using(crate::proofs::Chains::linked_more, crate::proofs::Chains::linked_last, crate::proofs::Chains::rest_shorter))]
@@ -78,51 +87,46 @@ fn link<'a>(
     operator: BinaryOperator,
     parts: &mut Parts<'a>,
 ) -> Result<Value<'a>, AllocError>
-    ensures { IfOk result (λ v. v ≡ spec.link operator parts.old) }
+    requires { is_expr (second parts.old) ≡ true }
+    ensures { IfOk result (λ x. x ≡ spec.link operator parts.old) }
 {
     let span = parts.span();
-    let mut right = parts.expr(alloc);
+    let mut right = parts.expr();
     while parts.len() > 1 {
         right = extended(alloc, right, parts.next())?;
     }
-    let mut chain = parts.chain(alloc);
-    chain.push(Link {
+    let chain = parts.chain(alloc).with(Link {
         span,
         operator,
         right,
     })?;
-    Ok(Value::Expression(ExpressionValue::Chain(chain)))
+    Ok(Value::Chain(chain))
 }
 
 /// An operator before its operand.
-fn unary<'a>(
-    alloc: Global,
-    operator: UnaryOperator,
-    parts: &mut Parts<'a>,
-) -> Result<Value<'a>, AllocError>
-    ensures { IfOk result (λ v. v ≡ spec.unary operator parts.old) }
+#[tactic(auto)]
+fn unary(operator: UnaryOperator, parts: &mut Parts<'_>) -> Expr
+    requires { is_expr (second parts.old) ≡ true }
+    ensures { v.Expr result ≡ spec.unary operator parts.old }
 {
     let span = parts.span();
-    let operand = parts.expr(alloc);
-    Ok(Value::Expression(ExpressionValue::Expr(Expr::Unary(
-        span,
-        operator,
-        Boxed::new(alloc, operand)?,
-    ))))
+    Expr::Unary(span, operator, parts.expr())
 }
 
 /// The branches of a condition.
-fn branches<'a>(alloc: Global, parts: &mut Parts<'a>) -> Value<'a>
-    ensures { result ≡ spec.made_expression r.SomeCondition parts.old }
+fn branches(parts: &mut Parts<'_>) -> Branches
+    requires { sorted r.SomeCondition parts.old ≡ true }
+    ensures { v.Branches result ≡ spec.made_expression r.SomeCondition parts.old }
 {
     let span = parts.span();
-    let yes = parts.expr(alloc);
+    let yes = parts.expr();
     parts.skip();
-    let no = parts.expr(alloc);
-    Value::Expression(ExpressionValue::Branches(Branches { span, yes, no }))
+    let no = parts.expr();
+    Branches { span, yes, no }
 }
 
 /// An identifier.
+#[tactic(auto)]
 fn name<'a>(alloc: Global, parts: &mut Parts<'a>) -> Result<Value<'a>, AllocError>
     ensures { IfOk result (λ x. x ≡ v.Identifier (identifier (token_of (first parts.old)))) }
 {
@@ -131,126 +135,161 @@ fn name<'a>(alloc: Global, parts: &mut Parts<'a>) -> Result<Value<'a>, AllocErro
 }
 
 /// An expression behind a `,` or `(`, and those behind it.
+#[tactic(auto)]
 fn next_expression<'a>(alloc: Global, parts: &mut Parts<'a>) -> Result<Value<'a>, AllocError>
+    requires { is_expr (second parts.old) ≡ true }
     ensures { IfOk result (λ x. x ≡ v.Exprs (expr_of (second parts.old) ∷ exprs_of (third parts.old))) }
 {
     parts.skip();
-    let expr = parts.expr(alloc);
-    let mut exprs = parts.exprs(alloc);
-    exprs.push(expr)?;
-    Ok(Value::Expression(ExpressionValue::Exprs(exprs)))
+    let expr = parts.expr().into_inner();
+    let exprs = parts.exprs(alloc).with(expr)?;
+    Ok(Value::Exprs(exprs))
 }
 
 /// A name or a select of it, in an expression.
 #[tactic(auto, unfolding(crate::specs::Expressions::selected))]
-fn selected(alloc: Global, name: Identifier, select: Option<Select>) -> Result<Expr, AllocError>
-    ensures { IfOk result (λ e. e ≡ spec.selected name select) }
+fn selected(name: Identifier, select: Option<Select>) -> Expr
+    ensures { result ≡ spec.selected name select }
 {
     match select {
-        None => Ok(Expr::Name(name)),
-        Some(Select::Bit(span, index)) => {
-            Ok(Expr::BitSelect(name, span, Boxed::new(alloc, index)?))
+        None => Expr::Name(name),
+        Some(Select::Bit(span, index)) => Expr::BitSelect(name, span, index),
+        Some(Select::Part(span, msb, lsb)) => Expr::PartSelect(name, span, msb, lsb),
+        Some(Select::Indexed(span, base, width)) => {
+            Expr::IndexedPartSelect(name, span, base, width)
         }
-        Some(Select::Part(span, msb, lsb)) => Ok(Expr::PartSelect(
-            name,
-            span,
-            Boxed::new(alloc, msb)?,
-            Boxed::new(alloc, lsb)?,
-        )),
-        Some(Select::Indexed(span, base, width)) => Ok(Expr::IndexedPartSelect(
-            name,
-            span,
-            Boxed::new(alloc, base)?,
-            Boxed::new(alloc, width)?,
-        )),
     }
 }
 
 /// A name or a select of it.
-fn name_operand<'a>(alloc: Global, parts: &mut Parts<'a>) -> Result<Value<'a>, AllocError>
-    ensures { IfOk result (λ v. v ≡ spec.made_expression r.NameOperand parts.old) }
+fn name_operand(parts: &mut Parts<'_>) -> Expr
+    requires { sorted r.NameOperand parts.old ≡ true }
+    ensures { v.Expr result ≡ spec.made_expression r.NameOperand parts.old }
 {
-    let name = parts.identifier(alloc);
+    let name = parts.identifier();
     let select = parts.select();
-    Ok(Value::Expression(ExpressionValue::Expr(selected(alloc, name, select)?)))
+    selected(name, select)
 }
 
 /// A call of a system function.
 fn system_function_call<'a>(alloc: Global, parts: &mut Parts<'a>) -> Result<Value<'a>, AllocError>
-    ensures { IfOk result (λ v. v ≡ spec.made_expression r.SystemFunctionCall parts.old) }
+    ensures { IfOk result (λ x. x ≡ spec.made_expression r.SystemFunctionCall parts.old) }
 {
     let name = identifier(alloc, parts.token())?;
     let arguments = parts.exprs(alloc);
-    Ok(Value::Expression(ExpressionValue::Expr(Expr::SystemFunctionCall(
-        name,
-        arguments.into_listed(),
-    ))))
+    boxed_expr(
+        alloc,
+        Expr::SystemFunctionCall(name, arguments.into_listed()),
+    )
+}
+
+/// A call of a system function of one argument.
+fn unary_function_call<'a>(alloc: Global, parts: &mut Parts<'a>) -> Result<Value<'a>, AllocError>
+    requires { sorted r.UnaryFunctionCall parts.old ≡ true }
+    ensures { IfOk result (λ x. x ≡ spec.made_expression r.UnaryFunctionCall parts.old) }
+{
+    let name = identifier(alloc, parts.token())?;
+    parts.skip();
+    let argument = parts.expr().into_inner();
+    let (arguments, name) = Stack::new(alloc).with_beside(argument, name)?;
+    boxed_expr(
+        alloc,
+        Expr::SystemFunctionCall(name, arguments.into_listed()),
+    )
 }
 
 /// An expression in parentheses.
-fn parenthesized<'a>(alloc: Global, parts: &mut Parts<'a>) -> Result<Value<'a>, AllocError>
-    ensures { IfOk result (λ x. x ≡ v.Expr (e.Parenthesized (span_of (first parts.old)) (expr_of (second parts.old)))) }
+#[tactic(auto)]
+pub fn parenthesized(parts: &mut Parts<'_>) -> Expr
+    requires { is_expr (second parts.old) ≡ true }
+    ensures { result ≡ e.Parenthesized (span_of (first parts.old)) (expr_of (second parts.old)) }
 {
     let span = parts.span();
-    let inner = parts.expr(alloc);
-    Ok(Value::Expression(ExpressionValue::Expr(Expr::Parenthesized(
-        span,
-        Boxed::new(alloc, inner)?,
-    ))))
+    Expr::Parenthesized(span, parts.expr())
 }
 
 /// What stands in braces.
 #[tactic(auto, unfolding(crate::specs::Expressions::braced))]
-fn braced(alloc: Global, span: Span, expr: Expr, end: BraceEnd) -> Result<Expr, AllocError>
+fn braced(span: Span, expr: Boxed<Expr>, end: BraceEnd) -> Result<Expr, AllocError>
     ensures { IfOk result (λ e. e ≡ spec.braced span expr end) }
 {
     match end {
-        BraceEnd::Concatenation(mut others) => {
-            others.push(expr)?;
-            Ok(Expr::Concatenation(span, others.into_listed()))
+        BraceEnd::Concatenation(others) => {
+            let all = others.with(expr.into_inner())?;
+            Ok(Expr::Concatenation(span, all.into_listed()))
         }
-        BraceEnd::Replication(parts) => Ok(Expr::MultipleConcatenation(
-            span,
-            Boxed::new(alloc, expr)?,
-            parts.into_listed(),
-        )),
+        BraceEnd::Replication(parts) => {
+            Ok(Expr::MultipleConcatenation(span, expr, parts.into_listed()))
+        }
     }
 }
 
 /// A concatenation or a replication.
 fn braces<'a>(alloc: Global, parts: &mut Parts<'a>) -> Result<Value<'a>, AllocError>
-    ensures { IfOk result (λ v. v ≡ spec.made_expression r.Braces parts.old) }
+    requires { sorted r.Braces parts.old ≡ true }
+    ensures { IfOk result (λ x. x ≡ spec.made_expression r.Braces parts.old) }
 {
     let span = parts.span();
-    let expr = parts.expr(alloc);
-    let end = parts.brace_end(alloc);
-    Ok(Value::Expression(ExpressionValue::Expr(braced(alloc, span, expr, end)?)))
-}
-
-/// The end of a concatenation.
-fn concatenation<'a>(alloc: Global, parts: &mut Parts<'a>) -> Value<'a>
-    ensures { result ≡ spec.made_expression r.Concatenation parts.old }
-{
-    Value::Expression(ExpressionValue::BraceEnd(BraceEnd::Concatenation(parts.exprs(alloc))))
+    let expr = parts.expr();
+    let end = parts.brace_end();
+    boxed_expr(alloc, braced(span, expr, end)?)
 }
 
 /// The end of a replication.
 fn replication<'a>(alloc: Global, parts: &mut Parts<'a>) -> Result<Value<'a>, AllocError>
-    ensures { IfOk result (λ v. v ≡ spec.made_expression r.Replication parts.old) }
+    requires { sorted r.Replication parts.old ≡ true }
+    ensures { IfOk result (λ x. x ≡ spec.made_expression r.Replication parts.old) }
 {
     parts.skip();
-    let expr = parts.expr(alloc);
-    let mut exprs = parts.exprs(alloc);
-    exprs.push(expr)?;
-    Ok(Value::Expression(ExpressionValue::BraceEnd(BraceEnd::Replication(exprs))))
+    let expr = parts.expr().into_inner();
+    let exprs = parts.exprs(alloc).with(expr)?;
+    boxed_part(
+        alloc,
+        ExpressionPart::BraceEnd(BraceEnd::Replication(exprs)),
+    )
 }
 
 /// A number.
-fn number_operand<'a>(alloc: Global, parts: &mut Parts<'a>) -> Value<'a>
-    ensures { result ≡ v.Expr (number (token_of (first parts.old))) }
+#[tactic(auto)]
+fn number_operand(alloc: Global, parts: &mut Parts<'_>) -> Expr
+    ensures { result ≡ number (token_of (first parts.old)) }
 {
     let token = parts.token();
-    Value::Expression(ExpressionValue::Expr(number(alloc, token)))
+    number(alloc, token)
+}
+
+/// What a production means that means what one of its parts means.
+#[tactic(auto, unfolding(crate::specs::Passed::made_passed, crate::specs::Kinds::is_of_kind, vlog_grammar::specs::Grammar::production))]
+#[inline(never)]
+fn make_passed<'a>(
+    alloc: Global,
+    rule: Rule,
+    parts: &mut Parts<'a>,
+) -> Result<Value<'a>, AllocError>
+    requires { sorted rule parts.old ≡ true }
+    ensures { IfOk result (λ x. x ≡ made_passed rule parts.old) }
+{
+    match rule {
+        Rule::ImplicitNet | Rule::ModuleOrGenerateItem | Rule::SomeGenerate => Ok(parts.next()),
+        Rule::StatementWithAttributes
+        | Rule::SomeElse
+        | Rule::EventInParens
+        | Rule::SomeTaskArguments
+        | Rule::ExplicitNet
+        | Rule::SomeInitialValue
+        | Rule::GenerateOneItem
+        | Rule::SomeGenerateElse
+        | Rule::SomeBlockName
+        | Rule::SomePortList
+        | Rule::AnsiPortDeclaration
+        | Rule::NextNetPort
+        | Rule::NextVariablePort => Ok(parts.inner()),
+        Rule::SomeParameterValues => {
+            parts.skip();
+            Ok(parts.inner())
+        }
+        _ => make_statement(alloc, rule, parts),
+    }
 }
 
 /// What a production of expressions or left sides means.
@@ -259,36 +298,25 @@ pub fn make_expression<'a>(
     rule: Rule,
     parts: &mut Parts<'a>,
 ) -> Result<Value<'a>, AllocError>
-    ensures { IfOk result (λ v. v ≡ spec.made_expression rule parts.old) }
+    requires { sorted rule parts.old ≡ true }
+    ensures { IfOk result (λ x. x ≡ spec.made_expression rule parts.old) }
 {
     match rule {
         Rule::PlainIdentifier => name(alloc, parts),
         Rule::SystemVerilogIdentifier => name(alloc, parts),
         Rule::SomeExpression => Ok(parts.next()),
-        Rule::NoMoreExpression => Ok(Value::Expression(ExpressionValue::Exprs(Stack::new(alloc)))),
         Rule::NextExpression => next_expression(alloc, parts),
-        Rule::LeftName => Ok(left_name(alloc, parts)),
+        Rule::LeftName => boxed_part(alloc, ExpressionPart::LeftSide(left_name(parts))),
         Rule::LeftConcatenation => left_concatenation(alloc, parts),
-        Rule::NoMoreLeftSide => Ok(Value::Expression(ExpressionValue::LeftSides(Stack::new(
-            alloc,
-        )))),
         Rule::NextLeftSide => next_left_side(alloc, parts),
-        Rule::SomeSelect => Ok(some_select(alloc, parts)),
-        Rule::BitSelect => Ok(Value::Expression(ExpressionValue::SelectEnd(SelectEnd::Bit))),
-        Rule::PartSelect => Ok(part_select(alloc, parts)),
-        Rule::IndexedPartSelect => Ok(indexed_part_select(alloc, parts)),
+        Rule::SomeSelect => boxed_part(alloc, ExpressionPart::Select(some_select(parts))),
+        Rule::BitSelect => boxed_part(alloc, ExpressionPart::SelectEnd(SelectEnd::Bit)),
+        Rule::PartSelect => boxed_part(alloc, ExpressionPart::SelectEnd(part_select(parts))),
+        Rule::IndexedPartSelect => boxed_part(
+            alloc,
+            ExpressionPart::SelectEnd(indexed_part_select(parts)),
+        ),
         Rule::OperandWithChains => operated(alloc, parts),
-        Rule::NoPower => Ok(Value::Expression(ExpressionValue::Chain(Stack::new(alloc)))),
-        Rule::NoProduct => Ok(Value::Expression(ExpressionValue::Chain(Stack::new(alloc)))),
-        Rule::NoSum => Ok(Value::Expression(ExpressionValue::Chain(Stack::new(alloc)))),
-        Rule::NoShift => Ok(Value::Expression(ExpressionValue::Chain(Stack::new(alloc)))),
-        Rule::NoRelation => Ok(Value::Expression(ExpressionValue::Chain(Stack::new(alloc)))),
-        Rule::NoEquality => Ok(Value::Expression(ExpressionValue::Chain(Stack::new(alloc)))),
-        Rule::NoAnd => Ok(Value::Expression(ExpressionValue::Chain(Stack::new(alloc)))),
-        Rule::NoXor => Ok(Value::Expression(ExpressionValue::Chain(Stack::new(alloc)))),
-        Rule::NoOr => Ok(Value::Expression(ExpressionValue::Chain(Stack::new(alloc)))),
-        Rule::NoLogicalAnd => Ok(Value::Expression(ExpressionValue::Chain(Stack::new(alloc)))),
-        Rule::NoLogicalOr => Ok(Value::Expression(ExpressionValue::Chain(Stack::new(alloc)))),
         Rule::Power => link(alloc, BinaryOperator::Power, parts),
         Rule::Times => link(alloc, BinaryOperator::Multiply, parts),
         Rule::Divide => link(alloc, BinaryOperator::Divide, parts),
@@ -313,29 +341,32 @@ pub fn make_expression<'a>(
         Rule::BitOr => link(alloc, BinaryOperator::BitwiseOr, parts),
         Rule::LogicalAnd => link(alloc, BinaryOperator::LogicalAnd, parts),
         Rule::LogicalOr => link(alloc, BinaryOperator::LogicalOr, parts),
-        Rule::SomeCondition => Ok(branches(alloc, parts)),
-        Rule::UnaryPlus => unary(alloc, UnaryOperator::Plus, parts),
-        Rule::UnaryMinus => unary(alloc, UnaryOperator::Minus, parts),
-        Rule::LogicalNot => unary(alloc, UnaryOperator::LogicalNot, parts),
-        Rule::BitNot => unary(alloc, UnaryOperator::BitwiseNot, parts),
-        Rule::ReductionAnd => unary(alloc, UnaryOperator::ReductionAnd, parts),
-        Rule::ReductionNand => unary(alloc, UnaryOperator::ReductionNand, parts),
-        Rule::ReductionOr => unary(alloc, UnaryOperator::ReductionOr, parts),
-        Rule::ReductionNor => unary(alloc, UnaryOperator::ReductionNor, parts),
-        Rule::ReductionXor => unary(alloc, UnaryOperator::ReductionXor, parts),
-        Rule::ReductionXnor => unary(alloc, UnaryOperator::ReductionXnor, parts),
-        Rule::NumberOperand => Ok(number_operand(alloc, parts)),
-        Rule::DelayNumber => Ok(number_operand(alloc, parts)),
-        Rule::NameOperand => name_operand(alloc, parts),
+        Rule::SomeCondition => boxed_branches(alloc, branches(parts)),
+        Rule::UnaryPlus => boxed_expr(alloc, unary(UnaryOperator::Plus, parts)),
+        Rule::UnaryMinus => boxed_expr(alloc, unary(UnaryOperator::Minus, parts)),
+        Rule::LogicalNot => boxed_expr(alloc, unary(UnaryOperator::LogicalNot, parts)),
+        Rule::BitNot => boxed_expr(alloc, unary(UnaryOperator::BitwiseNot, parts)),
+        Rule::ReductionAnd => boxed_expr(alloc, unary(UnaryOperator::ReductionAnd, parts)),
+        Rule::ReductionNand => boxed_expr(alloc, unary(UnaryOperator::ReductionNand, parts)),
+        Rule::ReductionOr => boxed_expr(alloc, unary(UnaryOperator::ReductionOr, parts)),
+        Rule::ReductionNor => boxed_expr(alloc, unary(UnaryOperator::ReductionNor, parts)),
+        Rule::ReductionXor => boxed_expr(alloc, unary(UnaryOperator::ReductionXor, parts)),
+        Rule::ReductionXnor => boxed_expr(alloc, unary(UnaryOperator::ReductionXnor, parts)),
+        Rule::NumberOperand => boxed_expr(alloc, number_operand(alloc, parts)),
+        Rule::DelayNumber => boxed_expr(alloc, number_operand(alloc, parts)),
+        Rule::NameOperand => boxed_expr(alloc, name_operand(parts)),
         Rule::SystemFunctionCall => system_function_call(alloc, parts),
-        Rule::Parenthesized => parenthesized(alloc, parts),
+        Rule::UnaryFunctionCall => unary_function_call(alloc, parts),
+        Rule::Parenthesized => boxed_expr(alloc, parenthesized(parts)),
         Rule::Braces => braces(alloc, parts),
-        Rule::NoFunctionArguments => Ok(Value::Expression(ExpressionValue::Exprs(Stack::new(
-            alloc,
-        )))),
         Rule::SomeFunctionArguments => next_expression(alloc, parts),
-        Rule::Concatenation => Ok(concatenation(alloc, parts)),
+        Rule::Concatenation => {
+            boxed_part(
+                alloc,
+                ExpressionPart::BraceEnd(BraceEnd::Concatenation(parts.exprs(alloc))),
+            )
+        }
         Rule::Replication => replication(alloc, parts),
-        _ => Ok(Value::Nothing),
+        _ => make_passed(alloc, rule, parts),
     }
 }

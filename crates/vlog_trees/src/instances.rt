@@ -1,52 +1,54 @@
 //! Instances, from their parts (IEEE 1364-2005, A.4.1).
-#![tactic(auto, unfolding(crate::specs::Items::made_item))]
+#![tactic(auto, unfolding(crate::specs::Items::made_item, crate::specs::Kinds::is_of_kind, vlog_grammar::specs::Grammar::production))]
 
-ghost use Rattle.std.specs.Prelude.{◌≡◌, IfOk};
+ghost use Rattle.std.specs.Prelude.{◌≡◌, true, IfOk};
 ghost use Rattle.vlog_grammar.specs.declared.rule.Rule.TheVariants as r;
+ghost use Rattle.vlog_parts.specs.Sorts as v;
+ghost use Rattle.vlog_parts.specs.Values.{first, rest, option_expr_of};
 ghost use Rattle.vlog_syntax.specs.declared.item.Connections.TheVariants as co;
 ghost use Rattle.vlog_trees.specs.Items as spec;
+ghost use Rattle.vlog_trees.specs.Kinds.{sorted};
 
-use crate::declarations::plain;
+use crate::node::{boxed_instance_part, boxed_plain};
 use std::alloc::{AllocError, Global};
-use vlog_parts::{ItemValue, Parts, Stack, Value, identifier};
+use vlog_parts::{InstancePart, Parts, Stack, Value, identifier};
 use vlog_syntax::{Connections, Expr, Instance, NamedConnection, ParameterValues, PlainItem};
 
 /// Parameters by name.
 pub fn named_parameters<'a>(alloc: Global, parts: &mut Parts<'a>) -> Result<Value<'a>, AllocError>
-    ensures { IfOk result (λ v. v ≡ spec.made_item r.NamedParameters parts.old) }
+    requires { sorted r.NamedParameters parts.old ≡ true }
+    ensures { IfOk result (λ x. x ≡ spec.made_item r.NamedParameters parts.old) }
 {
-    let first = parts.connection(alloc);
-    let mut others = parts.connections(alloc);
-    others.push(first)?;
-    Ok(Value::Item(ItemValue::ParameterValues(ParameterValues::Named(others.into_listed()))))
+    let first = parts.connection();
+    let all = parts.connections(alloc).with(first)?;
+    boxed_instance_part(
+        alloc,
+        InstancePart::ParameterValues(ParameterValues::Named(all.into_listed())),
+    )
 }
 
 /// Parameters by place.
 pub fn ordered_parameters<'a>(alloc: Global, parts: &mut Parts<'a>) -> Result<Value<'a>, AllocError>
-    ensures { IfOk result (λ v. v ≡ spec.made_item r.OrderedParameters parts.old) }
+    requires { sorted r.OrderedParameters parts.old ≡ true }
+    ensures { IfOk result (λ x. x ≡ spec.made_item r.OrderedParameters parts.old) }
 {
-    let first = parts.expr(alloc);
-    let mut others = parts.exprs(alloc);
-    others.push(first)?;
-    Ok(Value::Item(ItemValue::ParameterValues(ParameterValues::Ordered(others.into_listed()))))
-}
-
-/// The parameters of an instance.
-pub fn some_parameter_values<'a>(parts: &mut Parts<'a>) -> Value<'a>
-    ensures { result ≡ spec.made_item r.SomeParameterValues parts.old }
-{
-    parts.skip();
-    parts.inner()
+    let first = parts.expr().into_inner();
+    let all = parts.exprs(alloc).with(first)?;
+    boxed_instance_part(
+        alloc,
+        InstancePart::ParameterValues(ParameterValues::Ordered(all.into_listed())),
+    )
 }
 
 /// An instance.
-pub fn module_instance<'a>(alloc: Global, parts: &mut Parts<'a>) -> Value<'a>
-    ensures { result ≡ spec.made_item r.InstanceOfModule parts.old }
+pub fn module_instance<'a>(alloc: Global, parts: &mut Parts<'a>) -> Result<Value<'a>, AllocError>
+    requires { sorted r.InstanceOfModule parts.old ≡ true }
+    ensures { IfOk result (λ x. x ≡ spec.made_item r.InstanceOfModule parts.old) }
 {
-    let name = parts.identifier(alloc);
+    let name = parts.identifier();
     parts.skip();
-    let ports = parts.ports(alloc);
-    Value::Item(ItemValue::Instance(Instance { name, ports }))
+    let ports = parts.ports();
+    boxed_instance_part(alloc, InstancePart::Instance(Instance { name, ports }))
 }
 
 /// An instance behind a `,`, and those behind it.
@@ -54,23 +56,26 @@ pub fn next_module_instance<'a>(
     alloc: Global,
     parts: &mut Parts<'a>,
 ) -> Result<Value<'a>, AllocError>
-    ensures { IfOk result (λ v. v ≡ spec.made_item r.NextModuleInstance parts.old) }
+    requires { sorted r.NextModuleInstance parts.old ≡ true }
+    ensures { IfOk result (λ x. x ≡ spec.made_item r.NextModuleInstance parts.old) }
 {
     parts.skip();
-    let first = parts.instance(alloc);
-    let mut others = parts.instances(alloc);
-    others.push(first)?;
-    Ok(Value::Item(ItemValue::Instances(others)))
+    let first = parts.instance();
+    let all = parts.instances(alloc).with(first)?;
+    boxed_instance_part(alloc, InstancePart::Instances(all))
 }
 
 /// Ports by name.
 pub fn named_connections<'a>(alloc: Global, parts: &mut Parts<'a>) -> Result<Value<'a>, AllocError>
-    ensures { IfOk result (λ v. v ≡ spec.made_item r.NamedConnections parts.old) }
+    requires { sorted r.NamedConnections parts.old ≡ true }
+    ensures { IfOk result (λ x. x ≡ spec.made_item r.NamedConnections parts.old) }
 {
-    let first = parts.connection(alloc);
-    let mut others = parts.connections(alloc);
-    others.push(first)?;
-    Ok(Value::Item(ItemValue::Connections(Connections::Named(others.into_listed()))))
+    let first = parts.connection();
+    let all = parts.connections(alloc).with(first)?;
+    boxed_instance_part(
+        alloc,
+        InstancePart::Connections(Connections::Named(all.into_listed())),
+    )
 }
 
 /// Ports by place. One that is left empty, alone, is none.
@@ -85,27 +90,43 @@ fn placed(first: Option<Expr>, others: Stack<Option<Expr>>) -> Result<Connection
     Ok(Connections::Ordered(ports.into_listed()))
 }
 
+/// The next part, an expression where there is one.
+#[tactic(auto)]
+pub fn value(parts: &mut Parts<'_>) -> Option<Expr>
+    ensures value { result ≡ option_expr_of (first parts.old) }
+    ensures rest { parts.new ≡ rest parts.old }
+{
+    match parts.option_expr() {
+        Some(expr) => Some(expr.into_inner()),
+        None => None,
+    }
+}
+
 /// Ports by place.
 pub fn ordered_connections<'a>(
     alloc: Global,
     parts: &mut Parts<'a>,
 ) -> Result<Value<'a>, AllocError>
-    ensures { IfOk result (λ v. v ≡ spec.made_item r.OrderedConnections parts.old) }
+    ensures { IfOk result (λ x. x ≡ spec.made_item r.OrderedConnections parts.old) }
 {
-    let first = parts.option_expr();
+    let first = value(parts);
     let others = parts.ordered(alloc);
-    Ok(Value::Item(ItemValue::Connections(placed(first, others)?)))
+    boxed_instance_part(alloc, InstancePart::Connections(placed(first, others)?))
 }
 
 /// A port by its name.
-pub fn connection_by_name<'a>(alloc: Global, parts: &mut Parts<'a>) -> Value<'a>
-    ensures { result ≡ spec.made_item r.ConnectionByName parts.old }
+pub fn connection_by_name<'a>(alloc: Global, parts: &mut Parts<'a>) -> Result<Value<'a>, AllocError>
+    requires { sorted r.ConnectionByName parts.old ≡ true }
+    ensures { IfOk result (λ x. x ≡ spec.made_item r.ConnectionByName parts.old) }
 {
     parts.skip();
-    let name = parts.identifier(alloc);
+    let name = parts.identifier();
     parts.skip();
-    let value = parts.option_expr();
-    Value::Item(ItemValue::Connection(NamedConnection { name, value }))
+    let value = value(parts);
+    boxed_instance_part(
+        alloc,
+        InstancePart::Connection(NamedConnection { name, value }),
+    )
 }
 
 /// A port behind a `,`, and those behind it.
@@ -113,13 +134,13 @@ pub fn next_named_connection<'a>(
     alloc: Global,
     parts: &mut Parts<'a>,
 ) -> Result<Value<'a>, AllocError>
-    ensures { IfOk result (λ v. v ≡ spec.made_item r.NextNamedConnection parts.old) }
+    requires { sorted r.NextNamedConnection parts.old ≡ true }
+    ensures { IfOk result (λ x. x ≡ spec.made_item r.NextNamedConnection parts.old) }
 {
     parts.skip();
-    let first = parts.connection(alloc);
-    let mut others = parts.connections(alloc);
-    others.push(first)?;
-    Ok(Value::Item(ItemValue::NamedConnections(others)))
+    let first = parts.connection();
+    let all = parts.connections(alloc).with(first)?;
+    boxed_instance_part(alloc, InstancePart::NamedConnections(all))
 }
 
 /// A port behind a `,`, and those behind it.
@@ -127,13 +148,12 @@ pub fn next_ordered_connection<'a>(
     alloc: Global,
     parts: &mut Parts<'a>,
 ) -> Result<Value<'a>, AllocError>
-    ensures { IfOk result (λ v. v ≡ spec.made_item r.NextOrderedConnection parts.old) }
+    ensures { IfOk result (λ x. x ≡ spec.made_item r.NextOrderedConnection parts.old) }
 {
     parts.skip();
-    let first = parts.option_expr();
-    let mut others = parts.ordered(alloc);
-    others.push(first)?;
-    Ok(Value::Item(ItemValue::OrderedConnections(others)))
+    let first = value(parts);
+    let all = parts.ordered(alloc).with(first)?;
+    boxed_instance_part(alloc, InstancePart::OrderedConnections(all))
 }
 
 /// Instances of a module.
@@ -141,12 +161,17 @@ pub fn module_instantiation<'a>(
     alloc: Global,
     parts: &mut Parts<'a>,
 ) -> Result<Value<'a>, AllocError>
-    ensures { IfOk result (λ v. v ≡ spec.made_item r.ModuleInstantiation parts.old) }
+    requires { sorted r.ModuleInstantiation parts.old ≡ true }
+    ensures { IfOk result (λ x. x ≡ spec.made_item r.ModuleInstantiation parts.old) }
 {
     let module = identifier(alloc, parts.token())?;
     let parameters = parts.parameter_values(alloc);
-    let first = parts.instance(alloc);
-    let mut instances = parts.instances(alloc);
-    instances.push(first)?;
-    Ok(plain(PlainItem::ModuleInstantiation(module, parameters, instances.into_listed())))
+    let first = parts.instance();
+    let (instances, (module, parameters)) = parts
+        .instances(alloc)
+        .with_beside(first, (module, parameters))?;
+    boxed_plain(
+        alloc,
+        PlainItem::ModuleInstantiation(module, parameters, instances.into_listed()),
+    )
 }

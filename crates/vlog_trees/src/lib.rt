@@ -12,6 +12,7 @@ mod expressions;
 mod instances;
 mod items;
 mod modules;
+mod node;
 mod selects;
 mod statements;
 

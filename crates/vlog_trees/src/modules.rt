@@ -1,22 +1,59 @@
 //! Modules, from their parts (IEEE 1364-2005, A.1).
-#![tactic(auto, unfolding(crate::specs::Modules::made_module))]
+#![tactic(auto, unfolding(crate::specs::Modules::made_module, crate::specs::Kinds::is_of_kind, vlog_grammar::specs::Grammar::production))]
 
-ghost use Rattle.std.specs.Prelude.{◌≡◌, [], IfOk};
+ghost use Rattle.std.specs.Prelude.{◌≡◌, [], true, IfOk};
 ghost use Rattle.vlog_grammar.specs.declared.rule.Rule.TheVariants as r;
 ghost use Rattle.vlog_parts.specs.Sorts as v;
-ghost use Rattle.vlog_parts.specs.Values.{first, declarations_of};
+ghost use Rattle.vlog_parts.specs.declared.module_parts.ParameterPort.TheVariants as pp;
+ghost use Rattle.vlog_parts.specs.Values.{first, declarations_of, is_declared};
+ghost use Rattle.vlog_trees.specs.Kinds.{sorted};
 ghost use Rattle.vlog_trees.specs.Modules as spec;
 
-use crate::items::make_item;
+use crate::node::{boxed_head_part, boxed_module_part};
+use mcy_base::Span;
 use std::alloc::{AllocError, Global};
 use vlog_grammar::Rule;
 use vlog_parts::{
-    ModuleValue, MoreParameters, MorePorts, OutputPorts, ParameterPort, Parts, Stack, Value,
-    no_more_parameters, no_more_ports, no_ports,
+    HeadPart, ModulePart, MoreParameters, MorePorts, OutputPorts, ParameterPort, Parts, Stack,
+    Value,
 };
 use vlog_syntax::{
-    DataType, Direction, Module, ParameterDeclaration, ParameterKind, PortDeclaration, Ports,
+    DataType, Direction, Module, ParameterAssignment, ParameterDeclaration, ParameterKind,
+    ParameterType, PortDeclaration, Ports,
 };
+
+/// A parameter in front of those behind it, of its type.
+#[tactic(auto, unfolding(crate::specs::Modules::joined))]
+fn joined_next(
+    assignment: ParameterAssignment,
+    more: MoreParameters,
+) -> Result<MoreParameters, AllocError>
+    ensures { IfOk result (λ m. m ≡ spec.joined (pp.Next assignment) more) }
+{
+    let MoreParameters { same, others } = more;
+    let (same, others) = same.with_beside(assignment, others)?;
+    Ok(MoreParameters { same, others })
+}
+
+/// A parameter with its type, in front of those behind it.
+#[tactic(auto, unfolding(crate::specs::Modules::joined))]
+fn joined_first(
+    span: Span,
+    data_type: ParameterType,
+    assignment: ParameterAssignment,
+    more: MoreParameters,
+) -> Result<Stack<ParameterDeclaration>, AllocError>
+    ensures { IfOk result (λ l. l ≡ (spec.joined (pp.First span data_type assignment) more).others) }
+{
+    let MoreParameters { same, others } = more;
+    let (same, (others, data_type)) = same.with_beside(assignment, (others, data_type))?;
+    others.with(ParameterDeclaration {
+        span,
+        kind: ParameterKind::Parameter,
+        data_type,
+        assignments: same.into_listed(),
+    })
+}
 
 /// A parameter in front of those behind it.
 #[tactic(auto, unfolding(crate::specs::Modules::joined))]
@@ -27,23 +64,10 @@ fn joined(
 ) -> Result<MoreParameters, AllocError>
     ensures { IfOk result (λ m. m ≡ spec.joined port more) }
 {
-    let MoreParameters {
-        mut same,
-        mut others,
-    } = more;
     match port {
-        ParameterPort::Next(assignment) => {
-            same.push(assignment)?;
-            Ok(MoreParameters { same, others })
-        }
+        ParameterPort::Next(assignment) => joined_next(assignment, more),
         ParameterPort::First(span, data_type, assignment) => {
-            same.push(assignment)?;
-            others.push(ParameterDeclaration {
-                span,
-                kind: ParameterKind::Parameter,
-                data_type,
-                assignments: same.into_listed(),
-            })?;
+            let others = joined_first(span, data_type, assignment, more)?;
             Ok(MoreParameters {
                 same: Stack::new(alloc),
                 others,
@@ -54,234 +78,282 @@ fn joined(
 
 /// The parameters of a module.
 fn parameter_port_list<'a>(alloc: Global, parts: &mut Parts<'a>) -> Result<Value<'a>, AllocError>
-    ensures { IfOk result (λ v. v ≡ spec.made_module r.ParameterPortList parts.old) }
+    requires { sorted r.ParameterPortList parts.old ≡ true }
+    ensures { IfOk result (λ x. x ≡ spec.made_module r.ParameterPortList parts.old) }
 {
     parts.skip();
     parts.skip();
     let span = parts.span();
     let data_type = parts.parameter_type();
-    let first = parts.parameter(alloc);
+    let first = parts.parameter();
     let more = parts.more_parameters(alloc);
-    let all = joined(alloc, ParameterPort::First(span, data_type, first), more)?;
-    Ok(Value::Module(ModuleValue::ParameterDeclarations(all.others)))
+    let all = joined_first(span, data_type, first, more)?;
+    boxed_head_part(alloc, HeadPart::ParameterDeclarations(all))
 }
 
 /// A parameter behind a `,`, and those behind it.
 fn next_parameter_port<'a>(alloc: Global, parts: &mut Parts<'a>) -> Result<Value<'a>, AllocError>
-    ensures { IfOk result (λ v. v ≡ spec.made_module r.NextParameterPort parts.old) }
+    requires { sorted r.NextParameterPort parts.old ≡ true }
+    ensures { IfOk result (λ x. x ≡ spec.made_module r.NextParameterPort parts.old) }
 {
     parts.skip();
-    let port = parts.parameter_port(alloc);
+    let port = parts.parameter_port();
     let more = parts.more_parameters(alloc);
-    Ok(Value::Module(ModuleValue::MoreParameters(joined(alloc, port, more)?)))
+    boxed_head_part(alloc, HeadPart::MoreParameters(joined(alloc, port, more)?))
 }
 
 /// A parameter with its type.
-fn parameter_port_declaration<'a>(alloc: Global, parts: &mut Parts<'a>) -> Value<'a>
-    ensures { result ≡ spec.made_module r.ParameterPortDeclaration parts.old }
+fn parameter_port_declaration<'a>(
+    alloc: Global,
+    parts: &mut Parts<'a>,
+) -> Result<Value<'a>, AllocError>
+    requires { sorted r.ParameterPortDeclaration parts.old ≡ true }
+    ensures { IfOk result (λ x. x ≡ spec.made_module r.ParameterPortDeclaration parts.old) }
 {
     let span = parts.span();
     let data_type = parts.parameter_type();
-    let parameter = parts.parameter(alloc);
-    Value::Module(ModuleValue::ParameterPort(ParameterPort::First(span, data_type, parameter)))
+    let parameter = parts.parameter();
+    boxed_head_part(
+        alloc,
+        HeadPart::ParameterPort(ParameterPort::First(span, data_type, parameter)),
+    )
 }
 
 /// Ports by name.
 fn port_references<'a>(alloc: Global, parts: &mut Parts<'a>) -> Result<Value<'a>, AllocError>
-    ensures { IfOk result (λ v. v ≡ spec.made_module r.PortReferences parts.old) }
+    requires { sorted r.PortReferences parts.old ≡ true }
+    ensures { IfOk result (λ x. x ≡ spec.made_module r.PortReferences parts.old) }
 {
-    let first = parts.identifier(alloc);
-    let mut others = parts.identifiers(alloc);
-    others.push(first)?;
-    Ok(Value::Module(ModuleValue::Ports(Ports::Names(others.into_listed()))))
+    let first = parts.identifier();
+    let all = parts.identifiers(alloc).with(first)?;
+    boxed_module_part(alloc, ModulePart::Ports(Ports::Names(all.into_listed())))
 }
 
 /// Ports by their declarations.
-fn port_declarations<'a>(alloc: Global, parts: &mut Parts<'a>) -> Value<'a>
-    ensures { result ≡ spec.made_module r.PortDeclarations parts.old }
+fn port_declarations<'a>(alloc: Global, parts: &mut Parts<'a>) -> Result<Value<'a>, AllocError>
+    ensures { IfOk result (λ x. x ≡ spec.made_module r.PortDeclarations parts.old) }
 {
     let declarations = parts.declarations(alloc);
-    Value::Module(ModuleValue::Ports(Ports::Declarations(declarations.into_listed())))
+    boxed_module_part(
+        alloc,
+        ModulePart::Ports(Ports::Declarations(declarations.into_listed())),
+    )
 }
 
 /// A name behind a `,`, and those behind it.
 fn next_identifier<'a>(alloc: Global, parts: &mut Parts<'a>) -> Result<Value<'a>, AllocError>
-    ensures { IfOk result (λ v. v ≡ spec.made_module r.NextIdentifier parts.old) }
+    requires { sorted r.NextIdentifier parts.old ≡ true }
+    ensures { IfOk result (λ x. x ≡ spec.made_module r.NextIdentifier parts.old) }
 {
     parts.skip();
-    let first = parts.identifier(alloc);
-    let mut others = parts.identifiers(alloc);
-    others.push(first)?;
-    Ok(Value::Module(ModuleValue::Identifiers(others)))
+    let first = parts.identifier();
+    let all = parts.identifiers(alloc).with(first)?;
+    boxed_module_part(alloc, ModulePart::Identifiers(all))
+}
+
+/// Ports of a type: a port in front of those behind it.
+#[tactic(auto)]
+fn typed_front(
+    alloc: Global,
+    data_type: DataType,
+    parts: &mut Parts<'_>,
+) -> Result<OutputPorts, AllocError>
+    requires { is_declared (first parts.old) ≡ true }
+    ensures { IfOk result (λ m. m ≡ record { data_type = data_type; names = (spec.front parts.old).same; others = (spec.front parts.old).others }) }
+{
+    let first = parts.declared();
+    let MorePorts { same, others } = parts.more_ports(alloc);
+    let (names, (others, data_type)) = same.with_beside(first, (others, data_type))?;
+    Ok(OutputPorts {
+        data_type,
+        names,
+        others,
+    })
+}
+
+/// A port in front of those behind it.
+#[tactic(auto)]
+fn front(alloc: Global, parts: &mut Parts<'_>) -> Result<MorePorts, AllocError>
+    requires { is_declared (first parts.old) ≡ true }
+    ensures { IfOk result (λ m. m ≡ spec.front parts.old) }
+{
+    let first = parts.declared();
+    let MorePorts { same, others } = parts.more_ports(alloc);
+    let (same, others) = same.with_beside(first, others)?;
+    Ok(MorePorts { same, others })
 }
 
 /// Inputs, and the declarations behind them.
 fn input_ports<'a>(alloc: Global, parts: &mut Parts<'a>) -> Result<Value<'a>, AllocError>
-    ensures { IfOk result (λ v. v ≡ spec.made_module r.InputPorts parts.old) }
+    requires { sorted r.InputPorts parts.old ≡ true }
+    ensures { IfOk result (λ x. x ≡ spec.made_module r.InputPorts parts.old) }
 {
     let span = parts.span();
-    let vector = parts.vector();
-    let first = parts.declared(alloc);
-    let MorePorts {
-        mut same,
-        mut others,
-    } = parts.more_ports(alloc);
-    same.push(first)?;
-    others.push(PortDeclaration {
+    let data_type = DataType::Wire(parts.vector());
+    let OutputPorts {
+        data_type,
+        names,
+        others,
+    } = typed_front(alloc, data_type, parts)?;
+    let all = others.with(PortDeclaration {
         span,
         direction: Direction::Input,
-        data_type: DataType::Wire(vector),
-        names: same.into_listed(),
+        data_type,
+        names: names.into_listed(),
     })?;
-    Ok(Value::Module(ModuleValue::PortDeclarations(others)))
+    boxed_module_part(alloc, ModulePart::PortDeclarations(all))
 }
 
 /// Outputs, and the declarations behind them.
 fn output_ports<'a>(alloc: Global, parts: &mut Parts<'a>) -> Result<Value<'a>, AllocError>
-    ensures { IfOk result (λ v. v ≡ spec.made_module r.OutputPorts parts.old) }
+    requires { sorted r.OutputPorts parts.old ≡ true }
+    ensures { IfOk result (λ x. x ≡ spec.made_module r.OutputPorts parts.old) }
 {
     let span = parts.span();
     let OutputPorts {
         data_type,
         names,
-        mut others,
-    } = parts.output_ports(alloc);
-    others.push(PortDeclaration {
+        others,
+    } = parts.output_ports();
+    let all = others.with(PortDeclaration {
         span,
         direction: Direction::Output,
         data_type,
         names: names.into_listed(),
     })?;
-    Ok(Value::Module(ModuleValue::PortDeclarations(others)))
-}
-
-/// A port in front of those behind it.
-fn front(alloc: Global, parts: &mut Parts<'_>) -> Result<MorePorts, AllocError>
-    ensures { IfOk result (λ m. m ≡ spec.front parts.old) }
-{
-    let first = parts.declared(alloc);
-    let MorePorts { mut same, others } = parts.more_ports(alloc);
-    same.push(first)?;
-    Ok(MorePorts { same, others })
+    boxed_module_part(alloc, ModulePart::PortDeclarations(all))
 }
 
 /// Outputs of one type.
+#[tactic(auto)]
+fn outputs<'a>(
+    alloc: Global,
+    data_type: DataType,
+    parts: &mut Parts<'a>,
+) -> Result<Value<'a>, AllocError>
+    requires { is_declared (first parts.old) ≡ true }
+    ensures { IfOk result (λ x. x ≡ spec.outputs data_type parts.old) }
+{
+    let ports = typed_front(alloc, data_type, parts)?;
+    boxed_module_part(alloc, ModulePart::OutputPorts(ports))
+}
+
+/// Outputs that are wires.
 fn output_net_ports<'a>(alloc: Global, parts: &mut Parts<'a>) -> Result<Value<'a>, AllocError>
-    ensures { IfOk result (λ v. v ≡ spec.made_module r.OutputNetPorts parts.old) }
+    requires { sorted r.OutputNetPorts parts.old ≡ true }
+    ensures { IfOk result (λ x. x ≡ spec.made_module r.OutputNetPorts parts.old) }
 {
-    let vector = parts.vector();
-    let MorePorts { same, others } = front(alloc, parts)?;
-    Ok(Value::Module(ModuleValue::OutputPorts(OutputPorts {
-        data_type: DataType::Wire(vector),
-        names: same,
-        others,
-    })))
+    let data_type = DataType::Wire(parts.vector());
+    outputs(alloc, data_type, parts)
 }
 
-/// Outputs of one type.
+/// Outputs that are variables.
 fn output_reg_ports<'a>(alloc: Global, parts: &mut Parts<'a>) -> Result<Value<'a>, AllocError>
-    ensures { IfOk result (λ v. v ≡ spec.made_module r.OutputRegPorts parts.old) }
+    requires { sorted r.OutputRegPorts parts.old ≡ true }
+    ensures { IfOk result (λ x. x ≡ spec.made_module r.OutputRegPorts parts.old) }
 {
     parts.skip();
-    let vector = parts.vector();
-    let MorePorts { same, others } = front(alloc, parts)?;
-    Ok(Value::Module(ModuleValue::OutputPorts(OutputPorts {
-        data_type: DataType::Reg(vector),
-        names: same,
-        others,
-    })))
+    let data_type = DataType::Reg(parts.vector());
+    outputs(alloc, data_type, parts)
 }
 
-/// Outputs of one type.
+/// Outputs that are integers.
 fn output_integer_ports<'a>(alloc: Global, parts: &mut Parts<'a>) -> Result<Value<'a>, AllocError>
-    ensures { IfOk result (λ v. v ≡ spec.made_module r.OutputIntegerPorts parts.old) }
+    requires { sorted r.OutputIntegerPorts parts.old ≡ true }
+    ensures { IfOk result (λ x. x ≡ spec.made_module r.OutputIntegerPorts parts.old) }
 {
     parts.skip();
-    let MorePorts { same, others } = front(alloc, parts)?;
-    Ok(Value::Module(ModuleValue::OutputPorts(OutputPorts {
-        data_type: DataType::Integer,
-        names: same,
-        others,
-    })))
+    outputs(alloc, DataType::Integer, parts)
+}
+
+/// A port, and those behind it.
+#[tactic(auto)]
+fn more_ports<'a>(alloc: Global, parts: &mut Parts<'a>) -> Result<Value<'a>, AllocError>
+    requires { is_declared (first parts.old) ≡ true }
+    ensures { IfOk result (λ x. x ≡ v.MorePorts (spec.front parts.old)) }
+{
+    boxed_module_part(alloc, ModulePart::MorePorts(front(alloc, parts)?))
 }
 
 /// Declarations behind a `,`.
-fn other_ports<'a>(alloc: Global, parts: &mut Parts<'a>) -> Value<'a>
-    ensures { result ≡ v.MorePorts (record { same = []; others = declarations_of (first parts.old) }) }
+#[tactic(auto)]
+fn other_ports<'a>(alloc: Global, parts: &mut Parts<'a>) -> Result<Value<'a>, AllocError>
+    ensures { IfOk result (λ x. x ≡ v.MorePorts (record { same = []; others = declarations_of (first parts.old) })) }
 {
     let others = parts.declarations(alloc);
-    Value::Module(ModuleValue::MorePorts(MorePorts {
-        same: Stack::new(alloc),
-        others,
-    }))
+    boxed_module_part(
+        alloc,
+        ModulePart::MorePorts(MorePorts {
+            same: Stack::new(alloc),
+            others,
+        }),
+    )
 }
 
 /// A module, and those behind it.
 fn module_declaration<'a>(alloc: Global, parts: &mut Parts<'a>) -> Result<Value<'a>, AllocError>
-    ensures { IfOk result (λ v. v ≡ spec.made_module r.ModuleDeclaration parts.old) }
+    requires { sorted r.ModuleDeclaration parts.old ≡ true }
+    ensures { IfOk result (λ x. x ≡ spec.made_module r.ModuleDeclaration parts.old) }
 {
     parts.skip();
-    let name = parts.identifier(alloc);
+    let name = parts.identifier();
     let parameters = parts.parameter_ports(alloc);
     let ports = parts.port_list(alloc);
     parts.skip();
     let items = parts.items(alloc);
     parts.skip();
-    let mut modules = parts.modules(alloc);
-    modules.push(Module {
+    let modules = parts.modules(alloc).with(Module {
         name: name.name,
         span: name.span,
         parameters: parameters.into_listed(),
         ports,
         items: items.into_listed(),
     })?;
-    Ok(Value::Module(ModuleValue::Modules(modules)))
+    boxed_module_part(alloc, ModulePart::Modules(modules))
+}
+
+/// A parameter of the type before it.
+fn parameter_port_assignment<'a>(
+    alloc: Global,
+    parts: &mut Parts<'a>,
+) -> Result<Value<'a>, AllocError>
+    requires { sorted r.ParameterPortAssignment parts.old ≡ true }
+    ensures { IfOk result (λ x. x ≡ spec.made_module r.ParameterPortAssignment parts.old) }
+{
+    boxed_head_part(
+        alloc,
+        HeadPart::ParameterPort(ParameterPort::Next(parts.parameter())),
+    )
 }
 
 /// What a production of modules means.
+#[inline(never)]
 pub fn make_module<'a>(
     alloc: Global,
     rule: Rule,
     parts: &mut Parts<'a>,
 ) -> Result<Value<'a>, AllocError>
-    ensures { IfOk result (λ v. v ≡ spec.made_module rule parts.old) }
+    requires { sorted rule parts.old ≡ true }
+    ensures { IfOk result (λ x. x ≡ spec.made_module rule parts.old) }
 {
     match rule {
-        Rule::NoDescription => Ok(Value::Module(ModuleValue::Modules(Stack::new(alloc)))),
         Rule::ModuleDeclaration => module_declaration(alloc, parts),
-        Rule::NoParameterPort => Ok(Value::Module(ModuleValue::ParameterDeclarations(Stack::new(
-            alloc,
-        )))),
         Rule::ParameterPortList => parameter_port_list(alloc, parts),
-        Rule::NoMoreParameterPort => Ok(Value::Module(ModuleValue::MoreParameters(
-            no_more_parameters(alloc),
-        ))),
         Rule::NextParameterPort => next_parameter_port(alloc, parts),
-        Rule::ParameterPortDeclaration => Ok(parameter_port_declaration(alloc, parts)),
-        Rule::ParameterPortAssignment => Ok(Value::Module(ModuleValue::ParameterPort(
-            ParameterPort::Next(parts.parameter(alloc)),
-        ))),
-        Rule::NoPortList | Rule::NoPort => Ok(Value::Module(ModuleValue::Ports(no_ports(alloc)))),
-        Rule::SomePortList
-        | Rule::AnsiPortDeclaration
-        | Rule::NextNetPort
-        | Rule::NextVariablePort => Ok(parts.inner()),
+        Rule::ParameterPortDeclaration => parameter_port_declaration(alloc, parts),
+        Rule::ParameterPortAssignment => parameter_port_assignment(alloc, parts),
         Rule::PortReferences => port_references(alloc, parts),
-        Rule::PortDeclarations => Ok(port_declarations(alloc, parts)),
-        Rule::NoMoreIdentifier => Ok(Value::Module(ModuleValue::Identifiers(Stack::new(alloc)))),
+        Rule::PortDeclarations => port_declarations(alloc, parts),
         Rule::NextIdentifier => next_identifier(alloc, parts),
         Rule::InputPorts => input_ports(alloc, parts),
         Rule::OutputPorts => output_ports(alloc, parts),
         Rule::OutputNetPorts => output_net_ports(alloc, parts),
         Rule::OutputRegPorts => output_reg_ports(alloc, parts),
         Rule::OutputIntegerPorts => output_integer_ports(alloc, parts),
-        Rule::NoNetPort | Rule::NoVariablePort => Ok(Value::Module(ModuleValue::MorePorts(
-            no_more_ports(alloc),
-        ))),
-        Rule::NetPortName => Ok(Value::Module(ModuleValue::MorePorts(front(alloc, parts)?))),
-        Rule::VariablePortName => Ok(Value::Module(ModuleValue::MorePorts(front(alloc, parts)?))),
-        Rule::NetPortDeclaration => Ok(other_ports(alloc, parts)),
-        Rule::VariablePortDeclaration => Ok(other_ports(alloc, parts)),
-        _ => make_item(alloc, rule, parts),
+        Rule::NetPortName => more_ports(alloc, parts),
+        Rule::VariablePortName => more_ports(alloc, parts),
+        Rule::NetPortDeclaration => other_ports(alloc, parts),
+        Rule::VariablePortDeclaration => other_ports(alloc, parts),
+        _ => Ok(Value::Nothing),
     }
 }

@@ -1,18 +1,21 @@
 //! Selects and left sides, from their parts (IEEE 1364-2005, A.8.4, A.8.5).
-#![tactic(auto, unfolding(crate::specs::Expressions::made_expression))]
+#![tactic(auto, unfolding(crate::specs::Expressions::made_expression, crate::specs::Kinds::is_of_kind, vlog_grammar::specs::Grammar::production))]
 
-ghost use Rattle.std.specs.Prelude.{◌≡◌, IfOk};
+ghost use Rattle.std.specs.Prelude.{◌≡◌, true, IfOk};
 ghost use Rattle.vlog_grammar.specs.declared.rule.Rule.TheVariants as r;
+ghost use Rattle.vlog_parts.specs.Sorts as v;
 ghost use Rattle.vlog_trees.specs.Expressions as spec;
+ghost use Rattle.vlog_trees.specs.Kinds.{sorted};
 
+use crate::node::boxed_part;
 use mcy_base::Span;
 use std::alloc::{AllocError, Global};
-use vlog_parts::{ExpressionValue, Parts, Select, SelectEnd, Value};
-use vlog_syntax::{Expr, Identifier, LeftSide};
+use vlog_parts::{ExpressionPart, Parts, Select, SelectEnd, Value};
+use vlog_syntax::{Boxed, Expr, Identifier, LeftSide};
 
 /// A select, from its first expression and its end.
 #[tactic(auto, unfolding(crate::specs::Expressions::select))]
-fn select(span: Span, first: Expr, end: SelectEnd) -> Select
+fn select(span: Span, first: Boxed<Expr>, end: SelectEnd) -> Select
     ensures { result ≡ spec.select span first end }
 {
     match end {
@@ -23,29 +26,35 @@ fn select(span: Span, first: Expr, end: SelectEnd) -> Select
 }
 
 /// A select.
-pub fn some_select<'a>(alloc: Global, parts: &mut Parts<'a>) -> Value<'a>
-    ensures { result ≡ spec.made_expression r.SomeSelect parts.old }
+#[inline(never)]
+pub fn some_select(parts: &mut Parts<'_>) -> Select
+    requires { sorted r.SomeSelect parts.old ≡ true }
+    ensures { v.Select result ≡ spec.made_expression r.SomeSelect parts.old }
 {
     let span = parts.span();
-    let expr = parts.expr(alloc);
+    let expr = parts.expr();
     let end = parts.select_end();
-    Value::Expression(ExpressionValue::Select(select(span, expr, end)))
+    select(span, expr, end)
 }
 
 /// The end of a part select.
-pub fn part_select<'a>(alloc: Global, parts: &mut Parts<'a>) -> Value<'a>
-    ensures { result ≡ spec.made_expression r.PartSelect parts.old }
+#[inline(never)]
+pub fn part_select(parts: &mut Parts<'_>) -> SelectEnd
+    requires { sorted r.PartSelect parts.old ≡ true }
+    ensures { v.SelectEnd result ≡ spec.made_expression r.PartSelect parts.old }
 {
     parts.skip();
-    Value::Expression(ExpressionValue::SelectEnd(SelectEnd::Part(parts.expr(alloc))))
+    SelectEnd::Part(parts.expr())
 }
 
 /// The end of an indexed part select.
-pub fn indexed_part_select<'a>(alloc: Global, parts: &mut Parts<'a>) -> Value<'a>
-    ensures { result ≡ spec.made_expression r.IndexedPartSelect parts.old }
+#[inline(never)]
+pub fn indexed_part_select(parts: &mut Parts<'_>) -> SelectEnd
+    requires { sorted r.IndexedPartSelect parts.old ≡ true }
+    ensures { v.SelectEnd result ≡ spec.made_expression r.IndexedPartSelect parts.old }
 {
     parts.skip();
-    Value::Expression(ExpressionValue::SelectEnd(SelectEnd::Indexed(parts.expr(alloc))))
+    SelectEnd::Indexed(parts.expr())
 }
 
 /// A name or a select of it, on the left of an assignment.
@@ -55,44 +64,50 @@ fn left_selected(name: Identifier, select: Option<Select>) -> LeftSide
 {
     match select {
         None => LeftSide::Name(name),
-        Some(Select::Bit(span, index)) => LeftSide::BitSelect(name, span, index),
-        Some(Select::Part(span, msb, lsb)) => LeftSide::PartSelect(name, span, msb, lsb),
+        Some(Select::Bit(span, index)) => LeftSide::BitSelect(name, span, index.into_inner()),
+        Some(Select::Part(span, msb, lsb)) => {
+            LeftSide::PartSelect(name, span, msb.into_inner(), lsb.into_inner())
+        }
         Some(Select::Indexed(span, base, width)) => {
-            LeftSide::IndexedPartSelect(name, span, base, width)
+            LeftSide::IndexedPartSelect(name, span, base.into_inner(), width.into_inner())
         }
     }
 }
 
 /// A name or a select of it.
-pub fn left_name<'a>(alloc: Global, parts: &mut Parts<'a>) -> Value<'a>
-    ensures { result ≡ spec.made_expression r.LeftName parts.old }
+#[inline(never)]
+pub fn left_name(parts: &mut Parts<'_>) -> LeftSide
+    requires { sorted r.LeftName parts.old ≡ true }
+    ensures { v.LeftSide result ≡ spec.made_expression r.LeftName parts.old }
 {
-    let name = parts.identifier(alloc);
+    let name = parts.identifier();
     let select = parts.select();
-    Value::Expression(ExpressionValue::LeftSide(left_selected(name, select)))
+    left_selected(name, select)
 }
 
 /// A concatenation.
+#[inline(never)]
 pub fn left_concatenation<'a>(alloc: Global, parts: &mut Parts<'a>) -> Result<Value<'a>, AllocError>
-    ensures { IfOk result (λ v. v ≡ spec.made_expression r.LeftConcatenation parts.old) }
+    requires { sorted r.LeftConcatenation parts.old ≡ true }
+    ensures { IfOk result (λ x. x ≡ spec.made_expression r.LeftConcatenation parts.old) }
 {
     let span = parts.span();
-    let left = parts.left(alloc);
-    let mut lefts = parts.lefts(alloc);
-    lefts.push(left)?;
-    Ok(Value::Expression(ExpressionValue::LeftSide(LeftSide::Concatenation(
-        span,
-        lefts.into_listed(),
-    ))))
+    let left = parts.left();
+    let lefts = parts.lefts(alloc).with(left)?;
+    boxed_part(
+        alloc,
+        ExpressionPart::LeftSide(LeftSide::Concatenation(span, lefts.into_listed())),
+    )
 }
 
 /// A left side behind a `,`, and those behind it.
+#[inline(never)]
 pub fn next_left_side<'a>(alloc: Global, parts: &mut Parts<'a>) -> Result<Value<'a>, AllocError>
-    ensures { IfOk result (λ v. v ≡ spec.made_expression r.NextLeftSide parts.old) }
+    requires { sorted r.NextLeftSide parts.old ≡ true }
+    ensures { IfOk result (λ x. x ≡ spec.made_expression r.NextLeftSide parts.old) }
 {
     parts.skip();
-    let left = parts.left(alloc);
-    let mut lefts = parts.lefts(alloc);
-    lefts.push(left)?;
-    Ok(Value::Expression(ExpressionValue::LeftSides(lefts)))
+    let left = parts.left();
+    let lefts = parts.lefts(alloc).with(left)?;
+    boxed_part(alloc, ExpressionPart::LeftSides(lefts))
 }
