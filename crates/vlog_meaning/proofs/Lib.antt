@@ -1,0 +1,17 @@
+pub mod Powers
+pub mod Signs
+pub mod Rounds
+pub mod Lookups
+pub mod Blanks
+pub mod Steps
+pub mod Joins
+pub mod Whole
+pub mod Contexts
+pub mod Results
+pub mod Firsts
+pub mod Refusals
+pub mod Redeclared
+pub mod Settled
+pub mod Windows
+pub mod Reading
+pub mod Divisions

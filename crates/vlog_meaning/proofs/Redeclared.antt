@@ -1,0 +1,31 @@
+-- Names that are declared again.
+use Rattle.std.proofs.Common.{◌≡◌, ℕ, Bool, true, false, refl, ap}
+use Rattle.std.specs.Prelude.{Option, Some, if◌then◌else◌}
+use Rattle.std.specs.Str.{bytes_eq}
+use Rattle.std.specs.Cmp.Lexicographic.{bytes_decides}
+use Rattle.std.proofs.Math.Path.{fun_ext}
+use Rattle.mcy_base.specs.declared.word.Word.{Word}
+use Rattle.vlog_meaning.specs.declared.scope.Decl.{Decl}
+use Rattle.vlog_meaning.specs.declared.scope.Decl.TheVariants.{Signal, Constant}
+use Rattle.vlog_meaning.specs.Laws.{LastCounts, Restores, SignalsStay}
+
+last_of : (b : Bool) (x y z : Option Decl) → (if b then x else (if b then y else z)) ≡ (if b then x else z)
+last_of true x y z = refl
+last_of false x y z = refl
+
+pub last_counts : LastCounts
+last_counts names name first last = fun_ext (λ other. last_of (bytes_eq name other) last first (names other))
+
+own_of : (b : Bool) (x y z : Option Decl) → (b ≡ true → x ≡ z) → (if b then x else (if b then y else z)) ≡ z
+own_of true x y z same = same refl
+own_of false x y z same = refl
+
+pub restores : Restores
+restores names name between = fun_ext (λ other. own_of (bytes_eq name other) (names name) between (names other) (λ e. ap names ((bytes_decides name other).0 e)))
+
+stays : (b : Bool) (value : Word) (s : Bool) (z : Option Decl) (width low : ℕ) (sign : Bool) (number : ℕ) → (if b then Some (Constant value s) else z) ≡ Some (Signal width low sign number) → z ≡ Some (Signal width low sign number)
+stays true value s z width low sign number e = cc
+stays false value s z width low sign number e = e
+
+pub signals_stay : SignalsStay
+signals_stay names name value s other width low sign number e = stays (bytes_eq name other) value s (names other) width low sign number e

@@ -1,0 +1,31 @@
+//! What expressions mean: their widths and signs, their values, and which of them are constant
+//! (IEEE 1364-2005, 5), in two values.
+#![tactic(auto)]
+
+mod answers;
+mod arithmetic;
+mod bound;
+mod fault;
+mod faults;
+mod function;
+mod integer;
+mod laws;
+mod operator;
+mod scope;
+mod shapes;
+mod signals;
+mod values;
+mod zeros;
+
+pub use answers::{constant, constant_at, constant_integer, shape, value};
+pub use bound::Bound;
+pub use fault::{Cause, ConstError, Fault, earlier};
+pub use faults::{constant_fault, fault_in};
+pub use function::Function;
+pub use laws::{names_declared_again, values_rest_on_reads};
+pub use operator::{Sizing, sizing_of};
+pub use scope::{Decl, Scope, ScopeError};
+pub use shapes::Shape;
+pub use signals::signal_in;
+pub use values::{shape_of, value_of};
+pub use zeros::zero_in;
