@@ -13,6 +13,3 @@ mod word;
 
 pub use error::ParseError;
 pub use file::expand;
-
-#[cfg(test)]
-mod tests;

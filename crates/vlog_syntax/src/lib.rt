@@ -30,6 +30,3 @@ pub use operator::{BinaryOperator, UnaryOperator};
 pub use stmt::{
     Argument, Assignment, CaseItem, CaseKind, Edge, EventControl, EventExpression, Stmt,
 };
-
-#[cfg(test)]
-mod tests;

@@ -21,6 +21,3 @@ pub use quoted::{name_of, string_value};
 pub use scan::tokens;
 pub use token::{Token, TokenError, TokenKind};
 pub use value::Number;
-
-#[cfg(test)]
-mod tests;
