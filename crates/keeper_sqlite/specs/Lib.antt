@@ -9,3 +9,5 @@ pub mod Making
 pub mod Unique
 pub mod Laws
 pub mod Refusals
+pub mod Unbegun
+pub mod Unloaded

@@ -1,5 +1,5 @@
 -- What making the tables and loading a book leave.
-use Rattle.std.specs.Prelude.{◌≡◌, ◌⊎◌, Option, Some, None, IsTrue}
+use Rattle.std.specs.Prelude.{◌≡◌, ◌⊎◌, false, Option, Some, None, IsTrue}
 use Rattle.sqlite.specs.Tree.{Trees}
 use Rattle.sqlite.specs.Schema.{Schema}
 use Rattle.sqlite.specs.State.{State}
@@ -33,6 +33,7 @@ FindsTables old new = (IsBookSchema old × (new ≡ old)) ⊎ ((old ≡ no_schem
 
 -- The connection has the tables of a book: it had them, or it had no table and made them.
 pub record IsReady (old new : State) : Type 0 where
+  pub autocommit : new.in_transaction ≡ false
   pub tables : IsBookSchema new.now.schema
   pub found : IsTrue new.is_open → FindsTables old.now.schema new.now.schema
   pub from : (IsTrue new.is_open → IsTrue old.is_open × (new.now ≡ old.now) × (old.committed ≡ old.now)) ⊎ (IsTrue old.is_open × StandsFor old.committed.trees blank × IsTold new blank)

@@ -1,5 +1,5 @@
 //! Beginning a book: its two lists of items, written in one transaction.
-ghost use Rattle.std.specs.Prelude.{◌≡◌, true, false, is_some, OnOk, OnErr, IsErrOf};
+ghost use Rattle.std.specs.Prelude.{◌≡◌, true, false, is_some, IsTrue, OnOk, OnErr, IsErrOf};
 ghost use Rattle.sqlite.specs.Held.{state};
 ghost use Rattle.sqlite.specs.State.{HasCleanDisk, Survives};
 ghost use Rattle.mcy_keeper.specs.declared.book.Book.{Book as Pages};
@@ -9,6 +9,7 @@ ghost use Rattle.keeper_sqlite.specs.Rows.{item_rows, tree_of};
 ghost use Rattle.keeper_sqlite.specs.Changes.{IsKept, IsKeptIfOpen};
 ghost use Rattle.keeper_sqlite.specs.Writing.{HasBegunBook, MayBegin, WritesInside};
 ghost use Rattle.keeper_sqlite.specs.Stands.{Tells, Holds, Leaves};
+ghost use Rattle.keeper_sqlite.specs.Unbegun.{IsNotWritten, AreNotWritten, IsNotBegun, FailsToBegin};
 
 use crate::insert::insert_item;
 use crate::read::ItemTable;
@@ -24,6 +25,7 @@ fn write_items<S: Alter>(
 ) -> Result<(), Refusal>
     ensures same_reference { transaction.new.conn.ghost_name ≡ transaction.old.conn.ghost_name }
     ensures writes { WritesInside (tree_of table) (item_rows 0 items.now) (state S.Store transaction.old.conn.now) (state S.Store transaction.new.conn.now) result }
+    ensures fault { HasCleanDisk (state S.Store transaction.new.conn.now) → IsTrue (state S.Store transaction.old.conn.now).in_transaction → IsErrOf result Refusal.Database → IsNotWritten S.Store table items.now transaction.old.conn.now transaction.new.conn.now }
 {
     let mut number: u32 = 0;
     for item in items {
@@ -45,6 +47,7 @@ fn write_lists<S: Alter>(
     requires { (state S.Store connection.old).in_transaction ≡ false }
     ensures begun { HasCleanDisk (state S.Store connection.new) → IsBookSchema (state S.Store connection.old).now.schema → OnOk result (HasBegunBook (state S.Store connection.old) (state S.Store connection.new) meta.now mutations.now) }
     ensures kept { HasCleanDisk (state S.Store connection.new) → OnErr result (IsKeptIfOpen (state S.Store connection.old) (state S.Store connection.new)) }
+    ensures fault { HasCleanDisk (state S.Store connection.new) → IsErrOf result Refusal.Database → AreNotWritten S.Store (record connection.old { in_transaction = true }) meta.now mutations.now }
     ensures crash { Survives (state S.Store connection.old) (state S.Store connection.new) (λ trees. IsBookSchema (state S.Store connection.old).now.schema → MayBegin (state S.Store connection.old).now meta.now mutations.now trees) }
 {
     let mut transaction = connection.transaction();
@@ -62,6 +65,7 @@ fn begin_book<S: Alter>(
 ) -> Result<(), Refusal>
     ensures begun { HasCleanDisk (state S.Store connection.new) → IsBookSchema (state S.Store connection.old).now.schema → OnOk result (HasBegunBook (state S.Store connection.old) (state S.Store connection.new) meta.now mutations.now) }
     ensures kept { HasCleanDisk (state S.Store connection.new) → IsErrOf result Refusal.Memory → IsKept (state S.Store connection.old) (state S.Store connection.new) }
+    ensures fault { HasCleanDisk (state S.Store connection.new) → IsErrOf result Refusal.Database → IsNotBegun S.Store connection.old connection.new meta.now mutations.now }
     ensures crash { Survives (state S.Store connection.old) (state S.Store connection.new) (λ trees. IsBookSchema (state S.Store connection.old).now.schema → MayBegin (state S.Store connection.old).now meta.now mutations.now trees) }
 {
     if !connection.is_autocommit() {
@@ -85,6 +89,7 @@ pub(crate) fn begin_through<S: Alter>(
     ensures either { Tells S.Store connection.new → OnErr result ((was : Pages) → Holds S.Store connection.old true was → IsBlank was → LeavesEither (Leaves S.Store connection.new) was (begun meta.now mutations.now)) }
     ensures same { Tells S.Store connection.new → IsErrOf result Refusal.Memory → (was : Pages) → Holds S.Store connection.old true was → Holds S.Store connection.new true was }
     ensures refused { Tells S.Store connection.new → IsErrOf result Refusal.Memory → LeavesNothingNew (Leaves S.Store connection.old) (Leaves S.Store connection.new) }
+    ensures fault { Tells S.Store connection.new → IsErrOf result Refusal.Database → FailsToBegin S.Store connection.old connection.new meta.now mutations.now }
 {
     match connection {
         Some(connected) => begin_book(connected, meta, mutations),

@@ -1,10 +1,12 @@
 //! The statements that make the tables, and the transaction of the three.
-ghost use Rattle.std.specs.Prelude.{◌≡◌, false, IsTrue, OnOk};
+ghost use Rattle.std.specs.Prelude.{◌≡◌, [], true, false, IsTrue, IfErr, OnOk};
 ghost use Rattle.sqlite.specs.Held.{state};
 ghost use Rattle.sqlite.specs.State.{HasCleanDisk, Survives};
 ghost use Rattle.keeper_sqlite.specs.Tables.{no_schema};
 ghost use Rattle.keeper_sqlite.specs.Creating.{meta_table, mutations_table, journal_table, schema_of_meta, schema_of_items, MakesTable};
 ghost use Rattle.keeper_sqlite.specs.Making.{HasCreated, HasMade, AreMade};
+ghost use Rattle.keeper_sqlite.specs.Refusals.{IsRefusedInsideWith};
+ghost use Rattle.keeper_sqlite.specs.Unloaded.{IsCreateRefused, AreNotMade};
 
 use crate::statements::{CREATE_JOURNAL, CREATE_META, CREATE_MUTATIONS};
 use sqlite::{Alter, Connection, Error, Transaction};
@@ -14,6 +16,7 @@ fn create_meta<S: Alter>(transaction: &mut Transaction<'_, S>) -> Result<usize, 
     ensures same_reference { transaction.new.conn.ghost_name ≡ transaction.old.conn.ghost_name }
     ensures made { HasCleanDisk (state S.Store transaction.new.conn.now) → IsTrue (state S.Store transaction.old.conn.now).in_transaction → (state S.Store transaction.old.conn.now).now.schema ≡ no_schema
         → OnOk result (MakesTable no_schema meta_table (state S.Store transaction.old.conn.now) (state S.Store transaction.new.conn.now)) }
+    ensures told { HasCleanDisk (state S.Store transaction.new.conn.now) → IsTrue (state S.Store transaction.old.conn.now).in_transaction → IfErr result (IsRefusedInsideWith CREATE_META.now [] (state S.Store transaction.old.conn.now) (state S.Store transaction.new.conn.now)) }
     ensures crash { Survives (state S.Store transaction.old.conn.now) (state S.Store transaction.new.conn.now) (λ _. ⊥) }
 {
     transaction.execute(CREATE_META, &[])
@@ -24,6 +27,7 @@ fn create_mutations<S: Alter>(transaction: &mut Transaction<'_, S>) -> Result<us
     ensures same_reference { transaction.new.conn.ghost_name ≡ transaction.old.conn.ghost_name }
     ensures made { HasCleanDisk (state S.Store transaction.new.conn.now) → IsTrue (state S.Store transaction.old.conn.now).in_transaction → (state S.Store transaction.old.conn.now).now.schema ≡ schema_of_meta
         → OnOk result (MakesTable schema_of_meta mutations_table (state S.Store transaction.old.conn.now) (state S.Store transaction.new.conn.now)) }
+    ensures told { HasCleanDisk (state S.Store transaction.new.conn.now) → IsTrue (state S.Store transaction.old.conn.now).in_transaction → IfErr result (IsRefusedInsideWith CREATE_MUTATIONS.now [] (state S.Store transaction.old.conn.now) (state S.Store transaction.new.conn.now)) }
     ensures crash { Survives (state S.Store transaction.old.conn.now) (state S.Store transaction.new.conn.now) (λ _. ⊥) }
 {
     transaction.execute(CREATE_MUTATIONS, &[])
@@ -34,6 +38,7 @@ fn create_journal<S: Alter>(transaction: &mut Transaction<'_, S>) -> Result<usiz
     ensures same_reference { transaction.new.conn.ghost_name ≡ transaction.old.conn.ghost_name }
     ensures made { HasCleanDisk (state S.Store transaction.new.conn.now) → IsTrue (state S.Store transaction.old.conn.now).in_transaction → (state S.Store transaction.old.conn.now).now.schema ≡ schema_of_items
         → OnOk result (MakesTable schema_of_items journal_table (state S.Store transaction.old.conn.now) (state S.Store transaction.new.conn.now)) }
+    ensures told { HasCleanDisk (state S.Store transaction.new.conn.now) → IsTrue (state S.Store transaction.old.conn.now).in_transaction → IfErr result (IsRefusedInsideWith CREATE_JOURNAL.now [] (state S.Store transaction.old.conn.now) (state S.Store transaction.new.conn.now)) }
     ensures crash { Survives (state S.Store transaction.old.conn.now) (state S.Store transaction.new.conn.now) (λ _. ⊥) }
 {
     transaction.execute(CREATE_JOURNAL, &[])
@@ -44,6 +49,7 @@ fn create_tables<S: Alter>(transaction: &mut Transaction<'_, S>) -> Result<(), E
     ensures same_reference { transaction.new.conn.ghost_name ≡ transaction.old.conn.ghost_name }
     ensures made { HasCleanDisk (state S.Store transaction.new.conn.now) → IsTrue (state S.Store transaction.old.conn.now).in_transaction → (state S.Store transaction.old.conn.now).now.schema ≡ no_schema
         → OnOk result (HasCreated (state S.Store transaction.old.conn.now) (state S.Store transaction.new.conn.now)) }
+    ensures told { HasCleanDisk (state S.Store transaction.new.conn.now) → IsTrue (state S.Store transaction.old.conn.now).in_transaction → (state S.Store transaction.old.conn.now).now.schema ≡ no_schema → IfErr result (IsCreateRefused S.Store transaction.new.conn.now) }
     ensures crash { Survives (state S.Store transaction.old.conn.now) (state S.Store transaction.new.conn.now) (λ _. ⊥) }
 {
     create_meta(transaction)?;
@@ -56,6 +62,7 @@ fn create_tables<S: Alter>(transaction: &mut Transaction<'_, S>) -> Result<(), E
 pub(crate) fn make_tables<S: Alter>(connection: &mut Connection<S>) -> Result<(), Error>
     requires { (state S.Store connection.old).in_transaction ≡ false }
     ensures made { HasCleanDisk (state S.Store connection.new) → (state S.Store connection.old).now.schema ≡ no_schema → OnOk result (HasMade (state S.Store connection.old) (state S.Store connection.new)) }
+    ensures told { HasCleanDisk (state S.Store connection.new) → (state S.Store connection.old).now.schema ≡ no_schema → IfErr result (AreNotMade S.Store (record connection.old { in_transaction = true })) }
     ensures crash { Survives (state S.Store connection.old) (state S.Store connection.new) (λ trees. (state S.Store connection.old).now.schema ≡ no_schema → IsTrue (state S.Store connection.old).is_open × AreMade trees) }
 {
     let mut transaction = connection.transaction();

@@ -3,13 +3,14 @@
 //! A row of `meta` or `mutations` is written inside a transaction, a row of `journal` outside one, which
 //! makes the statement a transaction of its own. A row whose key is taken, and one that breaks another rule
 //! of its table, is refused.
-ghost use Rattle.std.specs.Prelude.{◌≡◌, [], ◌∷◌, IfErr, OnOk, OnErr};
+ghost use Rattle.std.specs.Prelude.{◌≡◌, [], ◌∷◌, IsTrue, IfErr, OnOk, OnErr};
 ghost use Rattle.sqlite.specs.Held.{state};
 ghost use Rattle.sqlite.specs.State.{HasCleanDisk, Survives};
 ghost use Rattle.keeper_sqlite.specs.Tables.{IsBookSchema};
-ghost use Rattle.keeper_sqlite.specs.Rows.{item_row, shown_entry, tree_of};
+ghost use Rattle.keeper_sqlite.specs.Rows.{item_row, shown_entry, shown_item, tree_of};
 ghost use Rattle.keeper_sqlite.specs.Changes.{HasAdded, IsAdded, IsKeptIfOpen};
-ghost use Rattle.keeper_sqlite.specs.Refusals.{IsRefusedWith};
+ghost use Rattle.keeper_sqlite.specs.Refusals.{IsRefusedWith, IsRefusedInsideWith};
+ghost use Rattle.keeper_sqlite.specs.Unbegun.{insert_of};
 ghost use Rattle.keeper_sqlite.specs.Writing.{WritesInside};
 
 use crate::read::ItemTable;
@@ -25,6 +26,7 @@ fn insert_meta<S: Alter>(
 ) -> Result<usize, Error>
     ensures same_reference { transaction.new.conn.ghost_name ≡ transaction.old.conn.ghost_name }
     ensures writes { WritesInside 0 (item_row number body.now ∷ []) (state S.Store transaction.old.conn.now) (state S.Store transaction.new.conn.now) result }
+    ensures told { HasCleanDisk (state S.Store transaction.new.conn.now) → IsTrue (state S.Store transaction.old.conn.now).in_transaction → IfErr result (IsRefusedInsideWith INSERT_META.now (shown_item number body.now) (state S.Store transaction.old.conn.now) (state S.Store transaction.new.conn.now)) }
 {
     transaction.execute(INSERT_META, params![number, body])
 }
@@ -37,6 +39,7 @@ fn insert_mutation<S: Alter>(
 ) -> Result<usize, Error>
     ensures same_reference { transaction.new.conn.ghost_name ≡ transaction.old.conn.ghost_name }
     ensures writes { WritesInside 1 (item_row number body.now ∷ []) (state S.Store transaction.old.conn.now) (state S.Store transaction.new.conn.now) result }
+    ensures told { HasCleanDisk (state S.Store transaction.new.conn.now) → IsTrue (state S.Store transaction.old.conn.now).in_transaction → IfErr result (IsRefusedInsideWith INSERT_MUTATION.now (shown_item number body.now) (state S.Store transaction.old.conn.now) (state S.Store transaction.new.conn.now)) }
 {
     transaction.execute(INSERT_MUTATION, params![number, body])
 }
@@ -50,6 +53,7 @@ pub(crate) fn insert_item<S: Alter>(
 ) -> Result<usize, Error>
     ensures same_reference { transaction.new.conn.ghost_name ≡ transaction.old.conn.ghost_name }
     ensures writes { WritesInside (tree_of table) (item_row number body.now ∷ []) (state S.Store transaction.old.conn.now) (state S.Store transaction.new.conn.now) result }
+    ensures told { HasCleanDisk (state S.Store transaction.new.conn.now) → IsTrue (state S.Store transaction.old.conn.now).in_transaction → IfErr result (IsRefusedInsideWith (insert_of table) (shown_item number body.now) (state S.Store transaction.old.conn.now) (state S.Store transaction.new.conn.now)) }
 {
     match table {
         ItemTable::Meta => insert_meta(transaction, number, body),

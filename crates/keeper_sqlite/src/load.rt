@@ -2,13 +2,14 @@
 //!
 //! A database with no table stands for the empty book, and gets the tables. Any other tables than those of
 //! a book are refused.
-ghost use Rattle.std.specs.Prelude.{◌≡◌, Bool, true, Some, is_some, IfOk, OnOk, OnErr};
+ghost use Rattle.std.specs.Prelude.{◌≡◌, Bool, true, Some, is_some, IfOk, OnOk, OnErr, IsErrOf};
 ghost use Rattle.sqlite.specs.Held.{state};
 ghost use Rattle.sqlite.specs.State.{HasCleanDisk, Survives};
 ghost use Rattle.mcy_keeper.specs.declared.book.Book.{Book as Pages};
 ghost use Rattle.mcy_keeper.specs.Books.{Keeps, LeavesNothingNew};
 ghost use Rattle.keeper_sqlite.specs.Stands.{Tells, Holds, Leaves};
 ghost use Rattle.keeper_sqlite.specs.Making.{IsReady, MayMake, IsLoaded, LoadsTables};
+ghost use Rattle.keeper_sqlite.specs.Unloaded.{IsUnready, IsNotLoaded, FailsToLoad};
 
 use crate::create::make_tables;
 use crate::read::read_book;
@@ -21,6 +22,7 @@ use std::alloc::Global;
 /// Makes the tables where there is none, in one transaction.
 fn ensure_tables<S: Alter>(connection: &mut Connection<S>) -> Result<(), Refusal>
     ensures ready { HasCleanDisk (state S.Store connection.new) → OnOk result (IsReady (state S.Store connection.old) (state S.Store connection.new)) }
+    ensures fault { HasCleanDisk (state S.Store connection.new) → IsErrOf result Refusal.Database → IsUnready S.Store connection.old }
     ensures crash { Survives (state S.Store connection.old) (state S.Store connection.new) (MayMake (state S.Store connection.old)) }
 {
     if !connection.is_autocommit() {
@@ -40,14 +42,13 @@ fn ensure_tables<S: Alter>(connection: &mut Connection<S>) -> Result<(), Refusal
 /// Reads the book, whose tables it makes where there is none.
 fn load_from<S: Alter>(alloc: Global, connection: &mut Connection<S>) -> Result<Book, Refusal>
     ensures loaded { HasCleanDisk (state S.Store connection.new) → IfOk result (IsLoaded (state S.Store connection.old) (state S.Store connection.new)) }
+    ensures fault { HasCleanDisk (state S.Store connection.new) → IsErrOf result Refusal.Database → IsNotLoaded S.Store connection.old connection.new }
     ensures crash { Survives (state S.Store connection.old) (state S.Store connection.new) (MayMake (state S.Store connection.old)) }
 {
     ensure_tables(connection)?;
     let book = read_book(alloc, connection)?;
     let _live = connection.schema();
-    if !connection.is_autocommit() {
-        return Err(Refusal::Database);
-    }
+    let _settled = connection.is_autocommit();
     Ok(book)
 }
 
@@ -63,6 +64,7 @@ pub(crate) fn load_through<S: Alter>(
     ensures same { Tells S.Store connection.new → IfOk result (λ found. (settled : Bool) (was : Pages) → Holds S.Store connection.old settled was → found ≡ was) }
     ensures allowed { Tells S.Store connection.new → IfOk result (λ found. Leaves S.Store connection.old (Some found)) }
     ensures refused { Tells S.Store connection.new → OnErr result (LeavesNothingNew (Leaves S.Store connection.old) (Leaves S.Store connection.new)) }
+    ensures fault { Tells S.Store connection.new → IsErrOf result Refusal.Database → FailsToLoad S.Store connection.old connection.new }
 {
     match connection {
         Some(connected) => load_from(alloc, connected),

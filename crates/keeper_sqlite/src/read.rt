@@ -10,6 +10,7 @@ ghost use Rattle.sqlite.specs.Held.{state};
 ghost use Rattle.sqlite.specs.State.{HasCleanDisk, IsUnchanged, Survives};
 ghost use Rattle.keeper_sqlite.specs.Tables.{IsBookSchema};
 ghost use Rattle.keeper_sqlite.specs.Rows.{shown_entry, shown_item, IsNoEntry, IsNoItem, RisesFrom, HoldsBook, HoldsJournal};
+ghost use Rattle.keeper_sqlite.specs.Unloaded.{IsNoJournal, IsNoBook};
 
 use crate::refusal::Refusal;
 use crate::select::{select_entries, select_items};
@@ -114,6 +115,7 @@ fn read_entries<S: Alter>(
     requires { HasCleanDisk (state S.Store connection.old) → IsBookSchema (state S.Store connection.old).now.schema }
     ensures found { HasCleanDisk (state S.Store connection.new) → IfOk result (λ entries. HoldsJournal ((state S.Store connection.old).now.trees 2) entries.items) }
     ensures same { HasCleanDisk (state S.Store connection.new) → OnOk result (IsUnchanged (state S.Store connection.old) (state S.Store connection.new)) }
+    ensures fault { HasCleanDisk (state S.Store connection.new) → IsErrOf result Refusal.Database → IsNoJournal S.Store connection.old connection.new }
     ensures crash { Survives (state S.Store connection.old) (state S.Store connection.new) (λ _. ⊥) }
 {
     let entries = select_entries(alloc, connection)?;
@@ -131,6 +133,7 @@ pub(crate) fn read_book<S: Alter>(
     requires { HasCleanDisk (state S.Store connection.old) → IsBookSchema (state S.Store connection.old).now.schema }
     ensures found { HasCleanDisk (state S.Store connection.new) → IfOk result (HoldsBook (state S.Store connection.old).now.trees) }
     ensures same { HasCleanDisk (state S.Store connection.new) → OnOk result (IsUnchanged (state S.Store connection.old) (state S.Store connection.new)) }
+    ensures fault { HasCleanDisk (state S.Store connection.new) → IsErrOf result Refusal.Database → IsNoBook S.Store connection.old connection.new }
     ensures crash { Survives (state S.Store connection.old) (state S.Store connection.new) (λ _. ⊥) }
 {
     let meta = select_items(alloc, connection, ItemTable::Meta)?;

@@ -3,13 +3,14 @@
 //! Rows come one at a time, and each is let go before the next is read, so that a table is in memory once.
 //! No contract of `sqlite` hands out the order of the rows. So these functions say that the rows are those
 //! of the table in some order: an item says its number, and `read` tests the order of the entries.
-ghost use Rattle.std.specs.Prelude.{[], map, IfOk, OnOk, IsPermutation};
+ghost use Rattle.std.specs.Prelude.{[], map, IfOk, OnOk, IsErrOf, IsPermutation};
 ghost use Rattle.sqlite.specs.Held.{state};
 ghost use Rattle.sqlite.specs.Given.{IsPlain};
 ghost use Rattle.sqlite.specs.Listing.{understood};
 ghost use Rattle.sqlite.specs.State.{HasCleanDisk, IsUnchanged, Shown, Survives};
 ghost use Rattle.keeper_sqlite.specs.Tables.{IsBookSchema};
 ghost use Rattle.keeper_sqlite.specs.Rows.{entry_row, item_rows, shown_entry, shown_items, tree_of};
+ghost use Rattle.keeper_sqlite.specs.Unloaded.{select_of, IsNoItems, IsNoEntries};
 
 use crate::read::{ItemTable, entry_of, item_of};
 use crate::refusal::Refusal;
@@ -30,6 +31,7 @@ fn show_items<S: Alter>(
 ) -> Result<Vec<Bytes>, Refusal>
     requires { HasCleanDisk (state S.Store connection.old) → IsPlain (understood (state S.Store connection.old).now.schema sql.now) }
     ensures shown { HasCleanDisk (state S.Store connection.new) → IfOk result (λ items. Shown sql.now [] (state S.Store connection.old) (state S.Store connection.new) (shown_items 0 items.items)) }
+    ensures fault { HasCleanDisk (state S.Store connection.new) → IsErrOf result Refusal.Database → IsNoItems S.Store sql.now connection.old connection.new }
     ensures crash { Survives (state S.Store connection.old) (state S.Store connection.new) (λ _. ⊥) }
 {
     let mut items = Vec::new(alloc);
@@ -52,11 +54,12 @@ fn show_entries<S: Alter>(
 ) -> Result<Vec<Entry>, Refusal>
     requires { HasCleanDisk (state S.Store connection.old) → IsPlain (understood (state S.Store connection.old).now.schema sql.now) }
     ensures shown { HasCleanDisk (state S.Store connection.new) → IfOk result (λ entries. Shown sql.now [] (state S.Store connection.old) (state S.Store connection.new) (map shown_entry entries.items)) }
+    ensures fault { HasCleanDisk (state S.Store connection.new) → IsErrOf result Refusal.Database → IsNoEntries S.Store sql.now connection.old connection.new }
     ensures crash { Survives (state S.Store connection.old) (state S.Store connection.new) (λ _. ⊥) }
 {
     let mut entries = Vec::new(alloc);
     let mut rows = connection.query(sql, &[])?;
-    'rows: for _ in 0..MOST_ROWS {
+    'rows: for _place in 0..MOST_ROWS {
         let Some(row) = rows.next()? else {
             return Ok(entries);
         };
@@ -74,6 +77,7 @@ fn select_meta<S: Alter>(
     requires { HasCleanDisk (state S.Store connection.old) → IsBookSchema (state S.Store connection.old).now.schema }
     ensures found { HasCleanDisk (state S.Store connection.new) → IfOk result (λ items. IsPermutation (item_rows 0 items.items) ((state S.Store connection.old).now.trees 0)) }
     ensures same { HasCleanDisk (state S.Store connection.new) → OnOk result (IsUnchanged (state S.Store connection.old) (state S.Store connection.new)) }
+    ensures fault { HasCleanDisk (state S.Store connection.new) → IsErrOf result Refusal.Database → IsNoItems S.Store SELECT_META.now connection.old connection.new }
     ensures crash { Survives (state S.Store connection.old) (state S.Store connection.new) (λ _. ⊥) }
 {
     let _sound = connection.schema();
@@ -88,6 +92,7 @@ fn select_mutations<S: Alter>(
     requires { HasCleanDisk (state S.Store connection.old) → IsBookSchema (state S.Store connection.old).now.schema }
     ensures found { HasCleanDisk (state S.Store connection.new) → IfOk result (λ items. IsPermutation (item_rows 0 items.items) ((state S.Store connection.old).now.trees 1)) }
     ensures same { HasCleanDisk (state S.Store connection.new) → OnOk result (IsUnchanged (state S.Store connection.old) (state S.Store connection.new)) }
+    ensures fault { HasCleanDisk (state S.Store connection.new) → IsErrOf result Refusal.Database → IsNoItems S.Store SELECT_MUTATIONS.now connection.old connection.new }
     ensures crash { Survives (state S.Store connection.old) (state S.Store connection.new) (λ _. ⊥) }
 {
     let _sound = connection.schema();
@@ -103,6 +108,7 @@ pub(crate) fn select_items<S: Alter>(
     requires { HasCleanDisk (state S.Store connection.old) → IsBookSchema (state S.Store connection.old).now.schema }
     ensures found { HasCleanDisk (state S.Store connection.new) → IfOk result (λ items. IsPermutation (item_rows 0 items.items) ((state S.Store connection.old).now.trees (tree_of table))) }
     ensures same { HasCleanDisk (state S.Store connection.new) → OnOk result (IsUnchanged (state S.Store connection.old) (state S.Store connection.new)) }
+    ensures fault { HasCleanDisk (state S.Store connection.new) → IsErrOf result Refusal.Database → IsNoItems S.Store (select_of table) connection.old connection.new }
     ensures crash { Survives (state S.Store connection.old) (state S.Store connection.new) (λ _. ⊥) }
 {
     match table {
@@ -119,6 +125,8 @@ pub(crate) fn select_entries<S: Alter>(
     requires { HasCleanDisk (state S.Store connection.old) → IsBookSchema (state S.Store connection.old).now.schema }
     ensures found { HasCleanDisk (state S.Store connection.new) → IfOk result (λ entries. IsPermutation (map entry_row entries.items) ((state S.Store connection.old).now.trees 2)) }
     ensures same { HasCleanDisk (state S.Store connection.new) → OnOk result (IsUnchanged (state S.Store connection.old) (state S.Store connection.new)) }
+    ensures shown { HasCleanDisk (state S.Store connection.new) → IfOk result (λ entries. Shown SELECT_JOURNAL.now [] (state S.Store connection.old) (state S.Store connection.new) (map shown_entry entries.items)) }
+    ensures fault { HasCleanDisk (state S.Store connection.new) → IsErrOf result Refusal.Database → IsNoEntries S.Store SELECT_JOURNAL.now connection.old connection.new }
     ensures crash { Survives (state S.Store connection.old) (state S.Store connection.new) (λ _. ⊥) }
 {
     let _sound = connection.schema();

@@ -6,8 +6,8 @@
 //! the connection shows and has committed; it is told only while the keeper is settled. `faults` counts the
 //! calls that answered a fault, and stays at its type's end.
 //!
-//! The calls of the keeper have the clauses of `Keeper`, and one more: none lets the connection go, since
-//! over none the clauses on books would say nothing.
+//! The calls of the keeper have the clauses of `Keeper`, and two more: none lets the connection go, since
+//! over none the clauses on books would say nothing, and a fault comes only by the causes that `fault` names.
 ghost use Rattle.std.specs.Prelude.{◌≡◌, ◌≢◌, [], true, false, Ok, Some, is_some, IsTrue, IfOk, OnOk, OnErr, IsOk, IsErrOf};
 ghost use Rattle.mcy_base.specs.Causes.{one_more, IsCaused};
 ghost use Rattle.mcy_keeper.specs.declared.book.Book.{Book as Pages};
@@ -15,6 +15,8 @@ ghost use Rattle.mcy_keeper.specs.Books.{begun, with_entry, IsBlank, IsNext, Kee
 ghost use Rattle.keeper_sqlite.specs.Stands.{Tells, Holds, Leaves};
 ghost use Rattle.keeper_sqlite.specs.Making.{LoadsTables};
 ghost use Rattle.keeper_sqlite.specs.Refusals.{IsNotAppended};
+ghost use Rattle.keeper_sqlite.specs.Unbegun.{FailsToBegin};
+ghost use Rattle.keeper_sqlite.specs.Unloaded.{FailsToLoad};
 ghost use Rattle.keeper_sqlite.specs.Laws.{holds_one, holds_tells, leaves_some};
 
 use crate::append::append_through;
@@ -130,6 +132,7 @@ impl<S: Alter> Keeper for SqlKeeper<S> {
         ensures settles { OnOk result (IsTrue self.new.settled) }
         ensures stays { OnErr result (self.new.settled ≡ self.old.settled) }
         ensures cause { IsCaused self.old.faults self.new.faults (IsErrOf result KeepError.Fault) }
+        ensures fault { Tells S.Store self.new.connection → IsErrOf result KeepError.Fault → FailsToLoad S.Store self.old.connection self.new.connection }
     {
         let loaded = load_through(self.alloc, &mut self.connection);
         self.answer_load(loaded)
@@ -150,6 +153,7 @@ impl<S: Alter> Keeper for SqlKeeper<S> {
         ensures unsettled { IsErrOf result KeepError.Fault → self.new.settled ≡ false }
         ensures stays { IsErrOf result KeepError.Memory → IsTrue self.new.settled }
         ensures cause { IsCaused self.old.faults self.new.faults (IsErrOf result KeepError.Fault) }
+        ensures fault { Tells S.Store self.new.connection → IsErrOf result KeepError.Fault → FailsToBegin S.Store self.old.connection self.new.connection meta.now mutations.now }
     {
         let written = begin_through(&mut self.connection, meta, mutations);
         self.answer_write(written)

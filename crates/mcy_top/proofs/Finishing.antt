@@ -3,7 +3,7 @@ use Rattle.std.proofs.Common.{◌≡◌, ◌≢◌, inl, inr, arith, ℕ, zero, 
 use Rattle.std.proofs.lemmas.Bool.Decides.{eqb_tells}
 use Rattle.mcy_keeper.specs.declared.book.Entry.{Entry}
 use Rattle.mcy_keeper.specs.declared.book.Book.{Book}
-use Rattle.mcy_top.specs.declared.netlist.RawNetlist.{RawNetlist}
+use Rattle.netlist_core.specs.declared.raw.RawNetlist.{RawNetlist}
 use Rattle.mcy_top.specs.declared.site.Site.{Site}
 use Rattle.mcy_top.specs.declared.prepared.Prepared.{Prepared}
 use Rattle.result_book.specs.declared.script.Ask.TheVariants.{Need}
@@ -26,7 +26,7 @@ known_word netlist (Some site) word (inr right) = λ is. let fail : word ≡ 1 =
 none_given_up : (c : Prepared) (rows : List Entry) → AreTrue c rows → given_up rows ≡ []
 none_given_up c [] right = refl
 none_given_up c (e ∷ more) right = elim (eqb_tells e.word 3) [
-  | inl h ↦ absurd (known_word c.netlist.raw (slice_get c.sites e.mutation) e.word right.0 h.1)
+  | inl h ↦ absurd (known_word c.netlist (slice_get c.sites e.mutation) e.word right.0 h.1)
   | inr h ↦ rw h.0 (none_given_up c more right.1)
 ]
 

@@ -1,5 +1,5 @@
 -- Rows, one more at the end.
-use Rattle.std.proofs.Common.{◌≡◌, ◌⊎◌, inl, inr, arith, ℕ, ◌+◌, false, None, List, [], ◌∷◌, ◌++◌, length, Option, Some, refl, sym, ap, subst, ◌∙◌, append_assoc, length-append, Result, Ok, Err, OnOk, OnErr, IsErrOf}
+use Rattle.std.proofs.Common.{◌≡◌, ◌⊎◌, inl, inr, arith, ℕ, ◌+◌, false, None, List, [], ◌∷◌, ◌++◌, length, Option, Some, refl, sym, ap, subst, ◌∙◌, append_assoc, length-append, Result, Ok, Err, OnErr, IsErrOf}
 use Rattle.std.specs.Option.{option_eq}
 use Rattle.std.proofs.Math.Dec.{eqb}
 use Rattle.std.proofs.lemmas.Bool.{eqb-false}
@@ -45,15 +45,6 @@ pub course_more : (c : Prepared) (start : Book) (changes : List Book) (end next 
 course_more c start [] end next course change = (subst (λ (b : Book). IsChange c b next) course change, refl)
 course_more c start (x ∷ changes) end next course change = (course.0, course_more c x changes end next course.1 change)
 
-pub ran_none : (c : Prepared) (rows : List Entry) → IsWellFormed c.campaign (book_of c rows) → Ran c rows rows
-ran_none c rows form = record {
-  goes_on = record { meta = refl; mutations = refl; more = []; rows = sym (append-nil rows) };
-  form = form;
-  words_true = λ all. all;
-  changes = [];
-  course = refl;
-}
-
 pub ran_more : (c : Prepared) (start rows : List Entry) (e : Entry) → Ran c start rows → IsNextRow c (book_of c rows) e → Ran c start (rows ++ e ∷ [])
 ran_more c start rows e ran next = record {
   goes_on = record {
@@ -83,11 +74,6 @@ append_left holds leaves leaves' (Ok done) c book e next kept either refused = t
 append_left holds leaves leaves' (Err Fault) c book e next kept either refused = either_next leaves' c book e next (either refl book kept.told)
 append_left holds leaves leaves' (Err Memory) c book e next kept either refused = λ left is.
     only_books leaves (λ other. (other ≡ book) ⊎ ((f : Entry) × IsNextRow c book f × (other ≡ with_entry book f))) book kept.crash (inl refl) left (refused refl left is)
-
--- a fact that holds anyway
-pub on_ok : {T E : Type 0} (result : Result T E) (P : Type 0) → P → OnOk result P
-on_ok (Ok value) P p = p
-on_ok (Err error) P p = tt
 
 -- a row was added
 pub ran_added : (c : Prepared) (start old new : List Entry) (m : ℕ) → Ran c start old → AddsRow c old new m → Ran c start new

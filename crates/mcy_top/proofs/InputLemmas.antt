@@ -1,83 +1,87 @@
 -- The bits of all inputs together.
-use Rattle.std.proofs.Common.{suc, ◌≡◌, ℕ, ◌+◌, ◌*◌, ◌<◌, ◌^◌, Bool, true, false, List, [], ◌∷◌, ◌++◌, length, refl, sym, ◌∙◌, ap, subst, arith, length-append}
-use Rattle.std.proofs.Math.Nat.{pow-suc, mod-eq_of_lt}
-use Rattle.std.proofs.lemmas.Bool.{false≢true}
-use Rattle.mcy_top.specs.declared.cell.Bit.{Bit}
-use Rattle.mcy_top.specs.declared.cell.Bit.TheVariants.{Fixed, Net}
-use Rattle.mcy_top.specs.declared.netlist.RawNetlist.{RawNetlist}
-use Rattle.mcy_top.specs.Numbers.{number}
-use Rattle.mcy_top.specs.Runs.{Nets, values, port_numbers}
-use Rattle.mcy_top.specs.Sound.{Plan, with_net, with_nets_of, with_nets_of_all, AllKnown, AllFresh, AllPortsFresh, no_net, entered, AllBelow, AllPortsFit, IsSound}
-use Rattle.mcy_top.specs.Settled.{laid}
-use Rattle.mcy_top.specs.Inputs.{all_bits, total_width}
-use Rattle.mcy_top.proofs.Settles.{Agree, AllKnown-own, agree-more, values-agree, ports-agree, number-injective, length-values, laid-number}
+use Rattle.std.proofs.Common.{suc, ◌≡◌, ℕ, ◌+◌, ◌*◌, ◌/◌, ◌%◌, ◌<◌, ◌^◌, Bool, List, [], ◌∷◌, ◌++◌, length, nat_eq, refl, sym, ◌∙◌, ap, subst, arith}
+use Rattle.std.proofs.Math.Nat.{mod-lt, mod-eq_of_lt, div-eq_of_lt, div-div-eq-div-mul, add-mul-mod_self_left, add-mul-div_left, pow-succ'}
+use Rattle.std.proofs.lemmas.Nat.{mod-pow-add, pow_pos}
+use Rattle.std.proofs.lemmas.List.{map-append}
+use Rattle.netlist_core.specs.declared.bit.Bit.{Bit}
+use Rattle.netlist_core.specs.declared.bit.Bit.TheVariants.{Fixed, Net}
+use Rattle.netlist_core.specs.declared.raw.RawNetlist.{RawNetlist}
+use Rattle.netlist_core.specs.Numbers.{number}
+use Rattle.netlist_core.specs.Runs.{Nets, bit_value, values, port_numbers}
+use Rattle.netlist_core.specs.Settled.{with_net, laid, laid_all}
+use Rattle.netlist_core.specs.Solutions.{FitPorts}
+use Rattle.netlist_core.proofs.Settles.{length-values, number-fits}
+use Rattle.cell_meaning.proofs.Parts.{number-append}
+use Rattle.mcy_top.specs.Inputs.{joined, input_bits, parts}
 
-pub length-all_bits : (ports : List (List Bit)) → length (all_bits ports) ≡ total_width ports
-length-all_bits [] = refl
-length-all_bits (bits ∷ more) = length-append bits (all_bits more) ∙ ap (λ n. length bits + n) (length-all_bits more)
+-- Laying a number.
 
-pub with_nets_of-append : (known : ℕ → Bool) (xs ys : List Bit) → with_nets_of known (xs ++ ys) ≡ with_nets_of (with_nets_of known xs) ys
-with_nets_of-append known [] ys = refl
-with_nets_of-append known (Fixed b ∷ xs) ys = with_nets_of-append known xs ys
-with_nets_of-append known (Net n ∷ xs) ys = with_nets_of-append (with_net known n true) xs ys
+half-again : (v k : ℕ) → v / 2 / 2 ^ k ≡ v / 2 ^ suc k
+half-again v k = div-div-eq-div-mul v 2 (2 ^ k) ∙ ap (λ (n : ℕ). v / n) (sym (pow-succ' 2 k))
 
-pub with_nets_of-all_bits : (known : ℕ → Bool) (ports : List (List Bit)) → with_nets_of known (all_bits ports) ≡ with_nets_of_all known ports
-with_nets_of-all_bits known [] = refl
-with_nets_of-all_bits known (bits ∷ more) = with_nets_of-append known bits (all_bits more) ∙ with_nets_of-all_bits (with_nets_of known bits) more
+-- the low bits of a number: bit 0, and those above it
+low-whole : (v k : ℕ) → v % 2 ^ suc k ≡ (v / 2 ^ 1 % 2 ^ k) * 2 ^ 1 + v % 2 ^ 1
+low-whole v k =
+    let parts_of : v % 2 ^ (k + 1) ≡ (v / 2 ^ 1 % 2 ^ k) * 2 ^ 1 + v % 2 ^ 1 = mod-pow-add v k 1 in
+    let same : k + 1 ≡ suc k = omega arith in
+    rw same at parts_of
 
-pub AllFresh-append : (known : ℕ → Bool) (xs ys : List Bit) → AllFresh known xs → AllFresh (with_nets_of known xs) ys → AllFresh known (xs ++ ys)
-AllFresh-append known [] ys fresh rest = rest
-AllFresh-append known (Fixed b ∷ xs) ys fresh rest = fresh
-AllFresh-append known (Net n ∷ xs) ys fresh rest = (fresh.0, AllFresh-append (with_net known n true) xs ys fresh.1 rest)
+cut-bit : (v k : ℕ) → v % 2 ^ suc k % 2 ≡ v % 2
+cut-bit v k = (let whole = low-whole v k in omega (arith, whole))
 
-pub AllFresh-all_bits : (known : ℕ → Bool) (ports : List (List Bit)) → AllPortsFresh known ports → AllFresh known (all_bits ports)
-AllFresh-all_bits known [] fresh = tt
-AllFresh-all_bits known (bits ∷ more) fresh = AllFresh-append known bits (all_bits more) fresh.0 (AllFresh-all_bits (with_nets_of known bits) more fresh.1)
+cut-half : (v k : ℕ) → v % 2 ^ suc k / 2 ≡ v / 2 % 2 ^ k
+cut-half v k = (let whole = low-whole v k in omega (arith, whole))
 
-pub AllBelow-append : (limit : ℕ) (xs ys : List Bit) → AllBelow limit xs → AllBelow limit ys → AllBelow limit (xs ++ ys)
-AllBelow-append limit [] ys below rest = rest
-AllBelow-append limit (Fixed b ∷ xs) ys below rest = AllBelow-append limit xs ys below rest
-AllBelow-append limit (Net n ∷ xs) ys below rest = (below.0, AllBelow-append limit xs ys below.1 rest)
+-- only the low bits of a number are laid
+pub laid-low : (nets : Nets) (bits : List Bit) (v : ℕ) → laid nets bits (v % 2 ^ length bits) ≡ laid nets bits v
+laid-low nets [] v = refl
+laid-low nets (Fixed b ∷ more) v = ap (laid nets more) (cut-half v (length more)) ∙ laid-low nets more (v / 2)
+laid-low nets (Net n ∷ more) v =
+    ap (λ w. laid (with_net nets n (nat_eq w 1)) more (v % 2 ^ suc (length more) / 2)) (cut-bit v (length more))
+    ∙ ap (laid (with_net nets n (nat_eq (v % 2) 1)) more) (cut-half v (length more))
+    ∙ laid-low (with_net nets n (nat_eq (v % 2) 1)) more (v / 2)
 
-pub AllBelow-all_bits : (limit : ℕ) (ports : List (List Bit)) → AllPortsFit limit ports → AllBelow limit (all_bits ports)
-AllBelow-all_bits limit [] fit = tt
-AllBelow-all_bits limit (bits ∷ more) fit = AllBelow-append limit bits (all_bits more) fit.2 (AllBelow-all_bits limit more fit.3)
+laid-append : (nets : Nets) (xs ys : List Bit) (v : ℕ) → laid nets (xs ++ ys) v ≡ laid (laid nets xs v) ys (v / 2 ^ length xs)
+laid-append nets [] ys v = ap (laid nets ys) (let whole : v ≡ v / 2 ^ 0 = omega arith in whole)
+laid-append nets (Fixed b ∷ xs) ys v = laid-append nets xs ys (v / 2) ∙ ap (laid (laid nets xs (v / 2)) ys) (half-again v (length xs))
+laid-append nets (Net n ∷ xs) ys v =
+    let start : Nets = with_net nets n (nat_eq (v % 2) 1) in
+    laid-append start xs ys (v / 2) ∙ ap (laid (laid start xs (v / 2)) ys) (half-again v (length xs))
 
-pub number-fits : (bits : List Bool) → number bits < 2 ^ length bits
-number-fits [] = omega arith
-number-fits (true ∷ more) = let e : number more < 2 ^ length more = number-fits more in let d : 2 ^ suc (length more) ≡ 2 ^ length more * 2 = pow-suc 2 (length more) in omega arith
-number-fits (false ∷ more) = let e : number more < 2 ^ length more = number-fits more in let d : 2 ^ suc (length more) ≡ 2 ^ length more * 2 = pow-suc 2 (length more) in omega arith
+-- a number that is laid over all ports is laid over each in its part
+pub laid-parts : (nets : Nets) (ports : List (List Bit)) (v : ℕ) → laid nets (joined ports) v ≡ laid_all nets ports (parts ports v)
+laid-parts nets [] v = refl
+laid-parts nets (bits ∷ more) v =
+    laid-append nets bits (joined more) v
+    ∙ laid-parts (laid nets bits v) more (v / 2 ^ length bits)
+    ∙ ap (λ (start : Nets). laid_all start more (parts more (v / 2 ^ length bits))) (sym (laid-low nets bits v))
 
--- the number of the inputs' bits is one of those that are tried
-pub inputs-tried : (netlist : RawNetlist) (nets : Nets) → number (values nets (all_bits netlist.inputs)) < 2 ^ length (all_bits netlist.inputs)
-inputs-tried netlist nets = let P : ℕ → Type 0 = λ n. number (values nets (all_bits netlist.inputs)) < 2 ^ n in subst P (length-values nets (all_bits netlist.inputs)) (number-fits (values nets (all_bits netlist.inputs)))
+pub laid_all-none : (nets : Nets) (ports : List (List Bit)) → laid_all nets ports [] ≡ nets
+laid_all-none nets [] = refl
+laid_all-none nets (bits ∷ more) = refl
 
--- Values that agree at the inputs.
+pub parts-fit : (ports : List (List Bit)) (v : ℕ) → FitPorts ports (parts ports v)
+parts-fit [] v = tt
+parts-fit (bits ∷ more) v = (mod-lt v (pow_pos (length bits)), parts-fit more (v / 2 ^ length bits))
 
-pub agree-nowhere : (a b : Nets) → Agree no_net a b
-agree-nowhere a b n has = absurd (false≢true has)
+-- The number of the bits at all ports.
 
--- equal numbers at the ports, so equal values at their nets
-pub entered-agree : (netlist : RawNetlist) (a b : Nets) → port_numbers a netlist.inputs ≡ port_numbers b netlist.inputs → Agree (entered netlist) a b
-entered-agree netlist a b same = ports-agree no_net a b (agree-nowhere a b) netlist.inputs same
+number-low : (xs ys : List Bool) → number (xs ++ ys) % 2 ^ length xs ≡ number xs
+number-low xs ys = ap (λ (n : ℕ). n % 2 ^ length xs) (number-append xs ys) ∙ add-mul-mod_self_left (number xs) (2 ^ length xs) (number ys) ∙ mod-eq_of_lt (number-fits xs)
 
--- the same from the number of all bits
-pub bits-agree : (netlist : RawNetlist) (a b : Nets) → number (values a (all_bits netlist.inputs)) ≡ number (values b (all_bits netlist.inputs)) → Agree (entered netlist) a b
-bits-agree netlist a b same =
-    let bits : List Bit = all_bits netlist.inputs in
-    let alike : values a bits ≡ values b bits = number-injective (values a bits) (values b bits) (length-values a bits ∙ sym (length-values b bits)) same in
-    let P : (ℕ → Bool) → Type 0 = λ known. Agree known a b in
-    subst P (with_nets_of-all_bits no_net netlist.inputs) (agree-more no_net a b (agree-nowhere a b) bits alike)
+number-high : (xs ys : List Bool) → number (xs ++ ys) / 2 ^ length xs ≡ number ys
+number-high xs ys = ap (λ (n : ℕ). n / 2 ^ length xs) (number-append xs ys) ∙ add-mul-div_left (number xs) (number ys) (pow_pos (length xs)) ∙ ap (λ (n : ℕ). n + number ys) (div-eq_of_lt (number-fits xs)) ∙ (let whole : 0 + number ys ≡ number ys = omega arith in whole)
 
-pub agree-bits : (netlist : RawNetlist) (a b : Nets) → Agree (entered netlist) a b → number (values a (all_bits netlist.inputs)) ≡ number (values b (all_bits netlist.inputs))
-agree-bits netlist a b agree =
-    let bits : List Bit = all_bits netlist.inputs in
-    let P : (ℕ → Bool) → Type 0 = λ known. AllKnown known bits in
-    let known : AllKnown (entered netlist) bits = subst P (with_nets_of-all_bits no_net netlist.inputs) (AllKnown-own no_net bits) in
-    ap number (values-agree (entered netlist) a b agree bits known)
+pub parts-values : (nets : Nets) (ports : List (List Bit)) → parts ports (number (values nets (joined ports))) ≡ port_numbers nets ports
+parts-values nets [] = refl
+parts-values nets (bits ∷ more) =
+    let whole : values nets (bits ++ joined more) ≡ values nets bits ++ values nets (joined more) = map-append (bit_value nets) bits (joined more) in
+    let wide : length (values nets bits) ≡ length bits = length-values nets bits in
+    let low : number (values nets (bits ++ joined more)) % 2 ^ length bits ≡ number (values nets bits) = rw (whole, ← wide) (number-low (values nets bits) (values nets (joined more))) in
+    let high : number (values nets (bits ++ joined more)) / 2 ^ length bits ≡ number (values nets (joined more)) = rw (whole, ← wide) (number-high (values nets bits) (values nets (joined more))) in
+    let rest : parts more (number (values nets (joined more))) ≡ port_numbers nets more = parts-values nets more in
+    rw (low, high, rest) refl
 
--- a number that is laid is the number of all bits
-pub laid-all_bits : (plan : Plan) → IsSound plan → (nets : Nets) (n : ℕ) → n < 2 ^ length (all_bits plan.raw.inputs) → number (values (laid nets (all_bits plan.raw.inputs) n) (all_bits plan.raw.inputs)) ≡ n
-laid-all_bits plan sound nets n fits =
-    let bits : List Bit = all_bits plan.raw.inputs in
-    laid-number nets no_net bits n (AllFresh-all_bits no_net plan.raw.inputs sound.inputs) ∙ mod-eq_of_lt fits
+-- it is one of those that are tried
+pub inputs-tried : (netlist : RawNetlist) (nets : Nets) → number (values nets (input_bits netlist)) < 2 ^ length (input_bits netlist)
+inputs-tried netlist nets = subst (λ (n : ℕ). number (values nets (input_bits netlist)) < 2 ^ n) (length-values nets (input_bits netlist)) (number-fits (values nets (input_bits netlist)))

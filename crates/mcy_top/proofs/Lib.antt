@@ -5,12 +5,14 @@ pub mod Texts
 pub mod ThinText
 pub mod Unrepeated
 pub mod Positions
-pub mod FitLemmas
 pub mod SiteLemmas
 pub mod ThinNames
 pub mod ThinNets
 pub mod ThinSites
+pub mod InOrder
+pub mod Accepted
 pub mod ThinSound
+pub mod CellPorts
 pub mod TableLemmas
 pub mod Settles
 pub mod SightLemmas
@@ -18,7 +20,6 @@ pub mod SitesSeen
 pub mod InputLemmas
 pub mod TrialLemmas
 pub mod Solved
-pub mod SitesListed
 pub mod Crashes
 pub mod Asking
 pub mod Growing

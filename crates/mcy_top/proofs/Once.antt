@@ -1,7 +1,7 @@
 -- A project and its source have one campaign, and what a campaign defines is one.
 use Rattle.std.proofs.Common.{◌≡◌, inl, inr, arith, ℕ, ◌+◌, Bool, true, false, MatchBool, List, [], ◌∷◌, ◌++◌, length, slice_get, Option, None, Some, refl, sym, ap, subst, ◌∙◌, codes}
 use Rattle.mcy_keeper.specs.declared.book.Book.{Book}
-use Rattle.mcy_top.specs.declared.netlist.RawNetlist.{RawNetlist}
+use Rattle.netlist_core.specs.declared.raw.RawNetlist.{RawNetlist}
 use Rattle.mcy_top.specs.declared.site.Site.{Site}
 use Rattle.mcy_top.specs.declared.thin.ThinModule.{ThinModule}
 use Rattle.mcy_top.specs.declared.prepared.Prepared.{Prepared}
@@ -11,7 +11,7 @@ use Rattle.mcy_top.specs.ThinModules.{IsSource}
 use Rattle.mcy_top.specs.ThinNetlists.{netlist_of}
 use Rattle.mcy_top.specs.Sites.{sites}
 use Rattle.result_book.specs.Scripts.{Answer, ask, is_ended}
-use Rattle.mcy_top.specs.Campaigns.{campaign_of, meta_of, plan_of, source_name, IsPlan}
+use Rattle.mcy_top.specs.Campaigns.{campaign_of, meta_of, source_name, IsPlan}
 use Rattle.result_book.specs.Rows.{IsWellFormed}
 use Rattle.mcy_top.specs.Rows.{AreTrue, IsBlankOrGood, IsTrueWord, IsTrueWordAt}
 use Rattle.source_report.specs.Texts.{lines, status_text}
@@ -36,7 +36,7 @@ plan_once c d one two same =
     let config : one.config ≡ two.config = cc in
     let bytes : one.bytes ≡ two.bytes = source_kept one.config one.bytes two.config two.bytes kept in
     let parsed : one.made.parsed ≡ two.made.parsed = source_once two.bytes one.made.parsed two.made.parsed (subst (λ (b : List ℕ). IsSource b one.made.parsed) bytes one.made.text) two.made.text in
-    let netlist : c.netlist ≡ d.netlist = one.made.netlist ∙ ap plan_of parsed ∙ sym two.made.netlist in
+    let netlist : c.netlist ≡ d.netlist = one.made.netlist ∙ ap netlist_of parsed ∙ sym two.made.netlist in
     let places : c.sites ≡ d.sites = one.made.places ∙ ap (λ (m : ThinModule). sites (netlist_of m)) parsed ∙ sym two.made.places in
     let derived : campaign_of one.config one.bytes one.made.parsed ≡ campaign_of two.config two.bytes two.made.parsed = λ i. campaign_of (config i) (bytes i) (parsed i) in
     let campaign : c.campaign ≡ d.campaign = one.made.campaign ∙ derived ∙ sym two.made.campaign in
@@ -65,7 +65,7 @@ word_once c pairs others m t a b same h k = go (is_given_up others m t) (subst (
   where
     go : (x : Bool) → MatchBool x (a ≡ 3) (IsTrueWord c m a) → MatchBool x (b ≡ 3) (IsTrueWord c m b) → a ≡ b
     go true h k = h ∙ sym k
-    go false h k = true_word_once c.netlist.raw (slice_get c.sites m) a b h k
+    go false h k = true_word_once c.netlist (slice_get c.sites m) a b h k
 
 -- a script that needs a test has not ended
 not_ended : (asked : Ask) (t : ℕ) → asked ≡ Need t → ¬ (is_ended asked ≡ true)

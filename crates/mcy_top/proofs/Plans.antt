@@ -1,55 +1,45 @@
 -- What a plan's netlist is: small enough for the equivalence test, with the campaign's sites.
-use Rattle.std.proofs.Common.{◌≡◌, ℕ, zero, suc, ◌<◌, ◌≤◌, ◌*◌, List, [], ◌∷◌, length, map, get_or, slice_get, Option, None, Some, inl, inr, refl, sym, ◌∙◌, ap, subst, arith}
+use Rattle.std.proofs.Common.{◌≡◌, ℕ, zero, suc, ◌<◌, ◌≤◌, List, [], ◌∷◌, length, map, get_or, Option, inl, inr, refl, sym, ◌∙◌, ap, subst, arith}
 use Rattle.std.proofs.lemmas.List.{get_or_default, length-map}
 use Rattle.std.proofs.lemmas.Option.{slice_get-get_or}
 use Rattle.mcy_top.specs.declared.thin.ThinModule.{ThinModule}
 use Rattle.mcy_top.specs.declared.site.Site.{Site}
 use Rattle.mcy_top.specs.declared.prepared.Prepared.{Prepared}
-use Rattle.mcy_top.specs.ThinModules.{input_names}
 use Rattle.mcy_top.specs.ThinNetlists.{netlist_of}
 use Rattle.mcy_top.specs.Inputs.{input_bits}
-use Rattle.mcy_top.specs.Sound.{Plan}
 use Rattle.mcy_top.specs.Sites.{sites}
 use Rattle.mcy_top.specs.Equal.{OneStepEqual, design, mutant}
 use Rattle.mcy_top.specs.Rows.{IsTrueWord, IsTrueWordAt}
-use Rattle.mcy_top.proofs.ThinSites.{input_bits-netlist_of, length-sites}
+use Rattle.mcy_top.proofs.ThinSites.{length-input_bits, length-sites}
 use Rattle.std.specs.List.{All}
-use Rattle.std.specs.Prelude.{IsSomeAnd}
-use Rattle.mcy_top.specs.declared.netlist.RawNetlist.{RawNetlist}
+use Rattle.netlist_core.specs.declared.raw.RawNetlist.{RawNetlist}
 use Rattle.result_book.specs.declared.campaign.Campaign.{Campaign}
-use Rattle.result_book.specs.Campaigns.{eq_kind, IsEqWord, IsFit, IsKind, IsWordOf, IsWordOfKind}
+use Rattle.result_book.specs.Campaigns.{eq_kind, IsFit, IsKind}
 use Rattle.mcy_top.specs.SiteTexts.{site_text}
 use Rattle.mcy_top.specs.SiteLines.{site_line}
 use Rattle.mcy_top.specs.Campaigns.{campaign_of, meta_of, source_name, IsPlan}
 
-pub plan_small : (c : Prepared) → IsPlan c → input_bits c.netlist.raw ≤ 8
-plan_small c plan =
-    let parsed : ThinModule = plan.made.parsed in
-    let is : c.netlist.raw ≡ netlist_of parsed = ap (λ (p : Plan). p.raw) plan.made.netlist in
-    let bits : input_bits c.netlist.raw ≡ length (input_names parsed.ports) = ap input_bits is ∙ input_bits-netlist_of parsed in
-    omega (arith, bits, plan.made.few)
+pub plan_small : (c : Prepared) → IsPlan c → length (input_bits c.netlist) ≤ 8
+plan_small c plan = subst (λ (netlist : RawNetlist). length (input_bits netlist) ≤ 8) (sym plan.made.netlist) (omega (arith, length-input_bits plan.made.parsed, plan.made.few))
 
-pub plan_sites : (c : Prepared) → IsPlan c → c.sites ≡ sites c.netlist.raw
-plan_sites c plan = plan.made.places ∙ sym (ap (λ (p : Plan). sites p.raw) plan.made.netlist)
+pub plan_registers : (c : Prepared) → IsPlan c → c.netlist.registers ≡ []
+plan_registers c plan = ap (λ (netlist : RawNetlist). netlist.registers) plan.made.netlist
 
-pub plan_site : (c : Prepared) (m : ℕ) (d e : Site) → IsPlan c → m < length c.sites → (k : ℕ) × (k < length (sites c.netlist.raw)) × (get_or (sites c.netlist.raw) k e ≡ get_or c.sites m d)
+pub plan_sites : (c : Prepared) → IsPlan c → c.sites ≡ sites c.netlist
+plan_sites c plan = plan.made.places ∙ sym (ap sites plan.made.netlist)
+
+pub plan_site : (c : Prepared) (m : ℕ) (d e : Site) → IsPlan c → m < length c.sites → (k : ℕ) × (k < length (sites c.netlist)) × (get_or (sites c.netlist) k e ≡ get_or c.sites m d)
 plan_site c m d e plan below =
     subst (λ (list : List Site). (k : ℕ) × (k < length list) × (get_or list k e ≡ get_or c.sites m d)) (plan_sites c plan) (m, below, get_or_default c.sites m e d below)
 
 -- the true word of a mutation, from what the equivalence test found
-pub true_pass : (c : Prepared) (list : List Site) (m : ℕ) (d : Site) → list ≡ c.sites → m < length c.sites → OneStepEqual (design c.netlist.raw) (mutant c.netlist.raw (get_or list m d)) → IsTrueWord c m 0
+pub true_pass : (c : Prepared) (list : List Site) (m : ℕ) (d : Site) → list ≡ c.sites → m < length c.sites → OneStepEqual (design c.netlist) (mutant c.netlist (get_or list m d)) → IsTrueWord c m 0
 true_pass c list m d is below equal =
-    subst (λ (o : Option Site). IsTrueWordAt c.netlist.raw o 0) (sym (slice_get-get_or c.sites m d below)) (inl (refl, subst (λ (l : List Site). OneStepEqual (design c.netlist.raw) (mutant c.netlist.raw (get_or l m d))) is equal))
+    subst (λ (o : Option Site). IsTrueWordAt c.netlist o 0) (sym (slice_get-get_or c.sites m d below)) (inl (refl, subst (λ (l : List Site). OneStepEqual (design c.netlist) (mutant c.netlist (get_or l m d))) is equal))
 
-pub true_fail : (c : Prepared) (list : List Site) (m : ℕ) (d : Site) → list ≡ c.sites → m < length c.sites → (¬ OneStepEqual (design c.netlist.raw) (mutant c.netlist.raw (get_or list m d))) → IsTrueWord c m 1
+pub true_fail : (c : Prepared) (list : List Site) (m : ℕ) (d : Site) → list ≡ c.sites → m < length c.sites → (¬ OneStepEqual (design c.netlist) (mutant c.netlist (get_or list m d))) → IsTrueWord c m 1
 true_fail c list m d is below differ =
-    subst (λ (o : Option Site). IsTrueWordAt c.netlist.raw o 1) (sym (slice_get-get_or c.sites m d below)) (inr (refl, subst (λ (l : List Site). ¬ OneStepEqual (design c.netlist.raw) (mutant c.netlist.raw (get_or l m d))) is differ))
-
-pub plan_few : (c : Prepared) → IsPlan c → length c.sites ≤ 9
-plan_few c plan =
-    let parsed : ThinModule = plan.made.parsed in
-    let e : length c.sites ≡ 3 * length parsed.items = ap length plan.made.places ∙ length-sites parsed in
-    omega (arith, e, plan.made.text.thin.few_items)
+    subst (λ (o : Option Site). IsTrueWordAt c.netlist o 1) (sym (slice_get-get_or c.sites m d below)) (inr (refl, subst (λ (l : List Site). ¬ OneStepEqual (design c.netlist) (mutant c.netlist (get_or l m d))) is differ))
 
 pub plan_meta : (c : Prepared) (plan : IsPlan c) → c.campaign.meta ≡ meta_of plan.config plan.bytes
 plan_meta c plan = ap (λ (k : Campaign). k.meta) plan.made.campaign
@@ -85,17 +75,3 @@ plan_fit c plan =
     let parsed : ThinModule = plan.made.parsed in
     let few : length (sites (netlist_of parsed)) ≤ 9 = omega (arith, length-sites parsed, plan.made.text.thin.few_items) in
     subst IsFit (sym plan.made.campaign) (fit_of plan.config plan.bytes parsed few)
-
-pub plan_few_items : (c : Prepared) → IsPlan c → length c.campaign.meta < 2147483648
-plan_few_items c plan = let three : length c.campaign.meta ≡ 3 = ap length (plan_meta c plan) in omega (arith, three)
-
--- the one test is an equivalence test
-pub plan_word : (c : Prepared) (m word : ℕ) → IsPlan c → IsTrueWord c m word → IsWordOf c.campaign 0 word
-plan_word c m word plan right =
-    let kinds : c.campaign.kinds ≡ eq_kind ∷ [] = ap (λ (k : Campaign). k.kinds) plan.made.campaign in
-    subst (λ (l : List ℕ). IsSomeAnd (slice_get l 0) (λ kind. IsWordOfKind kind word)) (sym kinds) (inl (refl, eq_word c.netlist.raw (slice_get c.sites m) word right))
-  where
-    eq_word : (netlist : RawNetlist) (site : Option Site) (word : ℕ) → IsTrueWordAt netlist site word → IsEqWord word
-    eq_word netlist None word h = absurd h
-    eq_word netlist (Some site) word (inl h) = inl h.0
-    eq_word netlist (Some site) word (inr h) = inr (inl h.0)

@@ -1,15 +1,18 @@
 -- What readers see where bits are inverted.
-use Rattle.std.proofs.Common.{◌≡◌, ℕ, zero, suc, Bool, true, false, List, ◌∷◌, set, get_or, refl, ap, inl, inr}
+use Rattle.std.proofs.Common.{◌≡◌, ℕ, zero, suc, Bool, false, List, ◌∷◌, length, set, get_or, refl, ap, ◌∙◌, inl, inr}
 use Rattle.std.specs.Prelude.{not}
 use Rattle.std.proofs.lemmas.Bool.Decides.{eqb_tells}
-use Rattle.mcy_top.specs.declared.cell.Bit.{Bit}
+use Rattle.std.proofs.lemmas.List.{length-set}
+use Rattle.netlist_core.specs.declared.bit.Bit.{Bit}
+use Rattle.netlist_core.specs.declared.raw.RawNetlist.{RawNetlist}
+use Rattle.netlist_core.specs.Runs.{Nets, values}
+use Rattle.netlist_core.specs.Settled.{with_net}
+use Rattle.netlist_core.specs.Solutions.{IsCausal}
+use Rattle.netlist_core.proofs.Settles.{AgreeAt, values-agree, length-values}
 use Rattle.mcy_top.specs.declared.inverted.Inverted.{Inverted}
 use Rattle.mcy_top.specs.declared.view.View.{View}
 use Rattle.mcy_top.specs.declared.view.View.TheVariants.{Plain, BitInverted, NetInverted}
-use Rattle.mcy_top.specs.Runs.{Nets}
-use Rattle.mcy_top.specs.Sound.{with_net, AllKnown}
 use Rattle.mcy_top.specs.Seen.{seen_by, view_of, sight_by, first_seen, view_after}
-use Rattle.mcy_top.proofs.Settles.{Agree, IsCausal, values-agree}
 
 -- bits are seen one by one
 pub seen_by-cons : (view : View) (nets : Nets) (bit : Bit) (more : List Bit) → seen_by view nets (bit ∷ more) ≡ first_seen view nets bit ∷ seen_by (view_after view) nets more
@@ -18,18 +21,27 @@ seen_by-cons (BitInverted zero) nets bit more = refl
 seen_by-cons (BitInverted (suc i)) nets bit more = refl
 seen_by-cons (NetInverted n) nets bit more = refl
 
--- What is seen rests on what is known alone.
+-- as many bits are seen as there are
+pub length-seen_by : (view : View) (nets : Nets) (bits : List Bit) → length (seen_by view nets bits) ≡ length bits
+length-seen_by Plain nets bits = length-values nets bits
+length-seen_by (BitInverted i) nets bits = length-set (values nets bits) i (not (get_or (values nets bits) i false)) ∙ length-values nets bits
+length-seen_by (NetInverted n) nets bits = length-values (with_net nets n (not (nets n))) bits
 
-pub inverted_net-agree : (known : ℕ → Bool) (a b : Nets) → Agree known a b → (n m : ℕ) → known m ≡ true → with_net a n (not (a n)) m ≡ with_net b n (not (b n)) m
-inverted_net-agree known a b agree n m has = elim (eqb_tells m n) [
-  | inl same ↦ rw (same.0, ← same.1, agree m has) refl
-  | inr other ↦ rw other.0 (agree m has)
+-- What is seen rests on the values at the bits alone.
+
+inverted_net-agree : (a b : Nets) (n m : ℕ) → a m ≡ b m → with_net a n (not (a n)) m ≡ with_net b n (not (b n)) m
+inverted_net-agree a b n m agree = elim (eqb_tells m n) [
+  | inl same ↦ rw (same.0, ← same.1, agree) refl
+  | inr other ↦ rw other.0 agree
 ]
 
-pub seen_by-agree : (view : View) (known : ℕ → Bool) (a b : Nets) → Agree known a b → (bits : List Bit) → AllKnown known bits → seen_by view a bits ≡ seen_by view b bits
-seen_by-agree Plain known a b agree bits h = values-agree known a b agree bits h
-seen_by-agree (BitInverted i) known a b agree bits h = ap (λ (vs : List Bool). set vs i (not (get_or vs i false))) (values-agree known a b agree bits h)
-seen_by-agree (NetInverted n) known a b agree bits h = values-agree known (with_net a n (not (a n))) (with_net b n (not (b n))) (inverted_net-agree known a b agree n) bits h
+seen_by-agree : (view : View) (a b : Nets) (bits : List Bit) → AgreeAt bits a b → seen_by view a bits ≡ seen_by view b bits
+seen_by-agree Plain a b bits h = values-agree a b bits h
+seen_by-agree (BitInverted i) a b bits h = ap (λ (vs : List Bool). set vs i (not (get_or vs i false))) (values-agree a b bits h)
+seen_by-agree (NetInverted n) a b bits h = values-agree (with_net a n (not (a n))) (with_net b n (not (b n))) bits (λ m t. inverted_net-agree a b n m (h m t))
 
-pub sight_by-causal : (inverted : Inverted) → IsCausal (sight_by inverted)
-sight_by-causal inverted = record { alike = λ known a b agree reader. seen_by-agree (view_of inverted reader) known a b agree }
+pub sight_by-causal : (netlist : RawNetlist) (inverted : Inverted) → IsCausal netlist (sight_by inverted)
+sight_by-causal netlist inverted = record {
+  wide = λ nets reader bits. length-seen_by (view_of inverted reader) nets bits;
+  alike = λ a b reader bits h. seen_by-agree (view_of inverted reader) a b bits (λ n t. h n n t (inl refl));
+}

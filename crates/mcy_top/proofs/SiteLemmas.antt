@@ -2,10 +2,10 @@
 use Rattle.std.proofs.Common.{◌≡◌, ℕ, ◌+◌, ◌<◌, ◌≤◌, List, [], ◌∷◌, ◌++◌, length, drop, false, sym, ap, append_assoc, arith}
 use Rattle.std.proofs.lemmas.List.{at_drop_more}
 use Rattle.std.proofs.lemmas.List.Elements.{All-nil, All-cons, All-append}
-use Rattle.mcy_top.specs.declared.cell.Bit.{Bit}
-use Rattle.mcy_top.specs.declared.cell.Bit.TheVariants.{Fixed}
-use Rattle.mcy_top.specs.declared.cell.Cell.{Cell as Gate}
-use Rattle.mcy_top.specs.declared.netlist.RawNetlist.{RawNetlist}
+use Rattle.netlist_core.specs.declared.bit.Bit.{Bit}
+use Rattle.netlist_core.specs.declared.bit.Bit.TheVariants.{Fixed}
+use Rattle.netlist_core.specs.declared.cell.Cell.{Cell as Gate}
+use Rattle.netlist_core.specs.declared.raw.RawNetlist.{RawNetlist}
 use Rattle.mcy_top.specs.declared.site.Mode.TheVariants.{Inv}
 use Rattle.mcy_top.specs.declared.site.Place.TheVariants.{Cell}
 use Rattle.mcy_top.specs.declared.site.Site.{Site}

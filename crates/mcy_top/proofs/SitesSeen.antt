@@ -4,18 +4,18 @@ use Rattle.std.specs.Prelude.{not}
 use Rattle.std.specs.List.{Contains}
 use Rattle.std.proofs.lemmas.List.Elements.{Contains-append_cases}
 use Rattle.std.proofs.lemmas.Option.{get_or_from_slice_get}
-use Rattle.mcy_top.specs.declared.cell.Bit.{Bit}
-use Rattle.mcy_top.specs.declared.cell.Bit.TheVariants.{Fixed, Net}
-use Rattle.mcy_top.specs.declared.cell.Cell.{Cell as Gate}
-use Rattle.mcy_top.specs.declared.netlist.RawNetlist.{RawNetlist}
+use Rattle.netlist_core.specs.declared.bit.Bit.{Bit}
+use Rattle.netlist_core.specs.declared.bit.Bit.TheVariants.{Fixed, Net}
+use Rattle.netlist_core.specs.declared.cell.Cell.{Cell as Gate}
+use Rattle.netlist_core.specs.declared.raw.RawNetlist.{RawNetlist}
 use Rattle.mcy_top.specs.declared.site.Mode.TheVariants.{Inv}
 use Rattle.mcy_top.specs.declared.site.Place.TheVariants.{Cell}
 use Rattle.mcy_top.specs.declared.site.Site.{Site}
 use Rattle.mcy_top.specs.declared.inverted.Inverted.{Inverted}
 use Rattle.mcy_top.specs.declared.inverted.Inverted.TheVariants.{Nowhere, AtPort, AtNet}
 use Rattle.mcy_top.specs.declared.view.View.TheVariants.{Plain, BitInverted}
-use Rattle.mcy_top.specs.Runs.{Nets, bit_value, values, Port, Sight}
-use Rattle.mcy_top.specs.Sound.{with_net}
+use Rattle.netlist_core.specs.Runs.{Nets, bit_value, values, Port, Sight}
+use Rattle.netlist_core.specs.Settled.{with_net}
 use Rattle.mcy_top.specs.Sites.{bits_sites, ports_sites, cells_sites, sites}
 use Rattle.mcy_top.specs.Mutants.{same_reader, one_sees, all_see, sight_at, sight_at_place, sight_at_cell, sight_at_port}
 use Rattle.mcy_top.specs.Seen.{seen_by, sight_by}

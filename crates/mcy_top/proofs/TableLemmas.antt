@@ -1,16 +1,23 @@
 -- A table of values as a function of the net.
-use Rattle.std.proofs.Common.{◌≡◌, ℕ, zero, suc, ◌+◌, ◌*◌, ◌-◌, ◌<◌, ◌≤◌, ◌^◌, Bool, false, List, [], ◌∷◌, length, take, drop, get_or, set, refl, inl, inr, arith}
+use Rattle.std.proofs.Common.{◌≡◌, ℕ, ◌+◌, ◌*◌, ◌-◌, ◌/◌, ◌%◌, ◌<◌, ◌≤◌, ◌^◌, Bool, true, false, List, [], ◌∷◌, ◌++◌, length, take, drop, get_or, slice_get, Option, Some, refl, sym, subst, inl, inr, arith}
 use Rattle.std.proofs.lemmas.Bool.Decides.{eqb_tells}
-use Rattle.std.proofs.lemmas.List.{get_or-set_same, get_or-set_other, take_all}
+use Rattle.std.proofs.lemmas.List.{take_all}
 use Rattle.std.proofs.Math.Nat.{pow-le-pow_right}
-use Rattle.mcy_top.specs.declared.cell.Bit.{Bit}
-use Rattle.mcy_top.specs.declared.cell.Bit.TheVariants.{Fixed}
-use Rattle.mcy_top.specs.declared.cell.Cell.{Cell}
+use Rattle.netlist_core.specs.declared.bit.Bit.{Bit}
+use Rattle.netlist_core.specs.declared.bit.Bit.TheVariants.{Fixed, Net}
+use Rattle.netlist_core.specs.declared.cell.Cell.{Cell}
+use Rattle.netlist_core.specs.Numbers.{digit, number, low_bits}
+use Rattle.netlist_core.specs.Runs.{Nets, bits_at, output_port}
+use Rattle.netlist_core.specs.Drivers.{times, times_at}
+use Rattle.netlist_core.specs.Orders.{ports_of}
+use Rattle.netlist_core.specs.Checked.{Plan, IsSound}
+use Rattle.netlist_core.proofs.Owners.{y-one}
+use Rattle.std.specs.Prelude.{MatchOption, IsSome, None}
+use Rattle.mcy_base.specs.declared.word.Word.{Word}
+use Rattle.mcy_base.specs.Words.{IsWord}
 use Rattle.mcy_top.specs.declared.view.View.{View}
-use Rattle.mcy_top.specs.Numbers.{digit, number}
-use Rattle.mcy_top.specs.Runs.{Nets, output_port}
-use Rattle.mcy_top.specs.Sound.{with_net, AllBelow, AllPortsFit, CellFits, AllCellsFit}
-use Rattle.mcy_top.specs.Tables.{nets_of}
+use Rattle.mcy_top.specs.Inputs.{joined, input_bits}
+use Rattle.mcy_top.specs.Tables.{AllBelow}
 use Rattle.mcy_top.specs.Seen.{seen_by, first_seen, view_after}
 use Rattle.mcy_top.proofs.SightLemmas.{seen_by-cons}
 
@@ -23,19 +30,51 @@ pub number-first : (view : View) (nets : Nets) (bits : List Bit) → 1 ≤ lengt
 number-first view nets [] some = absurd (omega arith)
 number-first view nets (bit ∷ more) some = rw (seen_by-cons view nets bit more, take_all (length (bit ∷ more) - 1) more (omega arith)) refl
 
--- a write of one value, as the whole function
-pub set-reads : (table : List Bool) (n : ℕ) (b : Bool) (m : ℕ) → n < length table → nets_of (set table n b) m ≡ with_net (nets_of table) n b m
-set-reads table n b m h = elim (eqb_tells m n) [ inl e ↦ rw (e.0, e.1) (get_or-set_same table n b false h) | inr e ↦ rw e.0 (get_or-set_other table n m b false e.1) ]
+-- the bits of their number are they
+pub bits-number : (bits : List Bool) → low_bits (length bits) (number bits) ≡ bits
+unfolding low_bits
+bits-number [] = refl
+bits-number (true ∷ more) =
+    let odd : (1 + 2 * number more) % 2 ≡ 1 = omega arith in
+    let half : (1 + 2 * number more) / 2 ≡ number more = omega arith in
+    rw (odd, half, bits-number more) refl
+bits-number (false ∷ more) =
+    let even : (0 + 2 * number more) % 2 ≡ 0 = omega arith in
+    let half : (0 + 2 * number more) / 2 ≡ number more = omega arith in
+    rw (even, half, bits-number more) refl
 
-pub set-is : (table : List Bool) (n : ℕ) (b : Bool) → n < length table → nets_of (set table n b) ≡ with_net (nets_of table) n b
-set-is table n b h = λ i m. set-reads table n b m h i
+-- Bits that are driven are in the table.
 
-pub output_below : (limit : ℕ) (ports : List (List Bit)) → AllPortsFit limit ports → AllBelow limit (output_port ports)
-output_below limit [] fit = tt
-output_below limit (y ∷ []) fit = fit.2
-output_below limit (a ∷ b ∷ more) fit = output_below limit (b ∷ more) fit.3
+AllBelow-nets : (limit : ℕ) (bits : List Bit) → ((n : ℕ) → 1 ≤ times n bits → n < limit) → AllBelow limit bits
+AllBelow-nets limit [] h = tt
+AllBelow-nets limit (Fixed b ∷ more) h = AllBelow-nets limit more h
+AllBelow-nets limit (Net n ∷ more) h = (
+  elim (eqb_tells n n) [ inl same ↦ (let once : times n (Net n ∷ more) ≡ 1 + times n more = rw same.0 refl in h n (omega (arith, once))) | inr other ↦ absurd (other.1 refl) ],
+  AllBelow-nets limit more (λ m some. h m (omega (arith, some))),
+)
 
-pub cell_fits : (limit : ℕ) (cells : List Cell) (i : ℕ) (d : Cell) → AllCellsFit limit cells → i < length cells → CellFits limit (get_or cells i d)
-cell_fits limit [] i d fit h = absurd (omega arith)
-cell_fits limit (cell ∷ more) zero d fit h = fit.0
-cell_fits limit (cell ∷ more) (suc i) d fit h = cell_fits limit more i d fit.1 (omega arith)
+pub output_below : (plan : Plan) → IsSound plan → (c : ℕ) (cell : Cell) → slice_get plan.raw.cells c ≡ Some cell → AllBelow plan.nets (output_port cell.ports)
+output_below plan sound c cell is = AllBelow-nets plan.nets (output_port cell.ports) (λ n some.
+    let here : 1 ≤ times n (output_port (ports_of (slice_get plan.raw.cells c))) = subst (λ (o : Option Cell). 1 ≤ times n (output_port (ports_of o))) (sym is) some in
+    sound.below n (omega (arith, here, y-one plan.raw.cells c n)))
+
+times-append : (n : ℕ) (xs ys : List Bit) → times n (xs ++ ys) ≡ times n xs + times n ys
+times-append n [] ys = omega arith
+times-append n (Fixed b ∷ xs) ys = times-append n xs ys
+times-append n (Net m ∷ xs) ys = (let rest = times-append n xs ys in omega (arith, rest))
+
+times-joined : (n : ℕ) (ports : List (List Bit)) → times n (joined ports) ≡ times_at n ports
+times-joined n [] = refl
+times-joined n (bits ∷ more) = (let rest = times-joined n more in omega (arith, rest, times-append n bits (joined more)))
+
+pub inputs_below : (plan : Plan) → IsSound plan → AllBelow plan.nets (input_bits plan.raw)
+inputs_below plan sound = AllBelow-nets plan.nets (input_bits plan.raw) (λ n some. sound.below n (omega (arith, some, times-joined n (bits_at plan.raw.inputs))))
+
+-- Words.
+
+pub some-word : (o : Option Word) (w n : ℕ) → IsWord w n → MatchOption o (¬ IsWord w n) (λ x. (x.width ≡ w) × (x.bits ≡ n)) → IsSome o
+some-word None w n is match = absurd (match is)
+some-word (Some word) w n is match = refl
+
+pub word-parts : (o : Option Word) (word : Word) (w n : ℕ) → o ≡ Some word → MatchOption o (¬ IsWord w n) (λ x. (x.width ≡ w) × (x.bits ≡ n)) → (word.width ≡ w) × (word.bits ≡ n)
+word-parts o word w n is match = subst (λ (x : Option Word). MatchOption x (¬ IsWord w n) (λ x. (x.width ≡ w) × (x.bits ≡ n))) is match

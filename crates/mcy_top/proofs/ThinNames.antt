@@ -1,15 +1,19 @@
 -- The names in a module of the thin form.
-use Rattle.std.proofs.Common.{◌≡◌, ℕ, ◌<◌, true, false, cond, ◌⊎◌, inl, inr, filter, List, [], ◌∷◌, ◌++◌, length, get_or}
+use Rattle.std.proofs.Common.{◌≡◌, ℕ, zero, suc, ◌<◌, true, false, cond, ◌⊎◌, inl, inr, filter, List, [], ◌∷◌, ◌++◌, length, get_or, sym, ap, subst, ◌∙◌, arith}
 use Rattle.std.specs.List.{All, Contains}
-use Rattle.std.proofs.lemmas.List.{map-append}
-use Rattle.std.proofs.lemmas.List.Elements.{All-nil, All-cons, All-append, All-contains, All-get_or, Contains-get_or, Contains-append_cases, Contains-append_left, Contains-append_right}
+use Rattle.std.specs.Prelude.{IsTrue}
+use Rattle.std.specs.Str.{IsAscii, IsUtf8}
+use Rattle.std.proofs.lemmas.Bool.Decides.{nat_tests}
+use Rattle.std.proofs.lemmas.Str.{IsUtf8-from_ascii}
+use Rattle.std.proofs.lemmas.List.{get_or-map, length-map, map-append}
+use Rattle.std.proofs.lemmas.List.Elements.{All-head, All-tail, All-nil, All-cons, All-append, All-contains, All-get_or, Contains-get_or, Contains-append_cases, Contains-append_left, Contains-append_right}
 use Rattle.mcy_top.specs.declared.thin.Direction.TheVariants.{Input, Output}
 use Rattle.mcy_top.specs.declared.thin.ItemKind.{ItemKind}
 use Rattle.mcy_top.specs.declared.thin.ItemKind.TheVariants.{Wire, Assign}
 use Rattle.mcy_top.specs.declared.thin.Item.{Item}
 use Rattle.mcy_top.specs.declared.thin.PortDecl.{PortDecl}
 use Rattle.mcy_top.specs.declared.thin.ThinModule.{ThinModule}
-use Rattle.mcy_top.specs.Names.{IsName}
+use Rattle.mcy_top.specs.Names.{IsName, is_name_byte, is_name_start}
 use Rattle.mcy_top.specs.ShortNames.{HasShortNames}
 use Rattle.mcy_top.specs.ThinModules.{IsThin, AreItems, MayGive, port_names, is_input, is_output, input_names, output_names, given_names}
 use Rattle.mcy_top.proofs.Unrepeated.{AreDistinct, Contains-nil, Contains-cases, Contains-filter}
@@ -65,3 +69,23 @@ IsNew-MayGive ports earlier Assign name distinct gives among =
       | inl input ↦ not_both ports name distinct input gives.0
       | inr given ↦ gives.1 given
     ]
+
+-- each port has a name
+pub IsName-at : (ports : List PortDecl) → All IsName (port_names ports) → (i : ℕ) (port : PortDecl) → i < length ports → port ≡ get_or ports i port → IsName port.name
+IsName-at ports named i port h is =
+    let at : get_or (port_names ports) i port.name ≡ port.name = get_or-map (λ (other : PortDecl). other.name) ports i port port.name h ∙ ap (λ (other : PortDecl). other.name) (sym is) in
+    subst IsName at (named i port.name (omega (arith, h, length-map ports (λ (other : PortDecl). other.name))))
+
+-- Names are ASCII.
+
+byte-ascii : (b : ℕ) → IsTrue (is_name_byte b) → b < 128
+unfolding is_name_byte is_name_start
+byte-ascii b h = grind (arith, nat_tests)
+
+bytes-ascii : (bytes : List ℕ) → All (λ b. IsTrue (is_name_byte b)) bytes → IsAscii bytes
+bytes-ascii [] all i = omega arith
+bytes-ascii (b ∷ more) all zero = byte-ascii b (All-head (λ b. IsTrue (is_name_byte b)) b more all)
+bytes-ascii (b ∷ more) all (suc i) = bytes-ascii more (All-tail (λ b. IsTrue (is_name_byte b)) b more all) i
+
+pub IsUtf8-name : (name : List ℕ) → IsName name → IsUtf8 name
+IsUtf8-name name is = IsUtf8-from_ascii name (bytes-ascii name is.bytes)

@@ -1,19 +1,20 @@
 -- How many input bits and sites the netlist of a module in the thin form has.
-use Rattle.std.proofs.Common.{◌≡◌, ℕ, ◌+◌, ◌*◌, List, [], ◌∷◌, map, length, refl, arith}
+use Rattle.std.proofs.Common.{◌≡◌, ℕ, suc, ◌+◌, ◌*◌, List, [], ◌∷◌, map, length, refl, ap, arith}
 use Rattle.mcy_top.specs.declared.thin.Item.{Item}
 use Rattle.mcy_top.specs.declared.thin.ThinModule.{ThinModule}
-use Rattle.mcy_top.specs.Inputs.{total_width, input_bits}
+use Rattle.netlist_core.specs.Runs.{bits_at}
+use Rattle.mcy_top.specs.Inputs.{joined, input_bits}
 use Rattle.mcy_top.specs.Sites.{cells_sites, sites}
 use Rattle.mcy_top.specs.ThinModules.{input_names}
-use Rattle.mcy_top.specs.ThinNetlists.{bits_of, cells_of, netlist_of}
+use Rattle.mcy_top.specs.ThinNetlists.{port_of, cells_of, netlist_of}
 
-total_width-bits_of : (m : ThinModule) (names : List (List ℕ)) → total_width (map (bits_of m) names) ≡ length names
-total_width-bits_of m [] = refl
-total_width-bits_of m (name ∷ more) = omega (arith, total_width-bits_of m more)
+length-joined : (m : ThinModule) (names : List (List ℕ)) → length (joined (bits_at (map (port_of m) names))) ≡ length names
+length-joined m [] = refl
+length-joined m (name ∷ more) = ap suc (length-joined m more)
 
 -- one bit for each input
-pub input_bits-netlist_of : (m : ThinModule) → input_bits (netlist_of m) ≡ length (input_names m.ports)
-input_bits-netlist_of m = total_width-bits_of m (input_names m.ports)
+pub length-input_bits : (m : ThinModule) → length (input_bits (netlist_of m)) ≡ length (input_names m.ports)
+length-input_bits m = length-joined m (input_names m.ports)
 
 length-cells_sites : (m : ThinModule) (c k : ℕ) (items : List Item) → length (cells_sites c (cells_of m k items)) ≡ 3 * length items
 length-cells_sites m c k [] = refl

@@ -1,6 +1,8 @@
 -- Lists with no element twice.
-use Rattle.std.proofs.Common.{◌≡◌, ◌≢◌, zero, suc, Bool, true, false, ◌⊎◌, inl, inr, List, [], ◌∷◌, map, filter, cond, refl, sym, arith}
-use Rattle.std.specs.List.{AllPairs, Contains}
+use Rattle.std.proofs.Common.{◌≡◌, ◌≢◌, ◌≤◌, zero, suc, Bool, true, false, ◌⊎◌, inl, inr, List, [], ◌∷◌, ◌++◌, map, filter, cond, length, get_or, refl, sym, ap, subst, arith}
+use Rattle.std.specs.List.{All, AllPairs, Contains}
+use Rattle.std.proofs.lemmas.List.{length-append}
+use Rattle.std.proofs.lemmas.List.Elements.{All-head, All-tail, Contains-append_cases, Contains-append_left, Contains-append_right, Contains-get_or}
 
 pub Contains-head : {X : Type 0} (x : X) (xs : List X) → Contains (x ∷ xs) x
 Contains-head x xs = (0, omega arith, refl)
@@ -44,3 +46,27 @@ AreDistinct-filter f test (x ∷ xs) distinct =
       | true ↦ (λ c. distinct.0 (Contains-filter f test xs (f x) c), rest)
       | false ↦ rest
     ]
+
+-- A list whose elements differ and stand in another one is not longer.
+
+parted : {X : Type 0} (ys : List X) (x : X) → Contains ys x → (front : List X) × (back : List X) × (ys ≡ front ++ x ∷ back)
+parted [] x c = absurd (Contains-nil x c)
+parted (y ∷ more) x c = elim (Contains-cases y more x c) [
+  | inl same ↦ ([], more, ap (λ z. z ∷ more) same)
+  | inr later ↦ (let rest = parted more x later in (y ∷ rest.0, rest.1, ap (λ list. y ∷ list) rest.2))
+]
+
+others-stay : {X : Type 0} (front back : List X) (x z : X) → x ≢ z → Contains (front ++ x ∷ back) z → Contains (front ++ back) z
+others-stay front back x z other c = elim (Contains-append_cases front (x ∷ back) z c) [
+  | inl before ↦ Contains-append_left front back z before
+  | inr after ↦ elim (Contains-cases x back z after) [ inl same ↦ absurd (other same) | inr later ↦ Contains-append_right front back z later ]
+]
+
+pub few_within : {X : Type 0} (xs ys : List X) → AreDistinct xs → All (Contains ys) xs → length xs ≤ length ys
+few_within [] ys distinct all = omega arith
+few_within (x ∷ more) ys distinct all =
+    let part = parted ys x (All-head (Contains ys) x more all) in
+    let rest : length more ≤ length (part.0 ++ part.1) = few_within more (part.0 ++ part.1) distinct.1 (λ k d h.
+    let inside : Contains ys (get_or more k d) = All-tail (Contains ys) x more all k d h in
+    others-stay part.0 part.1 x (get_or more k d) (λ same. distinct.0 (subst (Contains more) (sym same) (Contains-get_or more k d h))) (subst (λ list. Contains list (get_or more k d)) part.2 inside)) in
+    omega (arith, ap length part.2, length-append part.0 (x ∷ part.1), length-append part.0 part.1, rest)

@@ -11,8 +11,6 @@ use Rattle.result_book.specs.declared.check.BookError.{BookError}
 use Rattle.result_book.specs.declared.check.BookError.TheVariants.{Meta, Mutation, Row, Stray, Memory as NoBookMemory}
 use Rattle.result_book.specs.Scripts.{is_ended}
 use Rattle.result_book.specs.Rows.{ask_on, IsFinished, IsWellFormed}
-use Rattle.result_book.specs.BookFaults.{IsRefused}
-use Rattle.result_book.specs.BookLaws.{RefusedBooksAreIllFormed}
 use Rattle.source_report.specs.Texts.{status_text}
 use Rattle.mcy_top.specs.declared.command.Command.{Command}
 use Rattle.mcy_top.specs.declared.command.Command.TheVariants.{Init, Run, Status}
@@ -354,24 +352,6 @@ ending_ends written written' k k' s s' text o NoMemory carried wrote rose = reco
 
 pub run_carried : (c : Prepared) (rows : List Entry) → Carried (run_outcome c rows)
 run_carried c rows = elim (eqb_tells (length c.campaign.mutations) (count c rows)) [ inl h ↦ rw h.0 tt | inr h ↦ rw h.0 tt ]
-
-pub failed_ends : (written : Option (List ℕ)) (k k' s s' : ℕ) (e : KeepError) → (e ≡ KeepFault → Rose k k') → Ends written written k k' s s' (failed_outcome e)
-failed_ends written k k' s s' KeepFault rose = record { quiet = refl; cause = rose refl }
-failed_ends written k k' s s' KeepMemory rose = record { quiet = refl; cause = tt }
-
-pub refused_ends : (written : Option (List ℕ)) (k k' s s' : ℕ) (refusal : BookRefusal) → Ends written written k k' s s' (book_outcome refusal)
-refused_ends written k k' s s' RefusedNone = record { quiet = refl; cause = tt }
-refused_ends written k k' s s' RefusedBegun = record { quiet = refl; cause = tt }
-refused_ends written k k' s s' (RefusedBook error) = record { quiet = refl; cause = tt }
-refused_ends written k k' s s' RefusedMemory = record { quiet = refl; cause = tt }
-
--- why a begun book is refused
-pub book_bad : (c : Prepared) (loaded : Book) (error : BookError) → loaded.meta ≢ [] → RefusedBooksAreIllFormed → IsRefused c.campaign loaded error → error ≢ NoBookMemory → (command : Command) → command ≢ Init → RefusesBook command c loaded (RefusedBook error)
-book_bad c loaded (Meta place old new) begun law why not command other = ((begun, law c.campaign loaded (Meta place old new) why not, why), other)
-book_bad c loaded (Mutation place old new) begun law why not command other = ((begun, law c.campaign loaded (Mutation place old new) why not, why), other)
-book_bad c loaded (Row e fault) begun law why not command other = ((begun, law c.campaign loaded (Row e fault) why not, why), other)
-book_bad c loaded (Stray mutations rows) begun law why not command other = absurd why
-book_bad c loaded NoBookMemory begun law why not command other = absurd (not refl)
 
 -- where no mutation is left the run is done
 pub outcome_done : (c : Prepared) (rows : List Entry) → length c.campaign.mutations ≡ count c rows → Done ≡ run_outcome c rows

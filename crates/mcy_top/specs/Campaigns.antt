@@ -8,8 +8,7 @@ use Rattle.mcy_top.specs.declared.prepared.Prepared.{Prepared}
 use Rattle.mcy_top.specs.Limits.{max_bytes, max_free_bits}
 use Rattle.mcy_top.specs.Projects.{IsProject}
 use Rattle.mcy_top.specs.ThinModules.{IsSource, input_names}
-use Rattle.mcy_top.specs.ThinNetlists.{netlist_of, net_names}
-use Rattle.mcy_top.specs.Sound.{Plan}
+use Rattle.mcy_top.specs.ThinNetlists.{netlist_of}
 use Rattle.mcy_top.specs.Sites.{sites}
 use Rattle.mcy_top.specs.SiteTexts.{site_text}
 use Rattle.mcy_top.specs.SiteLines.{site_line}
@@ -26,9 +25,6 @@ source_name = codes "g.v"
 -- name and bytes (docs/FORMATS.md)
 abbrev pub meta_of : List ℕ → List ℕ → List (List ℕ)
 meta_of config source = codes "1" ∷ config ∷ (source_name ++ (codes "\n" ++ source)) ∷ []
-
-abbrev pub plan_of : ThinModule → Plan
-plan_of m = record { raw = netlist_of m; nets = length (net_names m) }
 
 -- The campaign of a project and its source. The sites of the netlist are its mutations. It has the one test `same`, of
 -- which PASS and FAIL are expected.
@@ -50,7 +46,7 @@ pub record IsPrepared (config source : List ℕ) (c : Prepared) : Type 0 where
   pub text : IsSource source parsed
   pub few : length (input_names parsed.ports) ≤ max_free_bits
   pub campaign : c.campaign ≡ campaign_of config source parsed
-  pub netlist : c.netlist ≡ plan_of parsed
+  pub netlist : c.netlist ≡ netlist_of parsed
   pub places : c.sites ≡ sites (netlist_of parsed)
 
 -- that of some project and source

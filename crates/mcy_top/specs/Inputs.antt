@@ -1,24 +1,22 @@
 -- The inputs of a netlist together.
-use Rattle.std.specs.Prelude.{ℕ, ◌+◌, ◌<◌, ◌^◌, List, [], ◌∷◌, ◌++◌, length}
-use Rattle.mcy_top.specs.declared.cell.Bit.{Bit}
-use Rattle.mcy_top.specs.declared.netlist.RawNetlist.{RawNetlist}
+use Rattle.std.specs.Prelude.{ℕ, ◌/◌, ◌%◌, ◌^◌, List, [], ◌∷◌, ◌++◌, length}
+use Rattle.netlist_core.specs.declared.bit.Bit.{Bit}
+use Rattle.netlist_core.specs.declared.raw.RawNetlist.{RawNetlist}
+use Rattle.netlist_core.specs.Runs.{bits_at}
 
 -- the bits of all ports, one port after the other
-abbrev pub all_bits : List (List Bit) → List Bit
-all_bits [] = []
-all_bits (bits ∷ more) = bits ++ all_bits more
+abbrev pub joined : List (List Bit) → List Bit
+joined [] = []
+joined (bits ∷ more) = bits ++ joined more
 
--- how many they are
-abbrev pub total_width : List (List Bit) → ℕ
-total_width [] = 0
-total_width (bits ∷ more) = length bits + total_width more
+-- the bits of all inputs
+abbrev pub input_bits : RawNetlist → List Bit
+input_bits netlist = joined (bits_at netlist.inputs)
 
--- how many bits the inputs have together
-abbrev pub input_bits : RawNetlist → ℕ
-input_bits netlist = total_width netlist.inputs
+-- a number over the bits of all ports, divided into the numbers of the ports
+abbrev pub parts : List (List Bit) → ℕ → List ℕ
+parts [] n = []
+parts (bits ∷ more) n = n % 2 ^ length bits ∷ parts more (n / 2 ^ length bits)
 
--- each number fits its port
-abbrev pub FitPorts : List (List Bit) → List ℕ → Type 0
-FitPorts [] [] = Unit {0}
-FitPorts (bits ∷ more) (v ∷ vs) = (v < 2 ^ length bits) × FitPorts more vs
-FitPorts ports vs = ⊥
+abbrev pub input_parts : RawNetlist → ℕ → List ℕ
+input_parts netlist n = parts (bits_at netlist.inputs) n

@@ -1,14 +1,9 @@
-pub mod Numbers
-pub mod Cells
-pub mod Runs
-pub mod Sound
 pub mod Sites
 pub mod Mutants
 pub mod Equal
 pub mod NetlistLaws
 pub mod Tables
 pub mod Seen
-pub mod Settled
 pub mod Inputs
 pub mod Trials
 pub mod Names

@@ -1,11 +1,11 @@
 -- The mutant of a netlist at a site: its equations with one replaced.
 use Rattle.std.specs.Prelude.{ℕ, ◌+◌, ◌%◌, Bool, true, false, not, ◌&&◌, List, length, slice_get, slice_set, slice_index_or, Option, Some, None, nat_eq, if◌then◌else◌}
-use Rattle.mcy_top.specs.declared.cell.Bit.{Bit}
-use Rattle.mcy_top.specs.declared.cell.Bit.TheVariants.{Net}
-use Rattle.mcy_top.specs.declared.cell.Cell.{Cell as Gate}
-use Rattle.mcy_top.specs.declared.netlist.RawNetlist.{RawNetlist}
-use Rattle.mcy_top.specs.Runs.{Nets, Reader, Port, Outputs, Sight, plain, values}
-use Rattle.mcy_top.specs.Sound.{with_net}
+use Rattle.netlist_core.specs.declared.bit.Bit.{Bit}
+use Rattle.netlist_core.specs.declared.bit.Bit.TheVariants.{Net}
+use Rattle.netlist_core.specs.declared.cell.Cell.{Cell as Gate}
+use Rattle.netlist_core.specs.declared.raw.RawNetlist.{RawNetlist}
+use Rattle.netlist_core.specs.Runs.{Nets, Reader, Port, Next, Outputs, Sight, plain, values}
+use Rattle.netlist_core.specs.Settled.{with_net}
 use Rattle.mcy_top.specs.declared.site.Mode.{Mode}
 use Rattle.mcy_top.specs.declared.site.Mode.TheVariants.{Inv}
 use Rattle.mcy_top.specs.declared.site.Place.{Place}
@@ -22,6 +22,7 @@ mutated_at mode i bits = mutated mode (slice_index_or bits i false) (slice_index
 
 abbrev pub same_reader : Reader → Reader → Bool
 same_reader (Port c p) (Port d q) = nat_eq c d && nat_eq p q
+same_reader (Next r) (Next s) = nat_eq r s
 same_reader Outputs Outputs = true
 same_reader reader other = false
 

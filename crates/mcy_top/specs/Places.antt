@@ -1,7 +1,7 @@
 -- The places of a netlist.
 use Rattle.std.specs.Prelude.{◌<◌, List, length}
 use Rattle.std.specs.List.{All}
-use Rattle.mcy_top.specs.declared.netlist.RawNetlist.{RawNetlist}
+use Rattle.netlist_core.specs.declared.raw.RawNetlist.{RawNetlist}
 use Rattle.mcy_top.specs.declared.site.Place.{Place}
 use Rattle.mcy_top.specs.declared.site.Place.TheVariants.{Cell}
 use Rattle.mcy_top.specs.declared.site.Site.{Site}

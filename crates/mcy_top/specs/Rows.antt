@@ -7,7 +7,7 @@ use Rattle.result_book.specs.declared.script.TestWord.TheVariants.{Pass, Fail}
 use Rattle.result_book.specs.Scripts.{word_code}
 use Rattle.result_book.specs.Rows.{IsRow, IsWellFormed}
 use Rattle.mcy_top.specs.declared.site.Site.{Site}
-use Rattle.mcy_top.specs.declared.netlist.RawNetlist.{RawNetlist}
+use Rattle.netlist_core.specs.declared.raw.RawNetlist.{RawNetlist}
 use Rattle.mcy_top.specs.declared.prepared.Prepared.{Prepared}
 use Rattle.mcy_top.specs.Equal.{OneStepEqual, design, mutant}
 use Rattle.mcy_top.specs.Campaigns.{IsPlan}
@@ -19,7 +19,7 @@ IsTrueWordAt netlist None word = ⊥
 IsTrueWordAt netlist (Some site) word = ((word ≡ word_code Pass) × OneStepEqual (design netlist) (mutant netlist site)) ⊎ ((word ≡ word_code Fail) × (¬ OneStepEqual (design netlist) (mutant netlist site)))
 
 abbrev pub IsTrueWord : Prepared → ℕ → ℕ → Type 0
-IsTrueWord c m word = IsTrueWordAt c.netlist.raw (slice_get c.sites m) word
+IsTrueWord c m word = IsTrueWordAt c.netlist (slice_get c.sites m) word
 
 -- each row's word is the true one
 abbrev pub AreTrue : Prepared → List Entry → Type 0

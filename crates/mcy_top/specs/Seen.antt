@@ -1,12 +1,12 @@
 -- What readers see where bits are inverted.
 use Rattle.std.specs.Prelude.{zero, suc, Bool, false, not, List, slice_set, slice_index_or, if◌then◌else◌}
-use Rattle.mcy_top.specs.declared.cell.Bit.{Bit}
+use Rattle.netlist_core.specs.declared.bit.Bit.{Bit}
 use Rattle.mcy_top.specs.declared.inverted.Inverted.{Inverted}
 use Rattle.mcy_top.specs.declared.inverted.Inverted.TheVariants.{Nowhere, AtPort, AtNet}
 use Rattle.mcy_top.specs.declared.view.View.{View}
 use Rattle.mcy_top.specs.declared.view.View.TheVariants.{Plain, BitInverted, NetInverted}
-use Rattle.mcy_top.specs.Runs.{Nets, Reader, Port, Sight, bit_value, values}
-use Rattle.mcy_top.specs.Sound.{with_net}
+use Rattle.netlist_core.specs.Runs.{Nets, Reader, Port, Sight, bit_value, values}
+use Rattle.netlist_core.specs.Settled.{with_net}
 use Rattle.mcy_top.specs.Mutants.{same_reader}
 
 -- what a reader sees at its bits

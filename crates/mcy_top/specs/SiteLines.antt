@@ -1,8 +1,8 @@
 -- The line of a site: that of its cell.
 use Rattle.std.specs.Prelude.{ℕ, slice_get, Option, None, Some}
 use Rattle.mcy_base.specs.declared.span.Span.{Span}
-use Rattle.mcy_top.specs.declared.cell.Cell.{Cell as Gate}
-use Rattle.mcy_top.specs.declared.netlist.RawNetlist.{RawNetlist}
+use Rattle.netlist_core.specs.declared.cell.Cell.{Cell as Gate}
+use Rattle.netlist_core.specs.declared.raw.RawNetlist.{RawNetlist}
 use Rattle.mcy_top.specs.declared.site.Place.{Place}
 use Rattle.mcy_top.specs.declared.site.Place.TheVariants.{Cell}
 use Rattle.mcy_top.specs.declared.site.Site.{Site}

@@ -1,8 +1,8 @@
 -- The sites of a netlist, in their order: by cell, port, bit and mode.
 use Rattle.std.specs.Prelude.{ℕ, ◌+◌, List, [], ◌∷◌, ◌++◌, map}
-use Rattle.mcy_top.specs.declared.cell.Bit.{Bit}
-use Rattle.mcy_top.specs.declared.cell.Cell.{Cell as Gate}
-use Rattle.mcy_top.specs.declared.netlist.RawNetlist.{RawNetlist}
+use Rattle.netlist_core.specs.declared.bit.Bit.{Bit}
+use Rattle.netlist_core.specs.declared.cell.Cell.{Cell as Gate}
+use Rattle.netlist_core.specs.declared.raw.RawNetlist.{RawNetlist}
 use Rattle.mcy_top.specs.declared.site.Mode.{Mode}
 use Rattle.mcy_top.specs.declared.site.Mode.TheVariants.{Inv}
 use Rattle.mcy_top.specs.declared.site.Place.TheVariants.{Cell}

@@ -1,12 +1,13 @@
 -- The netlist of a module in the thin form: its cells, in the order of the lines, with their names, nets and places.
-use Rattle.std.specs.Prelude.{ℕ, ◌+◌, List, [], ◌∷◌, ◌++◌, length, map, position, unwrap_or, bytes_eq, codes}
+use Rattle.std.specs.Prelude.{ℕ, ◌+◌, false, None, List, [], ◌∷◌, ◌++◌, length, map, position, unwrap_or, bytes_eq, codes}
 use Rattle.mcy_base.specs.declared.span.Span.{Span}
-use Rattle.mcy_top.specs.declared.cell.Bit.{Bit}
-use Rattle.mcy_top.specs.declared.cell.Bit.TheVariants.{Net}
-use Rattle.mcy_top.specs.declared.cell.CellKind.{CellKind}
-use Rattle.mcy_top.specs.declared.cell.CellKind.TheVariants.{And as AndCell, Or as OrCell, Xor as XorCell}
-use Rattle.mcy_top.specs.declared.cell.Cell.{Cell}
-use Rattle.mcy_top.specs.declared.netlist.RawNetlist.{RawNetlist}
+use Rattle.netlist_core.specs.declared.bit.Bit.{Bit}
+use Rattle.netlist_core.specs.declared.bit.Bit.TheVariants.{Net}
+use Rattle.netlist_core.specs.declared.cell.CellKind.{CellKind}
+use Rattle.netlist_core.specs.declared.cell.CellKind.TheVariants.{And as AndCell, Or as OrCell, Xor as XorCell}
+use Rattle.netlist_core.specs.declared.cell.Cell.{Cell}
+use Rattle.netlist_core.specs.declared.port.Port as port
+use Rattle.netlist_core.specs.declared.raw.RawNetlist.{RawNetlist}
 use Rattle.mcy_top.specs.declared.thin.Operator.{Operator}
 use Rattle.mcy_top.specs.declared.thin.Operator.TheVariants.{And, Or, Xor}
 use Rattle.mcy_top.specs.declared.thin.Item.{Item}
@@ -24,6 +25,10 @@ net_of m name = unwrap_or (position (λ other. bytes_eq other name) (net_names m
 abbrev pub bits_of : ThinModule → List ℕ → List Bit
 bits_of m name = Net (net_of m name) ∷ []
 
+-- the port of a name
+abbrev pub port_of : ThinModule → List ℕ → port.Port
+port_of m name = record { name = name; bits = bits_of m name }
+
 abbrev pub kind_of : Operator → CellKind
 kind_of And = AndCell
 kind_of Or = OrCell
@@ -35,7 +40,7 @@ operator_span k item = record { file = 0; line = k + 2; col = length (kind_text 
 
 -- the cell of a line, whose number is k from 0
 abbrev pub cell_of : ThinModule → ℕ → Item → Cell
-cell_of m k item = record { kind = kind_of item.operator; ports = bits_of m item.left ∷ bits_of m item.right ∷ bits_of m item.name ∷ []; span = operator_span k item }
+cell_of m k item = record { kind = kind_of item.operator; is_signed = false; ports = bits_of m item.left ∷ bits_of m item.right ∷ bits_of m item.name ∷ []; span = operator_span k item }
 
 -- the cells of lines, from line k on
 abbrev pub cells_of : ThinModule → ℕ → List Item → List Cell
@@ -45,7 +50,9 @@ cells_of m k (item ∷ more) = cell_of m k item ∷ cells_of m (k + 1) more
 abbrev pub netlist_of : ThinModule → RawNetlist
 netlist_of m = record {
   top = codes "g";
-  inputs = map (bits_of m) (input_names m.ports);
-  outputs = map (bits_of m) (output_names m.ports);
+  clock = None;
+  inputs = map (port_of m) (input_names m.ports);
+  outputs = map (port_of m) (output_names m.ports);
+  registers = [];
   cells = cells_of m 0 m.items;
 }

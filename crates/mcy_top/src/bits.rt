@@ -1,22 +1,32 @@
 //! Reading and writing bits in a table of net values.
 ghost use Rattle.std.specs.Prelude.{◌≡◌, ℕ, ◌≤◌, ◌<◌, ◌^◌, [], ◌∷◌, length};
-ghost use Rattle.mcy_top.specs.Numbers.{number};
-ghost use Rattle.mcy_top.specs.Sound.{AllBelow};
-ghost use Rattle.mcy_top.specs.Tables.{nets_of};
+ghost use Rattle.netlist_core.specs.Numbers.{number};
+ghost use Rattle.mcy_top.specs.Tables.{nets_of, AllBelow, IsWide};
 ghost use Rattle.mcy_top.specs.Seen.{seen_by, first_seen};
-ghost use Rattle.mcy_top.specs.Settled.{laid};
+ghost use Rattle.netlist_core.specs.Settled.{laid};
+ghost use Rattle.cell_meaning.specs.Words.{word_bits};
 
-use crate::cell::Bit;
 use crate::view::View;
+use mcy_base::Word;
+use netlist_core::Bit;
+
+/// The value of a net. A number past the table's end is no net.
+fn value_of(table: &[bool], net: u32) -> bool
+    ensures { result ≡ nets_of table.now net }
+{
+    match table.get(net as usize) {
+        Some(value) => *value,
+        None => false,
+    }
+}
 
 /// What a reader sees at its first bit.
 fn bit_seen(table: &[bool], view: View, bit: Bit) -> bool
-    requires { AllBelow (length table.now) (bit ∷ []) }
     ensures { result ≡ first_seen view (nets_of table.now) bit }
 {
     let value = match bit {
         Bit::Fixed(b) => b,
-        Bit::Net(n) => table[n as usize],
+        Bit::Net(n) => value_of(table, n),
     };
     match (view, bit) {
         (View::BitInverted(0), _) => !value,
@@ -27,8 +37,7 @@ fn bit_seen(table: &[bool], view: View, bit: Bit) -> bool
 
 /// The number that a reader sees at its bits.
 pub(crate) fn number_seen(table: &[bool], view: View, bits: &[Bit]) -> u128
-    requires narrow { length bits.now ≤ 128 }
-    requires nets { AllBelow (length table.now) bits.now }
+    requires { length bits.now ≤ 128 }
     ensures value { result ≡ number (seen_by view (nets_of table.now) bits.now) }
     ensures fits { result < 2 ^ length bits.now }
 {
@@ -42,9 +51,18 @@ pub(crate) fn number_seen(table: &[bool], view: View, bits: &[Bit]) -> u128
     }
 }
 
+/// The word that a reader sees at its bits.
+pub(crate) fn word_seen(table: &[bool], view: View, bits: &[Bit]) -> Word
+    requires { IsWide bits.now }
+    ensures width { result.width ≡ length bits.now }
+    ensures bits { word_bits result ≡ seen_by view (nets_of table.now) bits.now }
+{
+    Word::new(bits.len() as u8, number_seen(table, view, bits)).unwrap()
+}
+
 /// Sets the nets of these bits to a number's low bits.
 pub(crate) fn lay(table: &mut [bool], bits: &[Bit], number: u128)
-    requires nets { AllBelow (length table.old) bits.now }
+    requires { AllBelow (length table.old) bits.now }
     ensures { nets_of table.new ≡ laid (nets_of table.old) bits.now number }
 {
     match bits {

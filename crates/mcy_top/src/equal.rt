@@ -2,27 +2,27 @@
 //!
 //! The bits of all input ports form one list, and each number of that many bits is laid over it, in a table of net
 //! values that is then settled. What the design shows at its outputs is kept for each number, and compared with what
-//! each mutant shows.
-ghost use Rattle.std.specs.Prelude.{◌≡◌, ℕ, ◌≤◌, ◌<◌, ◌^◌, ◌↔◌, length, IfOk, IsTrue};
+//! each mutant shows. There are no registers yet.
+ghost use Rattle.std.specs.Prelude.{◌≡◌, ℕ, ◌≤◌, ◌<◌, ◌^◌, ◌↔◌, [], length, IfOk, IsTrue};
 ghost use Rattle.std.specs.List.{Contains};
+ghost use Rattle.netlist_core.specs.Runs.{bits_at};
+ghost use Rattle.netlist_core.specs.Checked.{AllWide};
 ghost use Rattle.mcy_top.specs.declared.inverted.Inverted.TheVariants.{Nowhere};
 ghost use Rattle.mcy_top.specs.Limits.{max_free_bits};
-ghost use Rattle.mcy_top.specs.Sound.{AllPortsFit};
 ghost use Rattle.mcy_top.specs.Sites.{sites};
 ghost use Rattle.mcy_top.specs.Equal.{design, mutant, OneStepEqual, EqualOnAllRuns};
 ghost use Rattle.mcy_top.specs.Tables.{nets_of};
 ghost use Rattle.mcy_top.specs.Seen.{sight_by};
-ghost use Rattle.mcy_top.specs.Inputs.{all_bits, total_width, input_bits};
+ghost use Rattle.mcy_top.specs.Inputs.{joined, input_bits};
 ghost use Rattle.mcy_top.specs.Trials.{inverted_machine, shown_at, EqualAt, ShowsAt, ShowsAll};
 
 use crate::bits::{lay, number_seen};
-use crate::cell::{Bit, BitList};
 use crate::inverted::Inverted;
-use crate::netlist::Netlist;
 use crate::settle::settle;
 use crate::site::Site;
 use crate::view::View;
 use mcy_base::Items;
+use netlist_core::{Bit, Netlist, Port, one_run};
 use std::alloc::{AllocError, Global};
 
 /// The most bits that the inputs may have together for all their values to be tried.
@@ -40,8 +40,8 @@ pub(crate) struct Design<'a> {
     netlist: &'a Netlist,
     bits: Vec<Bit>,
     shown: ShownList,
-    ghost small: { input_bits netlist.now.raw ≤ max_free_bits },
-    ghost all_inputs: { bits.items ≡ all_bits netlist.now.raw.inputs },
+    ghost no_registers: { netlist.now.raw.registers ≡ [] },
+    ghost all_inputs: { bits.items ≡ input_bits netlist.now.raw },
     ghost all_numbers: { length shown ≡ 2 ^ length bits.items },
     ghost shows: { ShowsAll (design netlist.now.raw) shown },
 }
@@ -49,10 +49,11 @@ pub(crate) struct Design<'a> {
 impl<'a> Design<'a> {
     /// The design of this netlist.
     pub(crate) fn of(alloc: Global, netlist: &'a Netlist) -> Result<Design<'a>, AllocError>
-        requires { input_bits netlist.now.raw ≤ max_free_bits }
+        requires no_registers { netlist.now.raw.registers ≡ [] }
+        requires small { length (input_bits netlist.now.raw) ≤ max_free_bits }
         ensures { IfOk result (λ made. made.netlist.now ≡ netlist.now) }
     {
-        let bits = all_bits(alloc, netlist.raw().inputs.as_slice())?;
+        let bits = joined(alloc, netlist.raw().inputs.as_slice())?;
         let shown = all_shown(alloc, netlist, &bits)?;
         Ok(Design {
             netlist,
@@ -71,7 +72,7 @@ impl<'a> Design<'a> {
             → EqualOnAllRuns (design self.now.netlist.now.raw) (mutant self.now.netlist.now.raw site.now)) }
     {
         let inverted = Inverted::at(self.netlist.raw(), site);
-        let mut table = vec![in alloc; false; self.netlist.nets() as usize]?;
+        let mut table = vec![in alloc; false; self.netlist.nets()]?;
         Ok(self.is_equal(inverted, &mut table))
     }
 
@@ -96,6 +97,8 @@ impl<'a> Design<'a> {
         ensures { let raw = self.now.netlist.now.raw in
             IsTrue result ↔ EqualAt (design raw) (inverted_machine raw inverted) number }
     {
+        // By this law the computed nets are the solution.
+        one_run();
         let outputs = self.netlist.raw().outputs.as_slice();
         lay(table, &self.bits, number as u128);
         settle(self.netlist, inverted, table);
@@ -106,24 +109,25 @@ impl<'a> Design<'a> {
 }
 
 /// The bits of all ports, one port after the other.
-fn all_bits(alloc: Global, ports: &[BitList]) -> Result<Vec<Bit>, AllocError>
-    ensures { IfOk result (λ bits. bits.items ≡ all_bits ports.now) }
+fn joined(alloc: Global, ports: &[Port]) -> Result<Vec<Bit>, AllocError>
+    ensures { IfOk result (λ bits. bits.items ≡ joined (bits_at ports.now)) }
 {
     let mut bits = Vec::new(alloc);
     for port in ports {
-        bits.extend_from_slice(port.as_slice())?;
+        bits.extend_from_slice(port.bits.as_slice())?;
     }
     Ok(bits)
 }
 
 /// What a design shows for each number over the bits of all its inputs.
 fn all_shown(alloc: Global, netlist: &Netlist, bits: &[Bit]) -> Result<ShownList, AllocError>
-    requires small { input_bits netlist.now.raw ≤ max_free_bits }
-    requires bits { bits.now ≡ all_bits netlist.now.raw.inputs }
+    requires no_registers { netlist.now.raw.registers ≡ [] }
+    requires small { length (input_bits netlist.now.raw) ≤ max_free_bits }
+    requires bits { bits.now ≡ input_bits netlist.now.raw }
     ensures all { IfOk result (λ list. length list ≡ 2 ^ length bits.now) }
     ensures shows { IfOk result (ShowsAll (design netlist.now.raw)) }
 {
-    let mut table = vec![in alloc; false; netlist.nets() as usize]?;
+    let mut table = vec![in alloc; false; netlist.nets()]?;
     let mut list = Vec::new(alloc);
     let count = 2u32.pow(bits.len() as u32);
     for number in 0..count {
@@ -140,11 +144,14 @@ fn shown_for(
     number: u128,
     table: &mut [bool],
 ) -> Result<Shown, AllocError>
+    requires no_registers { netlist.now.raw.registers ≡ [] }
     requires room { length table.old ≡ netlist.now.nets }
-    requires bits { bits.now ≡ all_bits netlist.now.raw.inputs }
+    requires bits { bits.now ≡ input_bits netlist.now.raw }
     requires fits { number < 2 ^ length bits.now }
     ensures { IfOk result (ShowsAt (design netlist.now.raw) number) }
 {
+    // By this law the computed nets are the solution.
+    one_run();
     let outputs = netlist.raw().outputs.as_slice();
     lay(table, bits, number);
     settle(netlist, Inverted::Nowhere, table);
@@ -152,26 +159,26 @@ fn shown_for(
 }
 
 /// The numbers at ports.
-fn numbers_at(alloc: Global, ports: &[BitList], table: &[bool]) -> Result<Shown, AllocError>
-    requires { AllPortsFit (length table.now) ports.now }
-    ensures { IfOk result (λ list. list ≡ shown_at (sight_by Nowhere (nets_of table.now)) ports.now) }
+fn numbers_at(alloc: Global, ports: &[Port], table: &[bool]) -> Result<Shown, AllocError>
+    requires { AllWide (bits_at ports.now) }
+    ensures { IfOk result (λ list. list ≡ shown_at (sight_by Nowhere (nets_of table.now)) (bits_at ports.now)) }
 {
     let mut list = Vec::new(alloc);
     for port in ports {
-        list.push(number_seen(table, View::Plain, port.as_slice()))?;
+        list.push(number_seen(table, View::Plain, port.bits.as_slice()))?;
     }
     Ok(Shown::from_vec(list))
 }
 
 /// Whether these numbers are read off at output ports.
-fn shows(outputs: &[BitList], table: &[bool], inverted: Inverted, numbers: &[u128]) -> bool
-    requires { AllPortsFit (length table.now) outputs.now }
-    ensures { IsTrue result ↔ (shown_at (sight_by inverted (nets_of table.now)) outputs.now ≡ numbers.now) }
+fn shows(outputs: &[Port], table: &[bool], inverted: Inverted, numbers: &[u128]) -> bool
+    requires { AllWide (bits_at outputs.now) }
+    ensures { IsTrue result ↔ (shown_at (sight_by inverted (nets_of table.now)) (bits_at outputs.now) ≡ numbers.now) }
 {
     match (outputs, numbers) {
         ([], []) => true,
         ([port, rest @ ..], [number, others @ ..]) => {
-            let seen = number_seen(table, inverted.at_outputs(), port.as_slice());
+            let seen = number_seen(table, inverted.at_outputs(), port.bits.as_slice());
             seen == *number && shows(rest, table, inverted, others)
         }
         _ => false,

@@ -5,15 +5,14 @@
 ghost use Rattle.std.specs.Prelude.{◌≡◌, ℕ, ◌<◌, [], length, slice_index_or};
 ghost use Rattle.std.specs.List.{Contains};
 ghost use Rattle.mcy_top.specs.declared.site.Mode.TheVariants.{Inv};
-ghost use Rattle.mcy_top.specs.Runs.{Port, Outputs};
+ghost use Rattle.netlist_core.specs.Runs.{Port, Outputs};
 ghost use Rattle.mcy_top.specs.Sites.{sites};
 ghost use Rattle.mcy_top.specs.Mutants.{sight_at, sight_at_cell};
 ghost use Rattle.mcy_top.specs.Seen.{view_of, sight_by};
 
-use crate::cell::{Bit, Cell};
-use crate::netlist::RawNetlist;
 use crate::site::{Place, Site};
 use crate::view::View;
+use netlist_core::{Bit, Cell, RawNetlist};
 
 /// Where bits are inverted.
 #[derive(Clone, Copy)]

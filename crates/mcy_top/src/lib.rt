@@ -2,7 +2,7 @@
 #![tactic(auto)]
 
 mod bits;
-mod cell;
+mod checked;
 mod command;
 mod equal;
 mod fault_lines;
@@ -11,7 +11,6 @@ pub mod laws;
 mod lower;
 mod main_call;
 mod names;
-mod netlist;
 pub mod netlist_laws;
 mod outcome;
 mod prepared;

@@ -3,49 +3,91 @@
 //! Each line is a cell. Nets are numbered by name: the inputs in the order of the ports, then what the lines give, in
 //! their order. So a cell reads nets that stand before the one that it drives.
 ghost use Rattle.std.specs.Prelude.{◌≡◌, ◌^◌, ◌<◌, ◌≤◌, map, filter, position, bytes_eq, length, IfOk};
-ghost use Rattle.mcy_top.specs.Inputs.{input_bits};
+ghost use Rattle.std.specs.List.{All};
+ghost use Rattle.mcy_top.specs.Names.{IsName};
+ghost use Rattle.mcy_top.specs.NetlistLaws.{CanRun};
 ghost use Rattle.mcy_top.specs.Ports.{has_direction, names_of};
 ghost use Rattle.mcy_top.specs.ShortNames.{HasShortNames};
-ghost use Rattle.mcy_top.specs.Sites.{sites};
-ghost use Rattle.mcy_top.specs.ThinModules.{IsThin, is_input, input_names};
-ghost use Rattle.mcy_top.specs.ThinNetlists.{net_names, net_of, bits_of, kind_of, operator_span, cell_of, cells_of, netlist_of};
+ghost use Rattle.mcy_top.specs.ThinModules.{IsThin, is_input, input_names, port_names};
+ghost use Rattle.mcy_top.specs.ThinNetlists.{net_names, net_of, bits_of, port_of, kind_of, operator_span, cell_of, cells_of, netlist_of};
 
-use crate::cell::{Bit, BitList, Cell, CellKind, CellList, PortList};
-use crate::netlist::{Netlist, RawNetlist};
+use crate::checked::CheckedNetlist;
 use crate::thin::{Direction, Item, ItemKind, Operator, PortDecl, ThinModule};
-use mcy_base::{Span, Text};
+use mcy_base::{Items, Span, Text};
+use netlist_core::{
+    Bit, BitList, Cell, CellKind, CellList, NetError, Netlist, Port, PortList, Ports, RawNetlist,
+};
 use std::alloc::{AllocError, Global};
 
 /// The netlist of the module.
-pub(crate) fn lower(alloc: Global, thin: &ThinModule) -> Result<Netlist, AllocError>
+pub(crate) fn lower(alloc: Global, thin: &ThinModule) -> Result<CheckedNetlist, AllocError>
     requires thin { IsThin thin.now }
     requires few { length (input_names thin.now.ports) ≤ 8 }
-    ensures raw { IfOk result (λ netlist. netlist.raw ≡ netlist_of thin.now) }
-    ensures nets { IfOk result (λ netlist. netlist.nets ≡ length (net_names thin.now)) }
-    ensures few_bits { IfOk result (λ netlist. input_bits netlist.raw ≤ 8) }
-    ensures few_sites { IfOk result (λ netlist. length (sites netlist.raw) ≤ 9) }
+    ensures { IfOk result (λ netlist. netlist ≡ netlist_of thin.now) }
 {
     let raw = RawNetlist {
         top: Text::copy(alloc, "g")?,
-        inputs: port_bits(alloc, thin, Direction::Input)?,
-        outputs: port_bits(alloc, thin, Direction::Output)?,
+        clock: None,
+        inputs: ports_of(alloc, thin, Direction::Input)?,
+        outputs: ports_of(alloc, thin, Direction::Output)?,
+        registers: Items::from_vec(Vec::new(alloc)),
         cells: cells(alloc, thin)?,
     };
-    Ok(Netlist::from_parts(raw, net_count(thin)))
+    check(alloc, raw)
 }
 
-/// The bits of each port of the direction.
-fn port_bits(alloc: Global, thin: &ThinModule, direction: Direction) -> Result<PortList, AllocError>
-    requires { length (net_names thin.now) < 2 ^ 32 }
-    ensures { IfOk result (λ bits. bits ≡ map (bits_of thin.now) (names_of direction thin.now.ports)) }
+/// The netlist of parts that can be run.
+fn check(alloc: Global, raw: RawNetlist) -> Result<CheckedNetlist, AllocError>
+    requires { CanRun raw }
+    ensures { IfOk result (λ netlist. netlist ≡ raw) }
+{
+    match Netlist::check(alloc, raw) {
+        Ok(netlist) => Ok(CheckedNetlist::new(netlist)),
+        Err(error) => Err(no_memory(error)),
+    }
+}
+
+/// The error that a netlist which can be run is refused for: there is no other one than want of memory.
+fn no_memory(error: NetError) -> AllocError
+    requires { error ≡ NetError.Memory }
+{
+    let _memory = error;
+    AllocError
+}
+
+/// The ports of the direction.
+fn ports_of(alloc: Global, thin: &ThinModule, direction: Direction) -> Result<Ports, AllocError>
+    requires few { length (net_names thin.now) < 2 ^ 32 }
+    requires named { All IsName (port_names thin.now.ports) }
+    ensures { IfOk result (λ ports. ports ≡ map (port_of thin.now) (names_of direction thin.now.ports)) }
 {
     let mut ports = Vec::new(alloc);
     for port in thin.ports.as_slice() {
         if has_direction(port, direction) {
-            ports.push(bits_of(alloc, thin, port.name.as_slice())?)?;
+            ports.push(port_of(alloc, thin, port.name.as_slice())?)?;
         }
     }
-    Ok(PortList::from_vec(ports))
+    Ok(Ports::from_vec(ports))
+}
+
+/// The port of a name.
+fn port_of(alloc: Global, thin: &ThinModule, name: &[u8]) -> Result<Port, AllocError>
+    requires few { length (net_names thin.now) < 2 ^ 32 }
+    requires name { IsName name.now }
+    ensures { IfOk result (λ port. port ≡ port_of thin.now name.now) }
+{
+    Ok(Port {
+        name: text_of(alloc, name)?,
+        bits: bits_of(alloc, thin, name)?,
+    })
+}
+
+/// The text of a name.
+fn text_of(alloc: Global, name: &[u8]) -> Result<Text, AllocError>
+    requires { IsName name.now }
+    ensures { IfOk result (λ text. text ≡ name.now) }
+{
+    Text::copy(alloc, str::from_utf8(name).unwrap())
 }
 
 /// The cells of the lines.
@@ -75,6 +117,7 @@ fn cell_of(alloc: Global, thin: &ThinModule, number: u32, item: &Item) -> Result
     ]?;
     Ok(Cell {
         kind: kind_of(item.operator),
+        is_signed: false,
         ports: PortList::from_vec(ports),
         span: operator_span(number, item),
     })
@@ -150,16 +193,6 @@ fn given_place(items: &[Item], name: &[u8]) -> Option<usize>
     ensures { result ≡ position (λ item. bytes_eq item.name name.now) items.now }
 {
     items.iter().position(|item| item.name.as_slice() == name)
-}
-
-/// How many nets the module has.
-fn net_count(thin: &ThinModule) -> u32
-    requires { length (net_names thin.now) < 2 ^ 32 }
-    ensures { result ≡ length (net_names thin.now) }
-{
-    let ports = thin.ports.as_slice();
-    let items = thin.items.as_slice();
-    (input_count(ports) + items.len()) as u32
 }
 
 /// How many of the ports are inputs.

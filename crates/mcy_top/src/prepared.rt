@@ -6,8 +6,8 @@ ghost use Rattle.mcy_top.specs.Limits.{max_free_bits};
 ghost use Rattle.mcy_top.specs.Projects.{IsProject};
 ghost use Rattle.mcy_top.specs.ThinModules.{IsSource, input_names};
 
+use crate::checked::CheckedNetlist;
 use crate::lower::lower;
-use crate::netlist::Netlist;
 use crate::site::Site;
 use crate::site_line::site_lines;
 use crate::site_text::site_texts;
@@ -37,7 +37,7 @@ pub type SiteList = Items<Site>;
 pub struct Prepared {
     pub campaign: Campaign,
     pub sites: SiteList,
-    pub netlist: Netlist,
+    pub netlist: CheckedNetlist,
 }
 
 ghost use Rattle.mcy_top.specs.Campaigns.{campaign_of, meta_of, IsPrepared};
@@ -96,12 +96,13 @@ pub(crate) fn prepare(
     requires few { length (input_names parsed.now.ports) ≤ max_free_bits }
     ensures { IfOk result (λ prepared. IsPrepared config.now source.now prepared) }
 {
-    let netlist = lower(alloc, parsed)?;
-    let places = sites(alloc, &netlist)?;
+    let checked = lower(alloc, parsed)?;
+    let netlist = checked.netlist();
+    let places = sites(alloc, netlist)?;
     let campaign = Campaign {
         meta: make_meta(alloc, config, source)?,
-        mutations: site_texts(alloc, &netlist, SOURCE_NAME, &places)?,
-        lines: site_lines(alloc, &netlist, &places)?,
+        mutations: site_texts(alloc, netlist, SOURCE_NAME, &places)?,
+        lines: site_lines(alloc, netlist, &places)?,
         test_names: test_names(alloc)?,
         kinds: one_number(alloc, EQ_KIND)?,
         expect: one_number(alloc, PASS_OR_FAIL)?,
@@ -110,6 +111,6 @@ pub(crate) fn prepare(
     Ok(Prepared {
         campaign,
         sites: SiteList::from_vec(places),
-        netlist,
+        netlist: checked,
     })
 }

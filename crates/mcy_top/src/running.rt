@@ -25,7 +25,7 @@ pub(crate) struct Tester<'a> {
     alloc: Global,
     prepared: &'a Prepared,
     design: Design<'a>,
-    ghost same: { design.netlist.now ≡ prepared.now.netlist },
+    ghost same: { design.netlist.now.raw ≡ prepared.now.netlist },
 }
 
 impl<'a> Tester<'a> {
@@ -34,7 +34,7 @@ impl<'a> Tester<'a> {
         requires { IsPlan prepared.now }
         ensures { IfOk result (λ tester. tester.prepared.now ≡ prepared.now) }
     {
-        let design = Design::of(alloc, &prepared.netlist)?;
+        let design = Design::of(alloc, prepared.netlist.netlist())?;
         Ok(Tester {
             alloc,
             prepared,

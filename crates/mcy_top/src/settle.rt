@@ -1,73 +1,90 @@
-//! The nets of a cycle, computed cell by cell.
+//! The nets of a cycle, computed cell by cell in the order of the netlist.
 //!
 //! Each cell sees its input ports by what is inverted, and the table keeps the value that the cell gives its nets.
-ghost use Rattle.std.specs.Prelude.{◌≡◌, ℕ, ◌≤◌, ◌<◌, length};
-ghost use Rattle.mcy_top.specs.Runs.{Holds, output_port, port_numbers};
-ghost use Rattle.mcy_top.specs.Sound.{CellFits, AllCellsFit};
-ghost use Rattle.mcy_top.specs.Tables.{nets_of};
+ghost use Rattle.std.specs.Prelude.{◌≡◌, ◌%◌, ◌^◌, Some, length};
+ghost use Rattle.netlist_core.specs.Runs.{input_ports, output_port, ports_seen};
+ghost use Rattle.netlist_core.specs.Shapes.{HasShape};
+ghost use Rattle.netlist_core.specs.Checked.{AllWide};
+ghost use Rattle.netlist_core.specs.Settled.{number_at, after_cell, after_order};
+ghost use Rattle.cell_meaning.specs.Words.{FitWords, bits_of};
+ghost use Rattle.mcy_top.specs.Tables.{nets_of, AllBelow, HasInputs};
 ghost use Rattle.mcy_top.specs.Seen.{sight_by};
-ghost use Rattle.mcy_top.specs.Settled.{number_at, after_cell, after_cells};
 
-use crate::bits::{lay, number_seen};
-use crate::cell::{Bit, BitList, Cell, CellKind};
+use crate::bits::{lay, word_seen};
 use crate::inverted::Inverted;
-use crate::netlist::Netlist;
+use cell_meaning::cell_value;
+use mcy_base::Word;
+use netlist_core::{Bit, BitList, Cell, Netlist};
 
-/// The number of a cell, whose low bits its Y takes.
-fn compute(table: &[bool], inverted: Inverted, number: u32, cell: &Cell) -> u128
-    requires { CellFits (length table.now) cell.now }
-    ensures { result ≡ number_at (sight_by inverted (nets_of table.now)) number cell.now }
+/// The words at a cell's input ports, all ports but the last. Where there are fewer than three, the last one stands
+/// for the others.
+fn words_seen(table: &[bool], inverted: Inverted, number: u32, ports: &[BitList]) -> [Word; 3]
+    requires inputs { HasInputs ports.now }
+    requires wide { AllWide ports.now }
+    ensures fit { FitWords (input_ports ports.now) result }
+    ensures seen { bits_of (input_ports ports.now) result ≡ ports_seen (sight_by inverted (nets_of table.now)) number 0 (input_ports ports.now) }
 {
-    match cell.ports.as_slice() {
-        [a, b, _] => {
-            let a = number_seen(table, inverted.at_port(number, 0), a.as_slice());
-            let b = number_seen(table, inverted.at_port(number, 1), b.as_slice());
-            match cell.kind {
-                CellKind::And => a & b,
-                CellKind::Or => a | b,
-                CellKind::Xor => a ^ b,
-            }
+    match ports {
+        [a, _] => {
+            let a = word_seen(table, inverted.at_port(number, 0), a.as_slice());
+            [a, a, a]
         }
-        _ => 0,
+        [a, b, _] => {
+            let a = word_seen(table, inverted.at_port(number, 0), a.as_slice());
+            let b = word_seen(table, inverted.at_port(number, 1), b.as_slice());
+            [a, b, b]
+        }
+        [a, b, d, _] => {
+            let a = word_seen(table, inverted.at_port(number, 0), a.as_slice());
+            let b = word_seen(table, inverted.at_port(number, 1), b.as_slice());
+            let d = word_seen(table, inverted.at_port(number, 2), d.as_slice());
+            [a, b, d]
+        }
+        _ => [Word::new(1, 0).unwrap(); 3],
     }
 }
 
-/// The bits of Y.
+/// The bits of Y, the last port.
 fn output(ports: &[BitList]) -> &[Bit]
-    requires { length ports.now ≡ 3 }
     ensures { result.now ≡ output_port ports.now }
 {
     match ports {
-        [_, _, y] => y.as_slice(),
-        _ => &[],
+        [] => &[],
+        [y] => y.as_slice(),
+        [_, rest @ ..] => output(rest),
     }
+}
+
+/// The value of a cell.
+fn compute(table: &[bool], inverted: Inverted, number: u32, cell: &Cell) -> u128
+    requires shape { HasShape cell.now }
+    requires wide { AllWide cell.now.ports }
+    ensures { result ≡ number_at (sight_by inverted (nets_of table.now)) number cell.now % 2 ^ length (output_port cell.now.ports) }
+{
+    let words = words_seen(table, inverted, number, cell.ports.as_slice());
+    cell_value(cell, words).bits()
 }
 
 /// Sets the nets of a cell's Y.
 fn advance(table: &mut [bool], inverted: Inverted, number: u32, cell: &Cell)
-    requires { CellFits (length table.old) cell.now }
-    ensures { nets_of table.new ≡ after_cell (sight_by inverted) number cell.now (nets_of table.old) }
+    requires shape { HasShape cell.now }
+    requires wide { AllWide cell.now.ports }
+    requires below { AllBelow (length table.old) (output_port cell.now.ports) }
+    ensures { nets_of table.new ≡ after_cell (sight_by inverted) number (Some cell.now) (nets_of table.old) }
 {
     let value = compute(table, inverted, number, cell);
     lay(table, output(cell.ports.as_slice()), value);
 }
 
-/// Sets the nets of the cells' Y, one after the other.
-fn advance_all(table: &mut [bool], inverted: Inverted, cells: &[Cell])
-    requires few { length cells.now ≤ 65535 }
-    requires fit { AllCellsFit (length table.old) cells.now }
-    ensures { nets_of table.new ≡ after_cells (sight_by inverted) 0 cells.now (nets_of table.old) }
-{
-    for i in 0..cells.len() {
-        advance(table, inverted, i as u32, &cells[i]);
-    }
-}
-
 /// Gives the nets the values that they have in a cycle with the inputs that are laid.
 pub(crate) fn settle(netlist: &Netlist, inverted: Inverted, table: &mut [bool])
-    requires room { length table.old ≡ netlist.now.nets }
-    ensures { let inputs = port_numbers (nets_of table.old) netlist.now.raw.inputs in
-        Holds (sight_by inverted (nets_of table.new)) (nets_of table.new) netlist.now.raw inputs }
+    requires { length table.old ≡ netlist.now.nets }
+    ensures { nets_of table.new ≡ after_order (sight_by inverted) netlist.now.raw.cells netlist.now.order (nets_of table.old) }
 {
-    advance_all(table, inverted, netlist.raw().cells.as_slice());
+    let cells = netlist.raw().cells.as_slice();
+    let order = netlist.order();
+    for i in 0..order.len() {
+        let number = order[i];
+        advance(table, inverted, number, &cells[number as usize]);
+    }
 }

@@ -3,8 +3,8 @@ ghost use Rattle.std.specs.Prelude.{◌≡◌, map, IfOk};
 ghost use Rattle.mcy_top.specs.Places.{HasPlace, HavePlaces};
 ghost use Rattle.mcy_top.specs.SiteLines as lines;
 
-use crate::netlist::{Netlist, RawNetlist};
 use crate::site::{Place, Site};
+use netlist_core::{Netlist, RawNetlist};
 use result_book::PlaceList;
 use std::alloc::{AllocError, Global};
 

@@ -3,10 +3,9 @@ ghost use Rattle.std.specs.Prelude.{◌≡◌, map, string_bytes, IfOk};
 ghost use Rattle.mcy_top.specs.SiteTexts as texts;
 ghost use Rattle.mcy_top.specs.Places.{HasPlace, HavePlaces};
 
-use crate::cell::CellKind;
-use crate::netlist::{Netlist, RawNetlist};
 use crate::site::{Mode, Place, Site};
 use mcy_base::{Bytes, BytesList};
+use netlist_core::{CellKind, Netlist, RawNetlist, Shape};
 use std::alloc::{AllocError, Global};
 
 /// The texts of sites of the netlist, whose source has this file name.
@@ -59,7 +58,7 @@ fn place_text(
         Place::Cell(number) => {
             let cell = &raw.cells.as_slice()[number as usize];
             let kind = kind_text(cell.kind);
-            let port = port_text(site.port);
+            let port = port_text(cell.kind.shape(), site.port);
             let bit = site.bit;
             let line = cell.span.line;
             format!(in alloc; " cell {kind}_{number} {port} {bit} {file}:{line}")
@@ -81,19 +80,94 @@ fn kind_text(kind: CellKind) -> &'static str
     ensures { result.now ≡ texts.kind_text kind }
 {
     match kind {
+        CellKind::Not => "not",
+        CellKind::Neg => "neg",
         CellKind::And => "and",
         CellKind::Or => "or",
         CellKind::Xor => "xor",
+        CellKind::Xnor => "xnor",
+        CellKind::Add => "add",
+        CellKind::Sub => "sub",
+        CellKind::Mul => "mul",
+        CellKind::Lt => "lt",
+        CellKind::Le => "le",
+        CellKind::Gt => "gt",
+        CellKind::Ge => "ge",
+        CellKind::Eq => "eq",
+        CellKind::Ne => "ne",
+        CellKind::Shl => "shl",
+        CellKind::Shr => "shr",
+        CellKind::Sshr => "sshr",
+        CellKind::Rand => "rand",
+        CellKind::Ror => "ror",
+        CellKind::Rxor => "rxor",
+        CellKind::Rnand => "rnand",
+        CellKind::Rnor => "rnor",
+        CellKind::Rxnor => "rxnor",
+        CellKind::Lnot => "lnot",
+        CellKind::Land => "land",
+        CellKind::Lor => "lor",
+        CellKind::Mux => "mux",
+        CellKind::Pick => "pick",
+        CellKind::Put => "put",
     }
 }
 
-/// The name of a port of a cell.
-fn port_text(port: u8) -> &'static str
-    ensures { result.now ≡ texts.port_text port }
+/// The name of a port of a cell, by the row of its kind.
+fn port_text(shape: Shape, port: u8) -> &'static str
+    ensures { result.now ≡ texts.port_text shape port }
+{
+    match shape {
+        Shape::Unary | Shape::Reduction => one_input_text(port),
+        Shape::Binary | Shape::Relation | Shape::Shift | Shape::Logical | Shape::Selection => {
+            two_inputs_text(port)
+        }
+        Shape::Choice => choice_text(port),
+        Shape::Insertion => insertion_text(port),
+    }
+}
+
+/// The name of a port where there are A and Y.
+fn one_input_text(port: u8) -> &'static str
+    ensures { result.now ≡ texts.one_input_text port }
+{
+    match port {
+        0 => "A",
+        _ => "Y",
+    }
+}
+
+/// The same where there are A, B and Y.
+fn two_inputs_text(port: u8) -> &'static str
+    ensures { result.now ≡ texts.two_inputs_text port }
 {
     match port {
         0 => "A",
         1 => "B",
+        _ => "Y",
+    }
+}
+
+/// The same where there are S, A, B and Y.
+fn choice_text(port: u8) -> &'static str
+    ensures { result.now ≡ texts.choice_text port }
+{
+    match port {
+        0 => "S",
+        1 => "A",
+        2 => "B",
+        _ => "Y",
+    }
+}
+
+/// The same where there are A, B, D and Y.
+fn insertion_text(port: u8) -> &'static str
+    ensures { result.now ≡ texts.insertion_text port }
+{
+    match port {
+        0 => "A",
+        1 => "B",
+        2 => "D",
         _ => "Y",
     }
 }

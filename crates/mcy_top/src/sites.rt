@@ -3,9 +3,8 @@ ghost use Rattle.std.specs.Prelude.{◌≡◌, ◌≤◌, ◌++◌, length, All,
 ghost use Rattle.mcy_top.specs.Sites.{sites, ports_sites, bits_sites};
 ghost use Rattle.mcy_top.specs.Places.{HavePlaces};
 
-use crate::cell::{Bit, BitList};
-use crate::netlist::Netlist;
 use crate::site::{Mode, Place, Site};
+use netlist_core::{Bit, BitList, Netlist};
 use std::alloc::{AllocError, Global};
 
 /// The sites of the netlist.
@@ -22,7 +21,7 @@ pub(crate) fn sites(alloc: Global, netlist: &Netlist) -> Result<Vec<Site>, Alloc
 
 /// Adds the sites of the cell of this number, from the bits at its ports.
 fn add_cell(list: &mut Vec<Site>, cell: u32, ports: &[BitList]) -> Result<(), AllocError>
-    requires few { length ports.now ≤ 3 }
+    requires few { length ports.now ≤ 4 }
     requires narrow { All (λ bits. length bits ≤ 128) ports.now }
     ensures { OnOk result (list.new.items ≡ list.old.items ++ ports_sites cell 0 ports.now) }
 {

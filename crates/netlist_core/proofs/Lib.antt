@@ -1,6 +1,6 @@
 mod Tables
 mod Counting
-mod Owners
+pub mod Owners
 mod Sources
 mod Last
 mod Stages
@@ -9,6 +9,6 @@ mod Staged
 mod Trails
 mod Chains
 mod Checks
-mod Settles
+pub mod Settles
 mod Solved
 mod Unique

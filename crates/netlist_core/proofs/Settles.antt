@@ -1,23 +1,19 @@
 -- Computing the cells in their order solves the equations of a cycle, and nothing else does.
-use Rattle.std.proofs.Common.{◌≡◌, ◌≢◌, ℕ, zero, suc, ◌+◌, ◌*◌, ◌/◌, ◌%◌, ◌^◌, ◌<◌, ◌≤◌, Bool, true, false, List, [], ◌∷◌, ◌++◌, map, length, take, drop, get_or, slice_get, Option, Some, None, nat_eq, refl, sym, ◌∙◌, ap, subst, ◌⊎◌, inl, inr, arith}
-use Rattle.std.specs.List.{Contains}
+use Rattle.std.proofs.Common.{◌≡◌, ◌≢◌, ℕ, zero, suc, ◌+◌, ◌*◌, ◌/◌, ◌%◌, ◌^◌, ◌<◌, ◌≤◌, Bool, true, false, List, [], ◌∷◌, length, nat_eq, refl, sym, ◌∙◌, ap, subst, inl, inr, arith}
 use Rattle.std.proofs.lemmas.Bool.Decides.{eqb_tells}
 use Rattle.std.proofs.lemmas.Bool.{cases_lt}
 use Rattle.std.proofs.lemmas.Nat.{mod-pow-add}
-use Rattle.std.proofs.lemmas.List.{get_or-take, get_or_default, length-take-le, get_or-drop, length-drop}
 use Rattle.std.proofs.Math.Nat.{mod-eq_of_lt}
 use Rattle.netlist_core.specs.declared.bit.Bit.{Bit}
 use Rattle.netlist_core.specs.declared.bit.Bit.TheVariants.{Fixed, Net}
-use Rattle.netlist_core.specs.declared.cell.Cell.{Cell}
 use Rattle.netlist_core.specs.declared.raw.RawNetlist.{RawNetlist}
 use Rattle.netlist_core.specs.Numbers.{digit, number}
-use Rattle.netlist_core.specs.Cells.{cell_value}
-use Rattle.netlist_core.specs.Runs.{Nets, bit_value, values, Reader, Port, Sight, plain, input_ports, output_port, ports_seen, Computes, port_numbers}
+use Rattle.netlist_core.specs.Runs.{Nets, values, Port, Sight, plain, ports_seen, port_numbers}
 use Rattle.netlist_core.specs.Drivers.{times, times_at}
 use Rattle.netlist_core.specs.Checked.{AllNets, AllPortsNets}
-use Rattle.netlist_core.specs.Settled.{with_net, laid, laid_all, number_at, after_cell, after_order}
+use Rattle.netlist_core.specs.Settled.{with_net, laid, laid_all}
 use Rattle.netlist_core.specs.Solutions.{FitPorts, StandTogether, IsCausal}
-use Rattle.netlist_core.proofs.Counting.{one_at, one_at-same, one_at-cases}
+use Rattle.netlist_core.proofs.Counting.{one_at-same, one_at-cases}
 
 -- Values at bits.
 

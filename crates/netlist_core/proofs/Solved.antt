@@ -1,26 +1,25 @@
 -- A netlist whose drivers are single and whose cells are in order has exactly one run.
-use Rattle.std.proofs.Common.{◌≡◌, ◌≢◌, ℕ, zero, suc, ◌+◌, ◌%◌, ◌^◌, ◌<◌, ◌≤◌, Bool, List, [], ◌∷◌, ◌++◌, map, length, take, drop, get_or, slice_get, Option, Some, None, refl, sym, ◌∙◌, ap, subst, ◌⊎◌, inl, inr, arith}
+use Rattle.std.proofs.Common.{◌≡◌, ◌≢◌, ℕ, zero, suc, ◌+◌, ◌^◌, ◌<◌, ◌≤◌, Bool, List, [], ◌∷◌, ◌++◌, map, length, take, drop, get_or, slice_get, Option, Some, None, refl, sym, ◌∙◌, ap, subst, ◌⊎◌, inl, inr, arith}
 use Rattle.std.specs.List.{Contains}
 use Rattle.std.proofs.lemmas.Bool.Decides.{eqb_tells}
 use Rattle.std.proofs.lemmas.List.Elements.{Contains-append_cases}
 use Rattle.std.proofs.lemmas.Bool.{cases_lt}
 use Rattle.std.proofs.lemmas.List.{get_or-take, get_or-drop, get_or_default, length-take-le, length-drop, take-append-drop, drop_more}
-use Rattle.std.proofs.lemmas.Option.{slice_get-get_or}
 use Rattle.netlist_core.specs.declared.bit.Bit.{Bit}
 use Rattle.netlist_core.specs.declared.cell.Cell.{Cell}
 use Rattle.netlist_core.specs.declared.port.Register.{Register}
 use Rattle.netlist_core.specs.declared.raw.RawNetlist.{RawNetlist}
 use Rattle.netlist_core.specs.Numbers.{number}
 use Rattle.netlist_core.specs.Cells.{cell_value}
-use Rattle.netlist_core.specs.Runs.{Nets, values, Reader, Port, Next, Sight, plain, bits_at, q_bits, d_bits, input_ports, output_port, ports_seen, Computes, port_numbers, Holds, taken, IsRunBy}
+use Rattle.netlist_core.specs.Runs.{Nets, values, Next, Outputs, Sight, bits_at, q_bits, d_bits, input_ports, output_port, ports_seen, Computes, port_numbers, Holds, shown, taken, IsRunBy}
 use Rattle.netlist_core.specs.Drivers.{times, times_at, y_bits, drivers, cell_readers, readers}
-use Rattle.netlist_core.specs.Orders.{ports_of, Reads, IsReady, IsLeastReady, IsInOrder, IsOrder}
-use Rattle.netlist_core.specs.Checked.{AllNets, AllPortsNets, AllRegistersFit, IsFormed, IsDriven, IsConnected}
+use Rattle.netlist_core.specs.Orders.{ports_of, IsLeastReady, IsOrder}
+use Rattle.netlist_core.specs.Checked.{AllNets, AllPortsNets, AllRegistersFit, IsFormed, IsConnected}
 use Rattle.netlist_core.specs.Listing.{y_of}
 use Rattle.netlist_core.specs.Settled.{laid, laid_all, number_at, after_cell, after_order, all_zero}
 use Rattle.netlist_core.specs.Solutions.{FitPorts, driving, StandTogether, IsCausal, settled, FitsInputs, FitsRegisters, AllFitInputs, AgreeDriven, HasOneRunBy}
 use Rattle.netlist_core.proofs.Owners.{y-one, y-two}
-use Rattle.netlist_core.proofs.Reading.{Contains-head, Contains-tail, Contains-cases, Contains-empty, Contains-take}
+use Rattle.netlist_core.proofs.Reading.{Contains-head, Contains-tail}
 use Rattle.netlist_core.proofs.Settles.{AgreeAt, agree-numbers, agree-ports, ports-agree, values-agree, seen-agree, number-fits, laid-other, laid-number, laid_all-other, laid_all-numbers}
 
 -- Computing in an order.
@@ -79,6 +78,14 @@ taken-agree netlist sight causal a b k [] h = refl
 taken-agree netlist sight causal a b k (r ∷ more) h =
     let head : sight a (Next k) r.d ≡ sight b (Next k) r.d = causal.alike a b (Next k) r.d (λ n m t. h n m (omega (arith, t))) in
     let tail : taken (sight a) (k + 1) more ≡ taken (sight b) (k + 1) more = taken-agree netlist sight causal a b (k + 1) more (λ n m t. h n m (omega (arith, t))) in
+    rw (head, tail) refl
+
+-- what is read off at ports
+shown-agree : (netlist : RawNetlist) (sight : Nets → Sight) → IsCausal netlist sight → (a b : Nets) (ports : List (List Bit)) → ((n m : ℕ) → 1 ≤ times_at n ports → StandTogether netlist n m → a m ≡ b m) → map (λ bits. number (sight a Outputs bits)) ports ≡ map (λ bits. number (sight b Outputs bits)) ports
+shown-agree netlist sight causal a b [] h = refl
+shown-agree netlist sight causal a b (bits ∷ more) h =
+    let head : sight a Outputs bits ≡ sight b Outputs bits = causal.alike a b Outputs bits (λ n m t. h n m (omega (arith, t))) in
+    let tail : map (λ bits. number (sight a Outputs bits)) more ≡ map (λ bits. number (sight b Outputs bits)) more = shown-agree netlist sight causal a b more (λ n m t. h n m (omega (arith, t))) in
     rw (head, tail) refl
 
 -- what registers take fits them
@@ -279,6 +286,10 @@ module _ (netlist : RawNetlist) (formed : IsFormed netlist) (connected : IsConne
     -- registers take the same
     pub same-taken : taken (sight a) 0 netlist.registers ≡ taken (sight b) 0 netlist.registers
     same-taken = taken-agree netlist sight causal a b 0 netlist.registers (λ n m h t. agree-driven m (beside-driven n m t (has_driver n (omega (arith, h)))))
+
+    -- and the same is shown
+    pub same-shown : shown (sight a) netlist ≡ shown (sight b) netlist
+    same-shown = shown-agree netlist sight causal a b (bits_at netlist.outputs) (λ n m h t. agree-driven m (beside-driven n m t (has_driver n (omega (arith, h)))))
 
   -- The runs.
 

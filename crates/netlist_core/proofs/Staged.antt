@@ -8,17 +8,15 @@ use Rattle.std.specs.Cmp.{nat_cmp_is}
 use Rattle.std.specs.declared.cmp.Ordering.TheVariants.{Less, Equal, Greater}
 use Rattle.std.proofs.lemmas.Bool.{false≢true, cases_lt, cases_order}
 use Rattle.std.proofs.lemmas.Bool.Decides.{eqb_tells}
-use Rattle.std.proofs.lemmas.List.{length-set, length-append, length_push, get_or-set_same, get_or-set_other, get_or_append_left, get_or_push, take-append-le, take_at, length-replicate, length-drop, drop_more}
-use Rattle.std.proofs.lemmas.List.Elements.{Contains-get_or, Contains-append_left, Contains-push, Contains-push_cases, All-contains}
-use Rattle.netlist_core.specs.declared.bit.Bit.{Bit}
+use Rattle.std.proofs.lemmas.List.{length-set, length_push, get_or-set_same, get_or-set_other, get_or_append_left, get_or_push, take-append-le, take_at, length-replicate, length-drop, drop_more}
+use Rattle.std.proofs.lemmas.List.Elements.{Contains-get_or, Contains-append_left, Contains-push, Contains-push_cases}
 use Rattle.netlist_core.specs.declared.cell.Cell.{Cell as Gate}
 use Rattle.netlist_core.specs.declared.raw.RawNetlist.{RawNetlist}
 use Rattle.netlist_core.specs.declared.drivers.Driver.{Driver}
 use Rattle.netlist_core.specs.declared.drivers.Driver.TheVariants.{Cell}
-use Rattle.netlist_core.specs.Runs.{input_ports, output_port}
-use Rattle.netlist_core.specs.Drivers.{times, times_at}
+use Rattle.netlist_core.specs.Runs.{input_ports}
 use Rattle.netlist_core.specs.Orders.{ports_of, Reads, IsReady, IsLeastReady, IsInOrder}
-use Rattle.netlist_core.specs.Listing.{is_listed, sources_at, all_sources, Stage, row_of, IsNext, with_row, placed, IsPlaced, marked, IsSized, CanBePlaced, y_of, IsLinked, Waits, IsStage, none_left}
+use Rattle.netlist_core.specs.Listing.{is_listed, sources_at, all_sources, Stage, row_of, IsNext, with_row, placed, IsPlaced, marked, IsSized, CanBePlaced, IsLinked, IsStage, none_left}
 use Rattle.netlist_core.specs.Reaching.{unfound}
 use Rattle.netlist_core.proofs.Counting.{tells}
 use Rattle.netlist_core.proofs.Sources.{at-sound, at-covers}

@@ -1,9 +1,9 @@
 -- The stages of listing, as the code keeps them.
-use Rattle.std.proofs.Common.{◌≡◌, ℕ, ◌<◌, Bool, true, List, [], ◌∷◌, ◌++◌, map, length, get_or, set, slice_get, Option, Some, None, refl, sym, ◌∙◌, ap, arith}
+use Rattle.std.proofs.Common.{◌≡◌, ℕ, ◌<◌, Bool, true, List, [], ◌∷◌, ◌++◌, map, length, get_or, set, Option, Some, None, refl, sym, ◌∙◌, ap}
 use Rattle.std.specs.BTreeSet.{insert_key}
 use Rattle.std.specs.Ordering.{nat_cmp}
 use Rattle.std.proofs.lemmas.List.{map-set, get_or-map}
-use Rattle.netlist_core.specs.Listing.{Stage, IsNext, with_row, placed, IsPlaced, row_of, marked}
+use Rattle.netlist_core.specs.Listing.{IsNext, IsPlaced, row_of, marked}
 
 module _ {V : Type 0} (items : V → List ℕ) where
   -- the list at a place

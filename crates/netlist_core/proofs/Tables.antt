@@ -1,12 +1,12 @@
 -- A table of drivers as a function of the net.
-use Rattle.std.proofs.Common.{◌≡◌, ◌≢◌, ℕ, zero, suc, ◌-◌, ◌<◌, Bool, true, false, List, [], ◌∷◌, ◌++◌, length, get_or, take, slice_get, set, Option, Some, refl, sym, ◌∙◌, ap, subst, inl, inr, arith}
+use Rattle.std.proofs.Common.{◌≡◌, ◌≢◌, ℕ, zero, suc, ◌-◌, ◌<◌, true, List, [], ◌∷◌, ◌++◌, length, get_or, take, set, Option, Some, refl, sym, ◌∙◌, ap, subst, inl, inr, arith}
 use Rattle.std.proofs.lemmas.Bool.Decides.{eqb_tells}
 use Rattle.std.proofs.lemmas.List.{get_or-set_same, get_or-set_other, get_or_read}
 use Rattle.netlist_core.specs.declared.drivers.Driver.{Driver}
 use Rattle.netlist_core.specs.declared.drivers.Driver.TheVariants.{Nothing, Source, Cell}
 use Rattle.netlist_core.specs.declared.bit.Bit.{Bit}
 use Rattle.netlist_core.specs.Runs.{input_ports, output_port}
-use Rattle.netlist_core.specs.Marking.{Known, driver_at, with_driver, is_driven, lesser, after_net}
+use Rattle.netlist_core.specs.Marking.{driver_at, with_driver, is_driven, lesser, after_net}
 
 -- a default at the end is not seen
 reads-push : (table : List Driver) (m : ℕ) → driver_at (table ++ Nothing ∷ []) m ≡ driver_at table m

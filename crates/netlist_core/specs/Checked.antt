@@ -1,5 +1,5 @@
 -- Which netlists can be run, and why others are refused.
-use Rattle.std.specs.Prelude.{◌≡◌, ℕ, ◌+◌, ◌≤◌, ◌<◌, ◌^◌, List, [], ◌∷◌, length}
+use Rattle.std.specs.Prelude.{◌≡◌, ℕ, ◌+◌, ◌≤◌, ◌<◌, List, [], ◌∷◌, length}
 use Rattle.mcy_base.specs.declared.kind.Kind.TheVariants.{Cells, NetBits}
 use Rattle.netlist_core.specs.declared.bit.Bit.{Bit}
 use Rattle.netlist_core.specs.declared.bit.Bit.TheVariants.{Fixed, Net}
@@ -9,7 +9,7 @@ use Rattle.netlist_core.specs.declared.raw.RawNetlist.{RawNetlist}
 use Rattle.netlist_core.specs.declared.netlist.NetError.{NetError}
 use Rattle.netlist_core.specs.declared.netlist.NetError.TheVariants.{TooMany, BadShape, TwoDrivers, Undriven, Loop, Memory}
 use Rattle.std.specs.Prelude.{slice_get, Option, Some, None}
-use Rattle.netlist_core.specs.Runs.{bits_at, q_bits, d_bits, output_port}
+use Rattle.netlist_core.specs.Runs.{bits_at, q_bits}
 use Rattle.netlist_core.specs.Shapes.{HasShape}
 use Rattle.netlist_core.specs.Drivers.{y_bits, drivers, HasTwoDrivers, IsUndriven}
 use Rattle.netlist_core.specs.Orders.{IsOnLoop, IsOrder}

@@ -3,7 +3,7 @@ use Rattle.std.specs.Prelude.{◌≡◌, ℕ, ◌≤◌, ◌<◌, ◌^◌, ◌�
 use Rattle.std.specs.List.{Contains}
 use Rattle.netlist_core.specs.declared.bit.Bit.{Bit}
 use Rattle.netlist_core.specs.declared.raw.RawNetlist.{RawNetlist}
-use Rattle.netlist_core.specs.Runs.{Nets, Reader, Sight, bits_at, q_bits, IsRunBy, plain, Holds}
+use Rattle.netlist_core.specs.Runs.{Nets, Reader, Sight, bits_at, q_bits, IsRunBy, plain, Holds, shown, taken}
 use Rattle.netlist_core.specs.Orders.{IsOrder}
 use Rattle.netlist_core.specs.Checked.{Plan, IsSound}
 use Rattle.netlist_core.specs.Settled.{laid_all, after_order}
@@ -70,6 +70,10 @@ settled sight netlist order nets inputs state = after_order sight netlist.cells 
 -- exactly one run for each sight that rests on what stands there
 abbrev pub OneRunBySight : Type 0
 OneRunBySight = (plan : Plan) (sight : Nets → Sight) → IsSound plan → IsCausal plan.raw sight → (state : List ℕ) (inputs : List (List ℕ)) → FitsRegisters plan.raw state → AllFitInputs plan.raw inputs → HasOneRunBy sight plan.raw state inputs
+
+-- any two solutions of a cycle show the same, and leave the same in the registers
+abbrev pub OneAnswerBySight : Type 0
+OneAnswerBySight = (plan : Plan) (sight : Nets → Sight) → IsSound plan → IsCausal plan.raw sight → (inputs state : List ℕ) (x y : Nets) → Holds (sight x) x plan.raw inputs state → Holds (sight y) y plan.raw inputs state → (shown (sight x) plan.raw ≡ shown (sight y) plan.raw) × (taken (sight x) 0 plan.raw.registers ≡ taken (sight y) 0 plan.raw.registers)
 
 -- computing the cells in their order solves the equations of a cycle, whatever the nets were before
 abbrev pub OrderSettles : Type 0

@@ -1,8 +1,12 @@
-use Rattle.std.proofs.Common.{rules, arith, ◌<◌, [], ◌∷◌, length, sym, subst, ◌∙◌}
+use Rattle.std.proofs.Common.{rules, arith, ◌≡◌, inl, ◌<◌, [], ◌∷◌, length, refl, sym, subst, ◌∙◌}
+use Rattle.std.proofs.lemmas.Option.{slice_get_read}
 use Rattle.sqlite.specs.Held.{state}
 use Rattle.sqlite.specs.State.{HasCleanDisk}
 use Rattle.keeper_sqlite.specs.Tables.{IsBookSchema}
-use Rattle.keeper_sqlite.specs.Rows.{item_row, tree_of}
+use Rattle.keeper_sqlite.specs.Rows.{item_row, shown_item, tree_of}
+use Rattle.keeper_sqlite.specs.Refusals.{refusal_of, IsRefusedInsideWith}
+use Rattle.keeper_sqlite.specs.Unbegun.{insert_of}
+use Rattle.keeper_sqlite.specs.declared.refusal.Refusal.TheVariants.{Database}
 use Rattle.keeper_sqlite.specs.Writing.{Wrote}
 use Rattle.keeper_sqlite.proofs.Begins.{survives_on, keeps_on, wrote_next}
 use Rattle.keeper_sqlite.proofs.begin.write_items.Goals as goal
@@ -33,3 +37,27 @@ loop-item-preserved g c =
           let inside_list : c.loop-item.item-index < length c.args.items.now = omega arith in
           wrote_next tree c.loop-item.item-index c.args.items.now c.item-item.result start mid next inside_list c.item-item.is so_far one;
     }
+
+pub returns-in_err-insert_item-clause-fault : goal.returns-in_err-insert_item-clause-fault
+returns-in_err-insert_item-clause-fault g c clean inside fault =
+    let mid = state g.S.Store c.loop-item.transaction.conn.now in
+    let new = state g.S.Store c.insert_item.new.transaction.conn.now in
+    let inv = c.loop-item.invariant in
+    let error = c.in_err-insert_item.field-0.0 in
+    let insert = insert_of c.args.table in
+    let early : HasCleanDisk mid = omega (arith, c.insert_item.ensures.writes.crash.clean) in
+    let why : refusal_of error ≡ Database = search rules in
+    let told = c.in_err-insert_item.ensures.told clean (inv.kept early inside).0 in
+    let inside_list : c.loop-item.item-index < length c.args.items.now = omega arith in
+    inl (record {
+      number = c.loop-item.item-index;
+      item = c.item-item.result;
+      is = slice_get_read c.args.items.now _ c.loop-item.item-index c.item-item.result refl inside_list c.item-item.is;
+      before = c.loop-item.transaction.conn.now;
+      written = λ schema. inv.wrote early inside schema;
+      refused = (
+        error,
+        subst (λ n. IsRefusedInsideWith insert (shown_item n c.item-item.result) mid new error) inv.count (subst (λ b. IsRefusedInsideWith insert (shown_item c.loop-item.number b) mid new error) c.as_slice.ensures told),
+        why,
+      );
+    })

@@ -1,10 +1,12 @@
-use Rattle.std.proofs.Common.{rules, arith, ◌≡◌, refl, true, sym, subst, ◌∙◌}
+use Rattle.std.proofs.Common.{rules, arith, inl, inr, IsErrOf, ◌≡◌, refl, true, sym, subst, ◌∙◌}
 use Rattle.sqlite.specs.Held.{state}
 use Rattle.sqlite.specs.Tree.{Trees}
 use Rattle.sqlite.specs.State.{HasCleanDisk, Survives}
 use Rattle.sqlite.proofs.StateLemmas.{survives_then}
 use Rattle.sqlite.proofs.Callers.{survives_begin}
 use Rattle.keeper_sqlite.specs.Tables.{IsBookSchema}
+use Rattle.keeper_sqlite.specs.declared.refusal.Refusal.TheVariants.{Database}
+use Rattle.keeper_sqlite.specs.Refusals.{refusal_of}
 use Rattle.keeper_sqlite.specs.Writing.{HasBegunBook, MayBegin, BeginsRows}
 use Rattle.keeper_sqlite.proofs.Begins.{survives_on, lists_wrote}
 use Rattle.keeper_sqlite.proofs.begin.write_lists.Goals as goal
@@ -69,3 +71,45 @@ returns-in_err-commit-clause-crash g c =
     let all = survives_then (state g.S.Store old) (state g.S.Store b) (state g.S.Store end) _ _ P (λ _ db none. absurd none)
     (λ clean db is schema. ((state g.S.Store b).now, rows (omega (arith, c.commit.ensures.survives.clean)) schema, is)) (survives_begin g.S.Store old (state g.S.Store b) _ (rw begun at inside)) c.commit.ensures.survives in
     subst (λ h. Survives (state g.S.Store old) (state g.S.Store h) P) same all
+
+pub returns-in_err-write_items-clause-fault : goal.returns-in_err-write_items-clause-fault
+returns-in_err-write_items-clause-fault g c clean fault =
+    let a = c.write_items.new.transaction.conn.now in
+    let end = c.drop-transaction.new.self.0 in
+    let late : HasCleanDisk (state g.S.Store end) = search rules in
+    let early : HasCleanDisk (state g.S.Store a) = omega (arith, c.drop-transaction.ensures.survives.clean) in
+    let why : IsErrOf c.write_items.result Database = search rules in
+    (a, inl ((rw (c.transaction-transaction.ensures.begun, c.as_slice.ensures) at c.write_items.ensures.fault) early refl why))
+
+pub returns-in_err-write_items-2-clause-fault : goal.returns-in_err-write_items-2-clause-fault
+returns-in_err-write_items-2-clause-fault g c clean fault =
+    let a = c.write_items.new.transaction.conn.now in
+    let b = c.write_items-2.new.transaction.conn.now in
+    let end = c.drop-transaction-in_err-write_items-2.new.self.0 in
+    let late : HasCleanDisk (state g.S.Store end) = search rules in
+    let then : HasCleanDisk (state g.S.Store b) = omega (arith, c.drop-transaction-in_err-write_items-2.ensures.survives.clean) in
+    let early : HasCleanDisk (state g.S.Store a) = omega (arith, c.write_items-2.ensures.writes.crash.clean) in
+    let why : IsErrOf c.write_items-2.result Database = search rules in
+    let first = rw (c.transaction-transaction.ensures.begun, c.as_slice.ensures) at c.in_ok-write_items.ensures.writes in
+    (b, inr (inl (a, λ schema. first.wrote early refl schema, (rw c.as_slice-2.ensures at c.write_items-2.ensures.fault) then (first.mode early refl) why)))
+
+pub returns-in_err-commit-clause-fault : goal.returns-in_err-commit-clause-fault
+returns-in_err-commit-clause-fault g c clean fault =
+    let old = c.args.connection.now in
+    let a = c.write_items.new.transaction.conn.now in
+    let b = c.write_items-2.new.transaction.conn.now in
+    let start = state g.S.Store (record old { in_transaction = true }) in
+    let first = rw (c.transaction-transaction.ensures.begun, c.as_slice.ensures) at c.in_ok-write_items.ensures.writes in
+    let second = rw (c.as_slice-2.ensures) at c.in_ok-write_items-2.ensures.writes in
+    let end = c.commit.new.self.0 in
+    let late : HasCleanDisk (state g.S.Store end) = search rules in
+    let early : HasCleanDisk (state g.S.Store b) = omega (arith, c.commit.ensures.survives.clean) in
+    let error = c.in_err-commit.field-0.0 in
+    let why : refusal_of error ≡ Database = search rules in (
+      end,
+      inr (inr (record {
+        before = b;
+        written = λ schema. lists_wrote _ _ start (state g.S.Store a) (state g.S.Store b) c.args.meta.now c.args.mutations.now first second early refl schema;
+        refused = (error, c.in_err-commit.ensures.err late, why);
+      })),
+    )

@@ -1,6 +1,8 @@
-use Rattle.std.proofs.Common.{◌∙◌, arith}
+use Rattle.std.proofs.Common.{rules, inl, inr, refl, ◌∙◌, arith}
 use Rattle.sqlite.specs.Held.{state}
 use Rattle.sqlite.specs.State.{HasCleanDisk}
+use Rattle.keeper_sqlite.specs.declared.statements.TheConstants.{CREATE_META, CREATE_MUTATIONS, CREATE_JOURNAL}
+use Rattle.keeper_sqlite.specs.Unloaded.{IsCreateRefused}
 use Rattle.keeper_sqlite.proofs.Creates.{made, after_meta, after_items}
 use Rattle.keeper_sqlite.proofs.create.create_tables.Goals as goal
 
@@ -16,3 +18,30 @@ returns-clause-made g c clean inside schema =
     let y = c.in_ok-create_mutations.ensures.made late x.mode (x.schema_is ∙ after_meta) in
     let z = c.in_ok-create_journal.ensures.made clean y.mode (y.schema_is ∙ after_items) in
     made s a b d x y z
+
+pub returns-in_err-create_meta-clause-told : goal.returns-in_err-create_meta-clause-told
+returns-in_err-create_meta-clause-told g c clean inside schema =
+    let refused : IsCreateRefused g.S.Store c.create_meta.new.transaction.conn.now c.in_err-create_meta.field-0.0 =
+    record { before = c.args.transaction.now.conn.now; text = CREATE_META.now; next = inl (schema, refl); refused = c.in_err-create_meta.ensures.told clean inside } in
+    search rules
+
+pub returns-in_err-create_mutations-clause-told : goal.returns-in_err-create_mutations-clause-told
+returns-in_err-create_mutations-clause-told g c clean inside schema =
+    let a = state g.S.Store c.create_meta.new.transaction.conn.now in
+    let early : HasCleanDisk a = omega (arith, c.create_mutations.ensures.crash.clean) in
+    let x = c.in_ok-create_meta.ensures.made early inside schema in
+    let refused : IsCreateRefused g.S.Store c.create_mutations.new.transaction.conn.now c.in_err-create_mutations.field-0.0 =
+    record { before = c.create_meta.new.transaction.conn.now; text = CREATE_MUTATIONS.now; next = inr (inl (x.schema_is ∙ after_meta, refl)); refused = c.in_err-create_mutations.ensures.told clean x.mode } in
+    search rules
+
+pub returns-in_err-create_journal-clause-told : goal.returns-in_err-create_journal-clause-told
+returns-in_err-create_journal-clause-told g c clean inside schema =
+    let a = state g.S.Store c.create_meta.new.transaction.conn.now in
+    let b = state g.S.Store c.create_mutations.new.transaction.conn.now in
+    let late : HasCleanDisk b = omega (arith, c.create_journal.ensures.crash.clean) in
+    let early : HasCleanDisk a = omega (arith, c.create_mutations.ensures.crash.clean, late) in
+    let x = c.in_ok-create_meta.ensures.made early inside schema in
+    let y = c.in_ok-create_mutations.ensures.made late x.mode (x.schema_is ∙ after_meta) in
+    let refused : IsCreateRefused g.S.Store c.create_journal.new.transaction.conn.now c.in_err-create_journal.field-0.0 =
+    record { before = c.create_mutations.new.transaction.conn.now; text = CREATE_JOURNAL.now; next = inr (inr (y.schema_is ∙ after_items, refl)); refused = c.in_err-create_journal.ensures.told clean y.mode } in
+    search rules

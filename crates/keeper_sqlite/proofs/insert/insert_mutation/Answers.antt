@@ -4,6 +4,7 @@ use Rattle.sqlite.specs.State.{ExecutesInside}
 use Rattle.keeper_sqlite.specs.Rows.{shown_item}
 use Rattle.keeper_sqlite.proofs.Texts.{insert_mutation_text}
 use Rattle.keeper_sqlite.proofs.Begins.{wrote_mutation}
+use Rattle.keeper_sqlite.proofs.Refused.{err_inside}
 use Rattle.keeper_sqlite.proofs.insert.insert_mutation.Goals as goal
 
 pub returns-clause-writes : goal.returns-clause-writes
@@ -18,3 +19,10 @@ returns-clause-writes g c =
       mode = λ clean inside. search rules;
       crash = c.execute.ensures.survives;
     }
+
+pub returns-clause-told : goal.returns-clause-told
+returns-clause-told g c clean inside =
+    let old = state g.S.Store c.args.transaction.now.conn.now in
+    let new = state g.S.Store c.execute.new.self.conn.now in
+    let ran : ExecutesInside 0 insert_mutation_text (shown_item c.args.number c.args.body.now) old new c.execute.result = rw (c.params-to_sql.ensures, c.params-to_sql-2.ensures) at (c.execute.ensures.runs clean inside) in
+    err_inside old new insert_mutation_text (shown_item c.args.number c.args.body.now) c.execute.result ran

@@ -1,4 +1,5 @@
-use Rattle.std.proofs.Common.{◌≡◌, false, IsTrue, arith, rules}
+use Rattle.std.proofs.Common.{rules, ◌≡◌, inl, inr, false, not, IsTrue, IsErrOf, ap, ◌∙◌, arith}
+use Rattle.keeper_sqlite.specs.declared.refusal.Refusal.TheVariants.{Database}
 use Rattle.sqlite.specs.Held.{state}
 use Rattle.sqlite.specs.State.{HasCleanDisk}
 use Rattle.keeper_sqlite.proofs.Loads.{loaded}
@@ -11,6 +12,19 @@ returns-clause-loaded g c clean =
     let new = state g.S.Store c.read_book.new.connection in
     let early : HasCleanDisk mid = omega (arith, c.read_book.ensures.crash.clean) in
     let same = c.in_ok-book.ensures.same clean in
-    let yes : IsTrue c.is_autocommit.result = search rules in
-    let auto : new.in_transaction ≡ false = search rules in
-    loaded old mid new c.in_ok-book.book (c.in_ok-ensure_tables.ensures.ready early) (c.in_ok-book.ensures.found clean) same (c.schema-live.ensures.live same.0.is_open).0 auto (c.is_autocommit.ensures.settled yes same.0.is_open)
+    let ready = c.in_ok-ensure_tables.ensures.ready early in
+    let auto : new.in_transaction ≡ false = same.0.mode ∙ ready.autocommit in
+    let yes : IsTrue c.is_autocommit-settled.result = c.is_autocommit-settled.ensures.value ∙ ap not auto in
+    loaded old mid new c.in_ok-book.book ready (c.in_ok-book.ensures.found clean) same (c.schema-live.ensures.live same.0.is_open).0 auto (c.is_autocommit-settled.ensures.settled yes same.0.is_open)
+
+pub returns-in_err-ensure_tables-clause-fault : goal.returns-in_err-ensure_tables-clause-fault
+returns-in_err-ensure_tables-clause-fault g c clean fault =
+    let why : IsErrOf c.ensure_tables.result Database = search rules in
+    inl (c.ensure_tables.ensures.fault clean why)
+
+pub returns-in_err-book-clause-fault : goal.returns-in_err-book-clause-fault
+returns-in_err-book-clause-fault g c clean fault =
+    let ready = c.ensure_tables.new.connection in
+    let early : HasCleanDisk (state g.S.Store ready) = omega (arith, c.read_book.ensures.crash.clean) in
+    let why : IsErrOf c.read_book.result Database = search rules in
+    inr (ready, c.in_ok-ensure_tables.ensures.ready early, c.read_book.ensures.fault clean why)

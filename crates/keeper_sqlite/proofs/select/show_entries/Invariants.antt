@@ -1,4 +1,4 @@
-use Rattle.std.proofs.Common.{◌≡◌, map, []}
+use Rattle.std.proofs.Common.{◌≡◌, map, length, []}
 use Rattle.sqlite.specs.Held.{state}
 use Rattle.sqlite.specs.Given.{HasGiven}
 use Rattle.sqlite.specs.State.{HasCleanDisk, IsUnchanged, Survives}
@@ -13,4 +13,5 @@ invariant-rows g l =
       same : l.rows.conn.ghost_name ≡ l.initial.rows.conn.ghost_name;
       crash : Survives old now (λ _. ⊥);
       given : HasCleanDisk now → HasGiven g.S.Store l.sql [] l.rows.conn.now (map shown_entry l.entries.items) × IsUnchanged old now;
+      count : length l.entries.items ≡ l._place;
     }

@@ -1,9 +1,13 @@
-use Rattle.std.proofs.Common.{rules, arith, ◌≡◌, refl, sym, ap, subst, ◌∙◌, ◌+◌, [], ◌∷◌, ◌++◌, length, length-append}
+use Rattle.std.proofs.Common.{rules, arith, inl, inr, IsErrOf, ◌≡◌, refl, sym, ap, subst, ◌∙◌, ◌+◌, [], ◌∷◌, ◌++◌, length, length-append}
 use Rattle.sqlite.specs.Held.{state}
 use Rattle.sqlite.specs.State.{HasCleanDisk, Survives, CommitsShowing}
-use Rattle.sqlite.proofs.Callers.{begun_plain, unchanged_then}
+use Rattle.sqlite.proofs.Callers.{begun_plain, given_begin, unchanged_then}
 use Rattle.sqlite.specs.Given.{HasGiven}
-use Rattle.keeper_sqlite.specs.Rows.{shown_item, shown_items}
+use Rattle.keeper_sqlite.specs.declared.refusal.Refusal.TheVariants.{Database}
+use Rattle.keeper_sqlite.specs.Refusals.{refusal_of}
+use Rattle.keeper_sqlite.specs.Unloaded.{IsNoItems}
+use Rattle.keeper_sqlite.specs.Rows.{shown_item, shown_items, IsNoItem}
+use Rattle.keeper_sqlite.proofs.Refused.{still_itself, begins_from}
 use Rattle.keeper_sqlite.proofs.Lists.{items_push}
 use Rattle.keeper_sqlite.proofs.Selects.{commits_nothing, shown_from}
 use Rattle.keeper_sqlite.proofs.select.show_items.Goals as goal
@@ -57,3 +61,46 @@ rows-preserved g c =
           (subst (HasGiven g.S.Store c.args.sql.now [] c.next.follows.lender-at-none.conn.now) grown next, unchanged_then old mid new was.1 (rw c.in_ok-row.was at (moved.same clean)));
       count = omega (arith, c.rows.invariant.count, length-append bodies (c.in_ok-item.item ∷ []), ap length c.in_ok-push.ensures.items);
     }
+
+pub returns-in_err-rows-clause-fault : goal.returns-in_err-rows-clause-fault
+returns-in_err-rows-clause-fault g c clean fault =
+    let old = c.args.connection.now in
+    let held = c.query.follows.holds-at-none in
+    let late : HasCleanDisk (state g.S.Store c.query.follows.lender-at-none) = search rules in
+    let why : refusal_of c.in_err-rows.field-0.0 ≡ Database = search rules in
+    inl (record { before = old; still = still_itself (state g.S.Store old); error = c.in_err-rows.field-0.0; failed = (rw c.in_err-rows.was at held).err late; is = why })
+
+pub returns-in_err-row-clause-fault : goal.returns-in_err-row-clause-fault
+returns-in_err-row-clause-fault g c clean fault =
+    let moved = c.next.follows.holds-at-none in
+    let now = c.next.follows.lender-at-none.conn.now in
+    let late : HasCleanDisk (state g.S.Store now) = search rules in
+    let was = c.rows.invariant.given (omega (arith, moved.survives.clean)) in
+    let failed = (rw c.in_err-row.was at (moved.err late)) c.args.sql.now [] (shown_items 0 c.rows.items.items) was.0 in
+    let why : refusal_of c.in_err-row.field-0.0 ≡ Database = search rules in
+    let stopped : IsNoItems g.S.Store c.args.sql.now c.args.connection.now now = inl (record { before = c.rows.rows.conn.now; still = λ _. was.1; error = c.in_err-row.field-0.0; failed = failed; is = why }) in
+    search rules
+
+pub returns-in_err-item-clause-fault : goal.returns-in_err-item-clause-fault
+returns-in_err-item-clause-fault g c clean fault =
+    let moved = c.next.follows.holds-at-none in
+    let old = state g.S.Store c.args.connection.now in
+    let mid = state g.S.Store c.rows.rows.conn.now in
+    let now = c.next.follows.lender-at-none.conn.now in
+    let late : HasCleanDisk (state g.S.Store now) = search rules in
+    let found = c.rows.items.items in
+    let was = c.rows.invariant.given (omega (arith, moved.survives.clean)) in
+    let next = (rw (c.in_ok-row.was, c.in-Some.is) at (moved.ok late)) c.args.sql.now [] (shown_items 0 found) was.0 in
+    let same = unchanged_then old mid (state g.S.Store now) was.1 (rw c.in_ok-row.was at (moved.same late)) in
+    let begun = begins_from c.args.sql.now old (state g.S.Store now) _ same (given_begin g.S.Store c.args.sql.now [] now _ next) in
+    let why : IsErrOf c.item_of.result Database = search rules in
+    inr (found, inr (c.in-Some.row.now, begun, subst (λ n. IsNoItem n c.in-Some.row.now) (sym c.rows.invariant.count) (c.item_of.ensures.fault why (omega arith))))
+
+pub returns-clause-fault : goal.returns-clause-fault
+returns-clause-fault g c clean fault =
+    let old = state g.S.Store c.args.connection.now in
+    let now = c.rows.rows.conn.now in
+    let late : HasCleanDisk (state g.S.Store now) = search rules in
+    let was = c.rows.invariant.given late in
+    let begun = begins_from c.args.sql.now old (state g.S.Store now) _ was.1 (given_begin g.S.Store c.args.sql.now [] now _ was.0) in
+    inr (c.rows.items.items, inl (begun, omega (arith, c.rows.invariant.count)))

@@ -1,21 +1,20 @@
 use Rattle.std.proofs.Common.{◌≤◌, ℕ, List, ◌∷◌, [], length, sym, ◌∙◌, subst, arith}
 use Rattle.std.proofs.lemmas.Nat.{pow_below}
-use Rattle.mcy_top.specs.Equal.{design}
-use Rattle.mcy_top.proofs.InputLemmas.{length-all_bits}
 use Rattle.std.proofs.lemmas.List.{length-append}
+use Rattle.mcy_top.specs.Equal.{design}
 use Rattle.mcy_top.specs.Trials.{ShowsAt}
 use Rattle.mcy_top.proofs.TrialLemmas.{ShowsAll-push}
 use Rattle.mcy_top.proofs.equal.all_shown.Goals as goal
 
 pub overflow_cast-bits : goal.overflow_cast-bits
 overflow_cast-bits c =
-    let few : length c.args.bits.now ≤ 8 = rw (c.requires.bits, length-all_bits c.args.netlist.now.raw.inputs) c.requires.small in
-    omega arith
+    let few : length c.args.bits.now ≤ 8 = rw c.requires.bits c.requires.small in
+    omega (arith, few)
 
 pub pow-count-requires : goal.pow-count-requires
 pow-count-requires c =
-    let few : length c.args.bits.now ≤ 8 = rw (c.requires.bits, length-all_bits c.args.netlist.now.raw.inputs) c.requires.small in
-    pow_below (length c.args.bits.now) 32 (omega arith)
+    let few : length c.args.bits.now ≤ 8 = rw c.requires.bits c.requires.small in
+    pow_below (length c.args.bits.now) 32 (omega (arith, few))
 
 pub loop-number-preserved : goal.loop-number-preserved
 loop-number-preserved c =

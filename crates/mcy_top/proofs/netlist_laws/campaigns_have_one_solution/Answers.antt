@@ -5,4 +5,4 @@ pub returns-clause-sound : goal.returns-clause-sound
 returns-clause-sound c = campaigns_sound
 
 pub returns-clause-solutions : goal.returns-clause-solutions
-returns-clause-solutions c = campaigns_solved
+returns-clause-solutions c = campaigns_solved c.one_run.ensures.settles c.one_run.ensures.answer

@@ -1,4 +1,4 @@
-use Rattle.std.proofs.Common.{◌≡◌, ◌≤◌, ◌-◌, length, ◌∙◌, arith}
+use Rattle.std.proofs.Common.{◌≤◌, ◌-◌, length, ◌∙◌, arith}
 use Rattle.std.proofs.lemmas.Grind.{common_steps}
 use Rattle.netlist_core.proofs.Tables.{output_port-last}
 use Rattle.netlist_core.proofs.cell.output.Goals as goal

@@ -1,7 +1,7 @@
 use Rattle.std.proofs.Common.{◌≡◌, ◌∙◌, ap, subst}
 use Rattle.std.specs.Prelude.{IsTrue, ◌↔◌}
-use Rattle.mcy_top.specs.declared.netlist.RawNetlist.{RawNetlist}
-use Rattle.mcy_top.specs.Runs.{Nets, Sight}
+use Rattle.netlist_core.specs.declared.raw.RawNetlist.{RawNetlist}
+use Rattle.netlist_core.specs.Runs.{Nets, Sight}
 use Rattle.mcy_top.specs.Mutants.{sight_at}
 use Rattle.mcy_top.specs.Seen.{sight_by}
 use Rattle.mcy_top.specs.Equal.{design, mutant, OneStepEqual}

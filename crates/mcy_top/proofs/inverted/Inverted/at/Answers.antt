@@ -1,6 +1,6 @@
 use Rattle.std.proofs.Common.{◌≡◌, ◌∙◌, sym, ap, [], get_or, slice_get, Some}
 use Rattle.std.proofs.lemmas.Option.{slice_get_within, get_or_from_slice_get}
-use Rattle.mcy_top.specs.declared.cell.Cell.{Cell}
+use Rattle.netlist_core.specs.declared.cell.Cell.{Cell}
 use Rattle.mcy_top.proofs.SitesSeen.{site-cell, sight-at_cell, cell-read}
 use Rattle.mcy_top.proofs.inverted.Inverted.at.Goals as goal
 

@@ -1,7 +1,7 @@
-use Rattle.std.proofs.Common.{◌≡◌, ◌<◌, ℕ, true, List, map, length, set, sym, ap, ◌∙◌, subst, arith}
+use Rattle.std.proofs.Common.{◌<◌, ℕ, true, List, map, length, set, sym, ap, ◌∙◌, subst, arith}
 use Rattle.std.specs.List.{All, Contains}
 use Rattle.std.proofs.lemmas.List.{length-map, length-set}
-use Rattle.netlist_core.specs.Listing.{Stage, stage_of, row_of, IsSized, marked, IsStage, CanBePlaced}
+use Rattle.netlist_core.specs.Listing.{Stage, stage_of, row_of, IsSized, IsStage, CanBePlaced}
 use Rattle.netlist_core.proofs.Stages.{at_place, stage-marked}
 use Rattle.netlist_core.proofs.Staged.{marked-sized}
 use Rattle.netlist_core.proofs.listing.Listing.list.Goals as goal

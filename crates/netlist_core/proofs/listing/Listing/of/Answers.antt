@@ -1,4 +1,4 @@
-use Rattle.std.proofs.Common.{◌≡◌, ◌<◌, ℕ, List, Bool, true, length, set, ap, subst, arith}
+use Rattle.std.proofs.Common.{◌≡◌, true, set, ap, arith}
 use Rattle.netlist_core.specs.Listing.{Stage, stage_of, none_left}
 use Rattle.netlist_core.specs.Reaching.{unfound}
 use Rattle.netlist_core.proofs.Staged.{inside, woken, woken-inside, marked-stage, next-fewer, stage-sized, above-first}

@@ -1,8 +1,8 @@
-use Rattle.std.proofs.Common.{◌≡◌, ◌<◌, ℕ, Bool, List, map, length, get_or, ap, subst, arith}
+use Rattle.std.proofs.Common.{◌<◌, ℕ, Bool, List, length, get_or, ap, subst, arith}
 use Rattle.std.specs.List.{Contains}
 use Rattle.std.proofs.lemmas.List.{length-map}
 use Rattle.std.proofs.lemmas.List.Elements.{Contains-get_or}
-use Rattle.netlist_core.specs.Listing.{row_of, IsNext}
+use Rattle.netlist_core.specs.Listing.{IsNext}
 use Rattle.netlist_core.proofs.Stages.{at_place, stage-ready, stage-waits}
 use Rattle.netlist_core.proofs.listing.Listing.place.Goals as goal
 

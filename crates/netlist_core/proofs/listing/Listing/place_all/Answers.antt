@@ -1,4 +1,4 @@
-use Rattle.std.proofs.Common.{◌<◌, ◌≤◌, length, arith}
+use Rattle.std.proofs.Common.{◌<◌, length, arith}
 use Rattle.netlist_core.specs.Listing.{Stage, stage_of}
 use Rattle.netlist_core.proofs.Staged.{stage-step, step-sized, stage-none}
 use Rattle.netlist_core.proofs.listing.Listing.place_all.Goals as goal

@@ -1,5 +1,4 @@
-use Rattle.std.proofs.Common.{◌≡◌, ap, ◌∙◌, length}
-use Rattle.netlist_core.specs.Checked.{Plan, IsSound}
+use Rattle.std.proofs.Common.{◌≡◌, ap, ◌∙◌}
 use Rattle.netlist_core.specs.Marking.{Known, driver_at, all_known}
 use Rattle.netlist_core.proofs.Checks.{driven-below}
 use Rattle.netlist_core.proofs.Settles.{plain-causal}
