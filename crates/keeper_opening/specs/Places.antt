@@ -10,6 +10,8 @@ use Rattle.mcy_keeper.specs.Books.{LeavesSome}
 use Rattle.keeper_sqlite.specs.declared.sql_keeper.SqlKeeper.{SqlKeeper}
 use Rattle.keeper_sqlite.specs.Stands.{Tells, Holds, Leaves}
 use Rattle.keeper_sqlite.specs.Laws.{holds_one, holds_tells, leaves_some}
+use Rattle.keeper_opening.specs.declared.opening.DatabaseFault.{DatabaseFault}
+use Rattle.keeper_opening.specs.declared.opening.OpeningKeeper.{OpeningKeeper}
 use Rattle.keeper_opening.specs.declared.opening.Place.{Place}
 use Rattle.keeper_opening.specs.declared.opening.Place.TheVariants.{Closed, Opened}
 use Rattle.keeper_opening.specs.Found.{MayBeFound, IsFresh}
@@ -25,6 +27,13 @@ faults (Opened it) = it.faults
 abbrev pub connection_of : {S O : Type 0} → Place S O → Option (Held S)
 connection_of (Closed opener) = None
 connection_of (Opened it) = it.connection
+
+-- of the whole keeper: the connection that it gives back, and why its first fault came
+abbrev pub connection_in : {S O : Type 0} → OpeningKeeper S O → Option (Held S)
+connection_in k = connection_of k.place
+
+abbrev pub fault_of : {S O : Type 0} → OpeningKeeper S O → Option DatabaseFault
+fault_of k = k.fault
 
 module _ {S O : Type 0} (g : Ghosts S) where
   abbrev pub PlaceTells : Place S O → Type 0

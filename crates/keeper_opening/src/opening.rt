@@ -10,7 +10,7 @@ ghost use Rattle.sqlite.specs.Held.{state};
 ghost use Rattle.mcy_keeper.specs.declared.book.Book.{Book as Pages};
 ghost use Rattle.mcy_keeper.specs.Books.{TellsNone};
 ghost use Rattle.keeper_opening.specs.Found.{Finds, MayBeFound};
-ghost use Rattle.keeper_opening.specs.Places.{connection_of, is_settled, faults, PlaceTells, PlaceHolds, PlaceLeaves, Opens, place_one, place_survives, place_told};
+ghost use Rattle.keeper_opening.specs.Places.{connection_in, fault_of, is_settled, faults, PlaceTells, PlaceHolds, PlaceLeaves, Opens, place_one, place_survives, place_told};
 
 use keeper_sqlite::SqlKeeper;
 use mcy_base::BytesList;
@@ -91,7 +91,7 @@ impl<S: Alter + Drop, O: Opener<S>> OpeningKeeper<S, O> {
         ensures leaves { (left : Option Pages) → ⟦<OpeningKeeper<S, O> as Keeper>⟧.leaves result left ↔ MayBeFound (O.found opener) left }
         ensures unsettled { ⟦<OpeningKeeper<S, O> as Keeper>⟧.is_settled result ≡ false }
         ensures uncounted { ⟦<OpeningKeeper<S, O> as Keeper>⟧.faults result ≡ 0 }
-        ensures fault { result.fault ≡ None }
+        ensures fault { fault_of result ≡ None }
     {
         OpeningKeeper {
             alloc,
@@ -102,14 +102,14 @@ impl<S: Alter + Drop, O: Opener<S>> OpeningKeeper<S, O> {
 
     /// Why the first fault came, if there was one.
     pub fn fault(&self) -> Option<DatabaseFault>
-        ensures { result ≡ self.now.fault }
+        ensures { result ≡ fault_of self.now }
     {
         self.fault
     }
 
     /// The connection, given back, if there is one.
     pub fn into_connection(self) -> Option<Connection<S>>
-        ensures { result ≡ connection_of self.place }
+        ensures { result ≡ connection_in self }
     {
         match self.place {
             Place::Closed(_) => None,

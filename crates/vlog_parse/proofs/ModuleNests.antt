@@ -18,12 +18,12 @@ use Rattle.vlog_grammar.specs.Trees.{Trees, Nil, Leaf, Node, Derives, tokens_of}
 use Rattle.vlog_grammar.specs.Reading.{start}
 use Rattle.vlog_parts.specs.declared.value.Value.{Value}
 use Rattle.vlog_parts.specs.Values.{first, rest, modules_of}
-use Rattle.vlog_trees.specs.Modules.{made_module}
-use Rattle.vlog_trees.specs.Items.{made_item}
-use Rattle.vlog_trees.specs.Declarations.{made_declaration}
-use Rattle.vlog_trees.specs.Events.{made_event}
+use Rattle.vlog_declarations.specs.Modules.{made_module}
+use Rattle.vlog_items.specs.Items.{made_item}
+use Rattle.vlog_declarations.specs.Declarations.{made_declaration}
+use Rattle.vlog_statements.specs.Events.{made_event}
 use Rattle.vlog_trees.specs.Passed.{made_passed}
-use Rattle.vlog_trees.specs.Statements.{made_statement}
+use Rattle.vlog_statements.specs.Statements.{made_statement}
 use Rattle.vlog_trees.specs.Expressions.{made_expression}
 use Rattle.vlog_trees.specs.Meaning.{leaf, made, means}
 use Rattle.vlog_parse.specs.declared.nesting.Row.{Row}

@@ -37,12 +37,12 @@ use Rattle.vlog_parts.specs.declared.value.Value.{Value}
 use Rattle.vlog_parts.specs.declared.value.Value.TheVariants as v
 use Rattle.vlog_parts.specs.Leaves.{number, number_by, valued, word}
 use Rattle.vlog_parts.specs.Values.{first, rest, parameter_port_of, more_parameters_of, option_expr_of, expr_of, option_stmt_of, stmt_of, option_item_of, item_of, no_identifier}
-use Rattle.vlog_trees.specs.Modules.{made_module, joined}
-use Rattle.vlog_trees.specs.Items.{made_item, placed}
-use Rattle.vlog_trees.specs.Declarations.{made_declaration}
-use Rattle.vlog_trees.specs.Events.{made_event}
+use Rattle.vlog_declarations.specs.Modules.{made_module, joined}
+use Rattle.vlog_items.specs.Items.{made_item, placed}
+use Rattle.vlog_declarations.specs.Declarations.{made_declaration}
+use Rattle.vlog_statements.specs.Events.{made_event}
 use Rattle.vlog_trees.specs.Passed.{made_passed}
-use Rattle.vlog_trees.specs.Statements.{made_statement, assigned}
+use Rattle.vlog_statements.specs.Statements.{made_statement, assigned}
 use Rattle.vlog_trees.specs.Expressions.{made_expression, selected, left_selected, select, braced}
 use Rattle.vlog_trees.specs.Meaning.{made}
 use Rattle.vlog_parse.specs.Nesting.{is_construct}

@@ -1,3 +1,4 @@
 pub mod Splits
 pub mod Sorts
+pub mod SortedParts
 pub mod NumberWords

@@ -1,3 +1,4 @@
 pub mod Values
 pub mod Leaves
 pub mod Sorts
+pub mod Kinds

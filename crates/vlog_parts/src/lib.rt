@@ -8,7 +8,9 @@ mod declaration_parts;
 mod expression_parts;
 mod item_parts;
 mod leaves;
+mod lists;
 mod module_parts;
+mod node;
 mod stack;
 mod statement_parts;
 mod value;
@@ -17,6 +19,11 @@ pub use declaration_parts::OutputNames;
 pub use expression_parts::{BraceEnd, Branches, Link, Select, SelectEnd};
 pub use leaves::{identifier, number, string};
 pub use module_parts::{MoreParameters, MorePorts, OutputPorts, ParameterPort};
+pub use node::{
+    boxed_branches, boxed_declaration_part, boxed_event_part, boxed_expr, boxed_head_part,
+    boxed_instance_part, boxed_item, boxed_item_part, boxed_module_part, boxed_modules,
+    boxed_parameter_part, boxed_part, boxed_plain, boxed_statement_part, boxed_stmt,
+};
 pub use stack::Stack;
 pub use statement_parts::{AssignmentSign, CaseKeyword};
 pub use value::{

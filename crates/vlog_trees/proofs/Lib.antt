@@ -1,4 +1,3 @@
 pub mod Chains
 pub mod Runs
 pub mod Sorted
-pub mod LaterParts

@@ -17,27 +17,16 @@ use Rattle.vlog_grammar.specs.Trees.{Trees, Nil, Leaf, Node, Derives, tokens_of,
 use Rattle.vlog_parts.specs.declared.value.Value.{Value}
 use Rattle.vlog_parts.specs.declared.value.Value.TheVariants as v
 use Rattle.vlog_parts.specs.Values.{first, rest, is_expr, is_option_expr, is_stmt, is_option_stmt, is_item, is_option_item, is_identifier, is_label}
-use Rattle.vlog_trees.specs.Kinds.{is_of_kind, are_of, sorted}
-use Rattle.vlog_trees.specs.Modules.{made_module}
-use Rattle.vlog_trees.specs.Items.{made_item}
-use Rattle.vlog_trees.specs.Declarations.{made_declaration}
-use Rattle.vlog_trees.specs.Events.{made_event}
-use Rattle.vlog_trees.specs.Statements.{made_statement}
+use Rattle.vlog_parts.specs.Kinds.{is_of_kind, are_of, sorted}
+use Rattle.vlog_parts.proofs.SortedParts.{left_of, right_of, both}
+use Rattle.vlog_declarations.specs.Modules.{made_module}
+use Rattle.vlog_items.specs.Items.{made_item}
+use Rattle.vlog_declarations.specs.Declarations.{made_declaration}
+use Rattle.vlog_statements.specs.Events.{made_event}
+use Rattle.vlog_statements.specs.Statements.{made_statement}
 use Rattle.vlog_trees.specs.Passed.{made_passed}
 use Rattle.vlog_trees.specs.Expressions.{made_expression}
 use Rattle.vlog_trees.specs.Meaning.{made, run}
-
-pub left_of : (a b : Bool) → (a && b) ≡ true → a ≡ true
-left_of true b h = refl
-left_of false b h = h
-
-pub right_of : (a b : Bool) → (a && b) ≡ true → b ≡ true
-right_of true b h = h
-right_of false b h = absurd cc
-
-both : (a b : Bool) → a ≡ true → b ≡ true → (a && b) ≡ true
-both true b h e = e
-both false b h e = h
 
 some_expr : (x : Value) → is_expr x ≡ true → is_option_expr x ≡ true
 some_expr (v.Expr x) h = refl

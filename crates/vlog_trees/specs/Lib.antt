@@ -1,9 +1,3 @@
-pub mod Kinds
-pub mod Modules
-pub mod Items
-pub mod Declarations
-pub mod Statements
 pub mod Expressions
-pub mod Meaning
-pub mod Events
 pub mod Passed
+pub mod Meaning

@@ -7,7 +7,7 @@ ghost use Rattle.vlog_grammar.specs.Grammar.{parts_of};
 ghost use Rattle.vlog_grammar.specs.Reading.{AreStepsOf, IsText};
 ghost use Rattle.vlog_grammar.specs.Trees.{Trees, steps_of};
 ghost use Rattle.vlog_grammar.specs.declared.step.Token.{Token as Classed};
-ghost use Rattle.vlog_trees.specs.Kinds.{sorted};
+ghost use Rattle.vlog_parts.specs.Kinds.{sorted};
 ghost use Rattle.vlog_trees.specs.Meaning.{leaf, made, modules, run};
 
 use crate::expressions::make_expression;

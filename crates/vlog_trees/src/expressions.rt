@@ -1,5 +1,5 @@
 //! Expressions, from their parts (IEEE 1364-2005, A.8).
-#![tactic(auto, unfolding(crate::specs::Expressions::made_expression, crate::specs::Kinds::is_of_kind, vlog_grammar::specs::Grammar::production))]
+#![tactic(auto, unfolding(crate::specs::Expressions::made_expression, vlog_parts::specs::Kinds::is_of_kind, vlog_grammar::specs::Grammar::production))]
 
 ghost use Rattle.std.specs.Prelude.{◌≡◌, ◌∷◌, true, IfOk};
 ghost use Rattle.vlog_syntax.specs.declared.expr.Expr.TheVariants as e;
@@ -8,21 +8,20 @@ ghost use Rattle.vlog_parts.specs.Sorts as v;
 ghost use Rattle.vlog_parts.specs.Values.{first, rest, second, third, span_of, token_of, expr_of, exprs_of, is_expr};
 ghost use Rattle.vlog_parts.specs.Leaves.{identifier, number};
 ghost use Rattle.vlog_trees.specs.Expressions as spec;
-ghost use Rattle.vlog_trees.specs.Kinds.{sorted};
+ghost use Rattle.vlog_parts.specs.Kinds.{sorted};
 ghost use Rattle.vlog_trees.specs.Passed.{made_passed};
 
-use crate::node::{boxed_branches, boxed_expr, boxed_part};
 use crate::selects::{
     indexed_part_select, left_concatenation, left_name, next_left_side, part_select, some_select,
 };
-use crate::statements::make_statement;
 use mcy_base::Span;
 use std::alloc::{AllocError, Global};
 use vlog_grammar::Rule;
 use vlog_parts::{
-    BraceEnd, Branches, ExpressionPart, Link, Parts, Select, SelectEnd, Stack, Value, identifier,
-    number,
+    BraceEnd, Branches, ExpressionPart, Link, Parts, Select, SelectEnd, Stack, Value,
+    boxed_branches, boxed_expr, boxed_part, identifier, number,
 };
+use vlog_statements::make_statement;
 use vlog_syntax::{BinaryOperator, Boxed, Expr, Identifier, UnaryOperator};
 
 #[tactic(auto, using(crate::proofs::Chains::chained_none, crate::proofs::Chains::chained_more))]
@@ -141,8 +140,7 @@ fn next_expression<'a>(alloc: Global, parts: &mut Parts<'a>) -> Result<Value<'a>
     ensures { IfOk result (λ x. x ≡ v.Exprs (expr_of (second parts.old) ∷ exprs_of (third parts.old))) }
 {
     parts.skip();
-    let expr = parts.expr().into_inner();
-    let exprs = parts.exprs(alloc).with(expr)?;
+    let exprs = parts.some_exprs(alloc)?;
     Ok(Value::Exprs(exprs))
 }
 
@@ -200,7 +198,7 @@ fn unary_function_call<'a>(alloc: Global, parts: &mut Parts<'a>) -> Result<Value
 
 /// An expression in parentheses.
 #[tactic(auto)]
-pub fn parenthesized(parts: &mut Parts<'_>) -> Expr
+fn parenthesized(parts: &mut Parts<'_>) -> Expr
     requires { is_expr (second parts.old) ≡ true }
     ensures { result ≡ e.Parenthesized (span_of (first parts.old)) (expr_of (second parts.old)) }
 {
@@ -241,8 +239,7 @@ fn replication<'a>(alloc: Global, parts: &mut Parts<'a>) -> Result<Value<'a>, Al
     ensures { IfOk result (λ x. x ≡ spec.made_expression r.Replication parts.old) }
 {
     parts.skip();
-    let expr = parts.expr().into_inner();
-    let exprs = parts.exprs(alloc).with(expr)?;
+    let exprs = parts.some_exprs(alloc)?;
     boxed_part(
         alloc,
         ExpressionPart::BraceEnd(BraceEnd::Replication(exprs)),
@@ -259,7 +256,7 @@ fn number_operand(alloc: Global, parts: &mut Parts<'_>) -> Expr
 }
 
 /// What a production means that means what one of its parts means.
-#[tactic(auto, unfolding(crate::specs::Passed::made_passed, crate::specs::Kinds::is_of_kind, vlog_grammar::specs::Grammar::production))]
+#[tactic(auto, unfolding(crate::specs::Passed::made_passed, vlog_parts::specs::Kinds::is_of_kind, vlog_grammar::specs::Grammar::production))]
 #[inline(never)]
 fn make_passed<'a>(
     alloc: Global,
@@ -354,6 +351,8 @@ pub fn make_expression<'a>(
         Rule::ReductionXnor => boxed_expr(alloc, unary(UnaryOperator::ReductionXnor, parts)),
         Rule::NumberOperand => boxed_expr(alloc, number_operand(alloc, parts)),
         Rule::DelayNumber => boxed_expr(alloc, number_operand(alloc, parts)),
+        Rule::DelayName => boxed_expr(alloc, Expr::Name(parts.identifier())),
+        Rule::DelayExpression => boxed_expr(alloc, parenthesized(parts)),
         Rule::NameOperand => boxed_expr(alloc, name_operand(parts)),
         Rule::SystemFunctionCall => system_function_call(alloc, parts),
         Rule::UnaryFunctionCall => unary_function_call(alloc, parts),

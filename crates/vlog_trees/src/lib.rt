@@ -6,14 +6,7 @@
 #![tactic(auto)]
 
 mod build;
-mod declarations;
-mod events;
 mod expressions;
-mod instances;
-mod items;
-mod modules;
-mod node;
 mod selects;
-mod statements;
 
 pub use build::build_modules;

@@ -1,16 +1,15 @@
 //! Selects and left sides, from their parts (IEEE 1364-2005, A.8.4, A.8.5).
-#![tactic(auto, unfolding(crate::specs::Expressions::made_expression, crate::specs::Kinds::is_of_kind, vlog_grammar::specs::Grammar::production))]
+#![tactic(auto, unfolding(crate::specs::Expressions::made_expression, vlog_parts::specs::Kinds::is_of_kind, vlog_grammar::specs::Grammar::production))]
 
 ghost use Rattle.std.specs.Prelude.{◌≡◌, true, IfOk};
 ghost use Rattle.vlog_grammar.specs.declared.rule.Rule.TheVariants as r;
 ghost use Rattle.vlog_parts.specs.Sorts as v;
 ghost use Rattle.vlog_trees.specs.Expressions as spec;
-ghost use Rattle.vlog_trees.specs.Kinds.{sorted};
+ghost use Rattle.vlog_parts.specs.Kinds.{sorted};
 
-use crate::node::boxed_part;
 use mcy_base::Span;
 use std::alloc::{AllocError, Global};
-use vlog_parts::{ExpressionPart, Parts, Select, SelectEnd, Value};
+use vlog_parts::{ExpressionPart, Parts, Select, SelectEnd, Value, boxed_part};
 use vlog_syntax::{Boxed, Expr, Identifier, LeftSide};
 
 /// A select, from its first expression and its end.
@@ -92,8 +91,7 @@ pub fn left_concatenation<'a>(alloc: Global, parts: &mut Parts<'a>) -> Result<Va
     ensures { IfOk result (λ x. x ≡ spec.made_expression r.LeftConcatenation parts.old) }
 {
     let span = parts.span();
-    let left = parts.left();
-    let lefts = parts.lefts(alloc).with(left)?;
+    let lefts = parts.some_lefts(alloc)?;
     boxed_part(
         alloc,
         ExpressionPart::LeftSide(LeftSide::Concatenation(span, lefts.into_listed())),
@@ -107,7 +105,6 @@ pub fn next_left_side<'a>(alloc: Global, parts: &mut Parts<'a>) -> Result<Value<
     ensures { IfOk result (λ x. x ≡ spec.made_expression r.NextLeftSide parts.old) }
 {
     parts.skip();
-    let left = parts.left();
-    let lefts = parts.lefts(alloc).with(left)?;
+    let lefts = parts.some_lefts(alloc)?;
     boxed_part(alloc, ExpressionPart::LeftSides(lefts))
 }

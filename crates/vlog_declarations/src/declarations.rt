@@ -1,0 +1,361 @@
+//! Declarations, from their parts (IEEE 1364-2005, A.2).
+#![tactic(auto, unfolding(crate::specs::Declarations::made_declaration, vlog_parts::specs::Kinds::is_of_kind, vlog_grammar::specs::Grammar::production))]
+
+ghost use Rattle.std.specs.Prelude.{◌≡◌, ◌∷◌, true, IfOk};
+ghost use Rattle.vlog_grammar.specs.declared.rule.Rule.TheVariants as r;
+ghost use Rattle.vlog_parts.specs.Sorts as v;
+ghost use Rattle.vlog_parts.specs.Values.{first, rest, second, third, fourth, declared_of, declareds_of, is_declared, is_parameter, is_parameter_type};
+ghost use Rattle.vlog_declarations.specs.Declarations as spec;
+ghost use Rattle.vlog_syntax.specs.declared.item.ParameterType.TheVariants as pt;
+ghost use Rattle.vlog_parts.specs.Kinds.{sorted};
+
+use crate::modules::make_module;
+use std::alloc::{AllocError, Global};
+use vlog_grammar::Rule;
+use vlog_parts::{
+    DeclarationPart, OutputNames, ParameterPart, Parts, Value, boxed_declaration_part,
+    boxed_parameter_part, boxed_plain,
+};
+use vlog_syntax::{
+    DataDeclaration, DataType, DeclaredName, Direction, Identifier, ParameterAssignment,
+    ParameterDeclaration, ParameterKind, ParameterType, PlainItem, PortDeclaration, Range,
+    VectorType,
+};
+
+/// A range.
+fn some_range<'a>(alloc: Global, parts: &mut Parts<'a>) -> Result<Value<'a>, AllocError>
+    requires { sorted r.SomeRange parts.old ≡ true }
+    ensures { IfOk result (λ x. x ≡ spec.made_declaration r.SomeRange parts.old) }
+{
+    let span = parts.span();
+    let msb = parts.expr().into_inner();
+    parts.skip();
+    let lsb = parts.expr().into_inner();
+    boxed_declaration_part(alloc, DeclarationPart::Range(Range { span, msb, lsb }))
+}
+
+/// A vector without a sign.
+fn unsigned_range<'a>(alloc: Global, parts: &mut Parts<'a>) -> Result<Value<'a>, AllocError>
+    ensures { IfOk result (λ x. x ≡ spec.made_declaration r.UnsignedRange parts.old) }
+{
+    boxed_declaration_part(
+        alloc,
+        DeclarationPart::Vector(VectorType {
+            is_signed: false,
+            range: parts.range(),
+        }),
+    )
+}
+
+/// A vector with a sign.
+fn signed_range<'a>(alloc: Global, parts: &mut Parts<'a>) -> Result<Value<'a>, AllocError>
+    ensures { IfOk result (λ x. x ≡ spec.made_declaration r.SignedRange parts.old) }
+{
+    parts.skip();
+    boxed_declaration_part(
+        alloc,
+        DeclarationPart::Vector(VectorType {
+            is_signed: true,
+            range: parts.range(),
+        }),
+    )
+}
+
+/// A declared name.
+fn name_declared<'a>(alloc: Global, parts: &mut Parts<'a>) -> Result<Value<'a>, AllocError>
+    requires { sorted r.NameDeclared parts.old ≡ true }
+    ensures { IfOk result (λ x. x ≡ spec.made_declaration r.NameDeclared parts.old) }
+{
+    boxed_declaration_part(
+        alloc,
+        DeclarationPart::DeclaredName(DeclaredName {
+            name: parts.identifier(),
+            initial: None,
+        }),
+    )
+}
+
+/// The name of what is declared.
+#[tactic(auto)]
+fn declared_name(parts: &mut Parts<'_>) -> Identifier
+    requires { is_declared (first parts.old) ≡ true }
+    ensures name { result ≡ (declared_of (first parts.old)).name }
+    ensures rest { parts.new ≡ rest parts.old }
+{
+    let DeclaredName { name, .. } = parts.declared();
+    name
+}
+
+/// A declared name with its initial value, where it has one.
+fn variable_declared<'a>(alloc: Global, parts: &mut Parts<'a>) -> Result<Value<'a>, AllocError>
+    requires { sorted r.VariableDeclared parts.old ≡ true }
+    ensures { IfOk result (λ x. x ≡ spec.made_declaration r.VariableDeclared parts.old) }
+{
+    let name = declared_name(parts);
+    let initial = parts.option_expr();
+    boxed_declaration_part(
+        alloc,
+        DeclarationPart::DeclaredName(DeclaredName { name, initial }),
+    )
+}
+
+/// A name behind a `,`, and those behind it.
+#[tactic(auto)]
+fn next_declared_name<'a>(alloc: Global, parts: &mut Parts<'a>) -> Result<Value<'a>, AllocError>
+    requires { is_declared (second parts.old) ≡ true }
+    ensures { IfOk result (λ x. x ≡ v.DeclaredNames (declared_of (second parts.old) ∷ declareds_of (third parts.old))) }
+{
+    parts.skip();
+    let names = parts.some_declareds(alloc)?;
+    boxed_declaration_part(alloc, DeclarationPart::DeclaredNames(names))
+}
+
+/// A parameter with its value.
+fn param_assigned<'a>(alloc: Global, parts: &mut Parts<'a>) -> Result<Value<'a>, AllocError>
+    requires { sorted r.ParamAssigned parts.old ≡ true }
+    ensures { IfOk result (λ x. x ≡ spec.made_declaration r.ParamAssigned parts.old) }
+{
+    let name = declared_name(parts);
+    parts.skip();
+    let value = parts.expr().into_inner();
+    boxed_parameter_part(
+        alloc,
+        ParameterPart::Parameter(ParameterAssignment { name, value }),
+    )
+}
+
+/// A parameter behind a `,`, and those behind it.
+fn next_param_assignment<'a>(alloc: Global, parts: &mut Parts<'a>) -> Result<Value<'a>, AllocError>
+    requires { sorted r.NextParamAssignment parts.old ≡ true }
+    ensures { IfOk result (λ x. x ≡ spec.made_declaration r.NextParamAssignment parts.old) }
+{
+    parts.skip();
+    let all = parts.some_parameters(alloc)?;
+    boxed_parameter_part(alloc, ParameterPart::Parameters(all))
+}
+
+/// Outputs that are wires.
+fn output_net<'a>(alloc: Global, parts: &mut Parts<'a>) -> Result<Value<'a>, AllocError>
+    requires { sorted r.OutputNet parts.old ≡ true }
+    ensures { IfOk result (λ x. x ≡ spec.made_declaration r.OutputNet parts.old) }
+{
+    let data_type = DataType::Wire(parts.vector());
+    let names = parts.names_of_type(alloc, data_type)?;
+    boxed_declaration_part(alloc, DeclarationPart::OutputNames(names))
+}
+
+/// Outputs that are variables.
+fn output_reg<'a>(alloc: Global, parts: &mut Parts<'a>) -> Result<Value<'a>, AllocError>
+    requires { sorted r.OutputReg parts.old ≡ true }
+    ensures { IfOk result (λ x. x ≡ spec.made_declaration r.OutputReg parts.old) }
+{
+    parts.skip();
+    let data_type = DataType::Reg(parts.vector());
+    let names = parts.names_of_type(alloc, data_type)?;
+    boxed_declaration_part(alloc, DeclarationPart::OutputNames(names))
+}
+
+/// Outputs that are integers.
+fn output_integer<'a>(alloc: Global, parts: &mut Parts<'a>) -> Result<Value<'a>, AllocError>
+    requires { sorted r.OutputInteger parts.old ≡ true }
+    ensures { IfOk result (λ x. x ≡ spec.made_declaration r.OutputInteger parts.old) }
+{
+    parts.skip();
+    let names = parts.some_declareds(alloc)?;
+    boxed_declaration_part(
+        alloc,
+        DeclarationPart::OutputNames(OutputNames {
+            data_type: DataType::Integer,
+            names,
+        }),
+    )
+}
+
+/// A declaration of parameters.
+#[tactic(auto)]
+fn parameter_declaration<'a>(
+    alloc: Global,
+    kind: ParameterKind,
+    parts: &mut Parts<'a>,
+) -> Result<Value<'a>, AllocError>
+    requires data_type { is_parameter_type (second parts.old) ≡ true }
+    requires first { is_parameter (third parts.old) ≡ true }
+    ensures { IfOk result (λ x. x ≡ spec.parameters kind parts.old) }
+{
+    let span = parts.span();
+    let data_type = parts.parameter_type();
+    let first = parts.parameter();
+    let (assignments, data_type) = parts.parameters(alloc).with_beside(first, data_type)?;
+    boxed_plain(
+        alloc,
+        PlainItem::ParameterDeclaration(ParameterDeclaration {
+            span,
+            kind,
+            data_type,
+            assignments: assignments.into_listed(),
+        }),
+    )
+}
+
+/// A declaration of inputs.
+fn input_declaration<'a>(alloc: Global, parts: &mut Parts<'a>) -> Result<Value<'a>, AllocError>
+    requires { sorted r.InputDeclaration parts.old ≡ true }
+    ensures { IfOk result (λ x. x ≡ spec.made_declaration r.InputDeclaration parts.old) }
+{
+    let span = parts.span();
+    let data_type = DataType::Wire(parts.vector());
+    let OutputNames { data_type, names } = parts.names_of_type(alloc, data_type)?;
+    boxed_plain(
+        alloc,
+        PlainItem::PortDeclaration(PortDeclaration {
+            span,
+            direction: Direction::Input,
+            data_type,
+            names: names.into_listed(),
+        }),
+    )
+}
+
+/// A declaration of outputs.
+fn output_declaration<'a>(alloc: Global, parts: &mut Parts<'a>) -> Result<Value<'a>, AllocError>
+    requires { sorted r.OutputDeclaration parts.old ≡ true }
+    ensures { IfOk result (λ x. x ≡ spec.made_declaration r.OutputDeclaration parts.old) }
+{
+    let span = parts.span();
+    let OutputNames { data_type, names } = parts.output_names();
+    boxed_plain(
+        alloc,
+        PlainItem::PortDeclaration(PortDeclaration {
+            span,
+            direction: Direction::Output,
+            data_type,
+            names: names.into_listed(),
+        }),
+    )
+}
+
+/// A declaration of wires.
+fn net_declaration<'a>(alloc: Global, parts: &mut Parts<'a>) -> Result<Value<'a>, AllocError>
+    requires { sorted r.NetDeclaration parts.old ≡ true }
+    ensures { IfOk result (λ x. x ≡ spec.made_declaration r.NetDeclaration parts.old) }
+{
+    let span = parts.span();
+    let data_type = DataType::Wire(parts.vector());
+    let OutputNames { data_type, names } = parts.names_of_type(alloc, data_type)?;
+    boxed_plain(
+        alloc,
+        PlainItem::DataDeclaration(DataDeclaration {
+            span,
+            data_type,
+            names: names.into_listed(),
+        }),
+    )
+}
+
+/// A declaration of variables.
+fn reg_declaration<'a>(alloc: Global, parts: &mut Parts<'a>) -> Result<Value<'a>, AllocError>
+    requires { sorted r.RegDeclaration parts.old ≡ true }
+    ensures { IfOk result (λ x. x ≡ spec.made_declaration r.RegDeclaration parts.old) }
+{
+    let span = parts.span();
+    let data_type = DataType::Reg(parts.vector());
+    let OutputNames { data_type, names } = parts.names_of_type(alloc, data_type)?;
+    boxed_plain(
+        alloc,
+        PlainItem::DataDeclaration(DataDeclaration {
+            span,
+            data_type,
+            names: names.into_listed(),
+        }),
+    )
+}
+
+/// A declaration of integers.
+fn integer_declaration<'a>(alloc: Global, parts: &mut Parts<'a>) -> Result<Value<'a>, AllocError>
+    requires { sorted r.IntegerDeclaration parts.old ≡ true }
+    ensures { IfOk result (λ x. x ≡ spec.made_declaration r.IntegerDeclaration parts.old) }
+{
+    let span = parts.span();
+    let names = parts.some_declareds(alloc)?;
+    boxed_plain(
+        alloc,
+        PlainItem::DataDeclaration(DataDeclaration {
+            span,
+            data_type: DataType::Integer,
+            names: names.into_listed(),
+        }),
+    )
+}
+
+/// A declaration of genvars.
+fn genvar_declaration<'a>(alloc: Global, parts: &mut Parts<'a>) -> Result<Value<'a>, AllocError>
+    requires { sorted r.GenvarDeclaration parts.old ≡ true }
+    ensures { IfOk result (λ x. x ≡ spec.made_declaration r.GenvarDeclaration parts.old) }
+{
+    let span = parts.span();
+    let names = parts.some_declareds(alloc)?;
+    boxed_plain(
+        alloc,
+        PlainItem::GenvarDeclaration(span, names.into_listed()),
+    )
+}
+
+/// The type of parameters that are vectors.
+fn vector_parameter<'a>(alloc: Global, parts: &mut Parts<'a>) -> Result<Value<'a>, AllocError>
+    requires { sorted r.VectorParameter parts.old ≡ true }
+    ensures { IfOk result (λ x. x ≡ spec.made_declaration r.VectorParameter parts.old) }
+{
+    let vector = parts.vector();
+    boxed_parameter_part(
+        alloc,
+        ParameterPart::ParameterType(ParameterType::Vector(vector)),
+    )
+}
+
+/// The type of parameters that are integers.
+fn integer_parameter<'a>(alloc: Global) -> Result<Value<'a>, AllocError>
+    ensures { IfOk result (λ x. x ≡ v.ParameterType pt.Integer) }
+{
+    boxed_parameter_part(alloc, ParameterPart::ParameterType(ParameterType::Integer))
+}
+
+/// What a production of declarations means.
+#[inline(never)]
+pub fn make_declaration<'a>(
+    alloc: Global,
+    rule: Rule,
+    parts: &mut Parts<'a>,
+) -> Result<Value<'a>, AllocError>
+    requires { sorted rule parts.old ≡ true }
+    ensures { IfOk result (λ x. x ≡ spec.made_declaration rule parts.old) }
+{
+    match rule {
+        Rule::UnsignedRange => unsigned_range(alloc, parts),
+        Rule::SignedRange => signed_range(alloc, parts),
+        Rule::SomeRange => some_range(alloc, parts),
+        Rule::NameDeclared => name_declared(alloc, parts),
+        Rule::NextDeclaredName => next_declared_name(alloc, parts),
+        Rule::NextVariable => next_declared_name(alloc, parts),
+        Rule::VariableDeclared => variable_declared(alloc, parts),
+        Rule::VectorParameter => vector_parameter(alloc, parts),
+        Rule::IntegerParameter => integer_parameter(alloc),
+        Rule::ParamAssigned => param_assigned(alloc, parts),
+        Rule::NextParamAssignment => next_param_assignment(alloc, parts),
+        Rule::OutputNet => output_net(alloc, parts),
+        Rule::OutputReg => output_reg(alloc, parts),
+        Rule::OutputInteger => output_integer(alloc, parts),
+        Rule::InputDeclaration => input_declaration(alloc, parts),
+        Rule::OutputDeclaration => output_declaration(alloc, parts),
+        Rule::ParameterDeclaration => parameter_declaration(alloc, ParameterKind::Parameter, parts),
+        Rule::LocalParameterDeclaration => parameter_declaration(
+            alloc,
+            ParameterKind::Localparam,
+            parts,
+        ),
+        Rule::NetDeclaration => net_declaration(alloc, parts),
+        Rule::RegDeclaration => reg_declaration(alloc, parts),
+        Rule::IntegerDeclaration => integer_declaration(alloc, parts),
+        Rule::GenvarDeclaration => genvar_declaration(alloc, parts),
+        _ => make_module(alloc, rule, parts),
+    }
+}

@@ -1,0 +1,158 @@
+//! Instances, from their parts (IEEE 1364-2005, A.4.1).
+#![tactic(auto, unfolding(crate::specs::Items::made_item, vlog_parts::specs::Kinds::is_of_kind, vlog_grammar::specs::Grammar::production))]
+
+ghost use Rattle.std.specs.Prelude.{◌≡◌, true, IfOk};
+ghost use Rattle.vlog_grammar.specs.declared.rule.Rule.TheVariants as r;
+ghost use Rattle.vlog_parts.specs.Sorts as v;
+ghost use Rattle.vlog_syntax.specs.declared.item.Connections.TheVariants as co;
+ghost use Rattle.vlog_items.specs.Items as spec;
+ghost use Rattle.vlog_parts.specs.Kinds.{sorted};
+
+use std::alloc::{AllocError, Global};
+use vlog_parts::{InstancePart, Parts, Stack, Value, boxed_instance_part, boxed_plain, identifier};
+use vlog_syntax::{Connections, Expr, Instance, NamedConnection, ParameterValues, PlainItem};
+
+/// Parameters by name.
+pub fn named_parameters<'a>(alloc: Global, parts: &mut Parts<'a>) -> Result<Value<'a>, AllocError>
+    requires { sorted r.NamedParameters parts.old ≡ true }
+    ensures { IfOk result (λ x. x ≡ spec.made_item r.NamedParameters parts.old) }
+{
+    let all = parts.some_connections(alloc)?;
+    boxed_instance_part(
+        alloc,
+        InstancePart::ParameterValues(ParameterValues::Named(all.into_listed())),
+    )
+}
+
+/// Parameters by place.
+pub fn ordered_parameters<'a>(alloc: Global, parts: &mut Parts<'a>) -> Result<Value<'a>, AllocError>
+    requires { sorted r.OrderedParameters parts.old ≡ true }
+    ensures { IfOk result (λ x. x ≡ spec.made_item r.OrderedParameters parts.old) }
+{
+    let all = parts.some_exprs(alloc)?;
+    boxed_instance_part(
+        alloc,
+        InstancePart::ParameterValues(ParameterValues::Ordered(all.into_listed())),
+    )
+}
+
+/// An instance.
+pub fn module_instance<'a>(alloc: Global, parts: &mut Parts<'a>) -> Result<Value<'a>, AllocError>
+    requires { sorted r.InstanceOfModule parts.old ≡ true }
+    ensures { IfOk result (λ x. x ≡ spec.made_item r.InstanceOfModule parts.old) }
+{
+    let name = parts.identifier();
+    parts.skip();
+    let ports = parts.ports();
+    boxed_instance_part(alloc, InstancePart::Instance(Instance { name, ports }))
+}
+
+/// An instance behind a `,`, and those behind it.
+pub fn next_module_instance<'a>(
+    alloc: Global,
+    parts: &mut Parts<'a>,
+) -> Result<Value<'a>, AllocError>
+    requires { sorted r.NextModuleInstance parts.old ≡ true }
+    ensures { IfOk result (λ x. x ≡ spec.made_item r.NextModuleInstance parts.old) }
+{
+    parts.skip();
+    let all = parts.some_instances(alloc)?;
+    boxed_instance_part(alloc, InstancePart::Instances(all))
+}
+
+/// Ports by name.
+pub fn named_connections<'a>(alloc: Global, parts: &mut Parts<'a>) -> Result<Value<'a>, AllocError>
+    requires { sorted r.NamedConnections parts.old ≡ true }
+    ensures { IfOk result (λ x. x ≡ spec.made_item r.NamedConnections parts.old) }
+{
+    let all = parts.some_connections(alloc)?;
+    boxed_instance_part(
+        alloc,
+        InstancePart::Connections(Connections::Named(all.into_listed())),
+    )
+}
+
+/// Ports by place. One that is left empty, alone, is none.
+#[tactic(auto, unfolding(crate::specs::Items::placed))]
+fn placed(first: Option<Expr>, others: Stack<Option<Expr>>) -> Result<Connections, AllocError>
+    ensures { IfOk result (λ c. c ≡ co.Ordered (spec.placed first others)) }
+{
+    let mut ports = others;
+    if first.is_some() || ports.len() > 0 {
+        ports.push(first)?;
+    }
+    Ok(Connections::Ordered(ports.into_listed()))
+}
+
+/// Ports by place.
+pub fn ordered_connections<'a>(
+    alloc: Global,
+    parts: &mut Parts<'a>,
+) -> Result<Value<'a>, AllocError>
+    ensures { IfOk result (λ x. x ≡ spec.made_item r.OrderedConnections parts.old) }
+{
+    let first = parts.option_expr();
+    let others = parts.ordered(alloc);
+    boxed_instance_part(alloc, InstancePart::Connections(placed(first, others)?))
+}
+
+/// A port by its name.
+pub fn connection_by_name<'a>(alloc: Global, parts: &mut Parts<'a>) -> Result<Value<'a>, AllocError>
+    requires { sorted r.ConnectionByName parts.old ≡ true }
+    ensures { IfOk result (λ x. x ≡ spec.made_item r.ConnectionByName parts.old) }
+{
+    parts.skip();
+    let name = parts.identifier();
+    parts.skip();
+    let value = parts.option_expr();
+    boxed_instance_part(
+        alloc,
+        InstancePart::Connection(NamedConnection { name, value }),
+    )
+}
+
+/// A port behind a `,`, and those behind it.
+pub fn next_named_connection<'a>(
+    alloc: Global,
+    parts: &mut Parts<'a>,
+) -> Result<Value<'a>, AllocError>
+    requires { sorted r.NextNamedConnection parts.old ≡ true }
+    ensures { IfOk result (λ x. x ≡ spec.made_item r.NextNamedConnection parts.old) }
+{
+    parts.skip();
+    let all = parts.some_connections(alloc)?;
+    boxed_instance_part(alloc, InstancePart::NamedConnections(all))
+}
+
+/// A port behind a `,`, and those behind it.
+pub fn next_ordered_connection<'a>(
+    alloc: Global,
+    parts: &mut Parts<'a>,
+) -> Result<Value<'a>, AllocError>
+    ensures { IfOk result (λ x. x ≡ spec.made_item r.NextOrderedConnection parts.old) }
+{
+    parts.skip();
+    let first = parts.option_expr();
+    let all = parts.ordered(alloc).with(first)?;
+    boxed_instance_part(alloc, InstancePart::OrderedConnections(all))
+}
+
+/// Instances of a module.
+pub fn module_instantiation<'a>(
+    alloc: Global,
+    parts: &mut Parts<'a>,
+) -> Result<Value<'a>, AllocError>
+    requires { sorted r.ModuleInstantiation parts.old ≡ true }
+    ensures { IfOk result (λ x. x ≡ spec.made_item r.ModuleInstantiation parts.old) }
+{
+    let module = identifier(alloc, parts.token())?;
+    let parameters = parts.parameter_values(alloc);
+    let first = parts.instance();
+    let (instances, (module, parameters)) = parts
+        .instances(alloc)
+        .with_beside(first, (module, parameters))?;
+    boxed_plain(
+        alloc,
+        PlainItem::ModuleInstantiation(module, parameters, instances.into_listed()),
+    )
+}
