@@ -1,0 +1,4 @@
+pub mod Building
+pub mod Kinds
+pub mod Refusals
+pub mod Wiring
