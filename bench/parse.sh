@@ -5,6 +5,8 @@
 # tools the time for an empty module is taken off, which is their start; they do more than parse, since the one elaborates
 # the design and the other makes its own netlist. Needs python3 and awk. A tool that is missing is left out (Debian:
 # iverilog, yosys).
+# Then the same of one concatenation of many names, `{a,a,..}`, where tokens are densest; a tool that takes more than a minute
+# over it is told so.
 #
 # usage: bench/parse.sh [BYTES..]      65536 262144 524288 1048576 where they are left out; growth is told from the first
 set -euo pipefail
@@ -30,7 +32,7 @@ once() {
         iverilog) set -- "$1" iverilog -t null -o "$room/none" "$2" ;;
         yosys) set -- "$1" yosys -q -p "read_verilog $2" ;;
     esac
-    if ! "${@:2}" >"$room/log" 2>&1; then
+    if ! timeout 60 "${@:2}" >"$room/log" 2>&1; then
         tail -n 5 "$room/log" >&2
         echo "$1 refused the source" >&2
         return 1
@@ -80,5 +82,20 @@ for size in "$@"; do
         echo "  $tool: $(over "$bytes" "$time") MB a second, all three take $(over "$all" "$time") of its time"
     done
     echo "  time for a byte, beside that at $first bytes: tokens $(over $((tokens * first)) $((first_tokens * bytes))), expand $(over $((expand * first)) $((first_expand * bytes))), parse $(over $((parse * first)) $((first_parse * bytes)))"
+done
+for size in 65536 1048576; do
+    python3 "$root/bench/source.py" "$size" dense >"$room/source.v"
+    "$room/program" "$room/source.v" 3 >"$room/ours"
+    bytes=$(wc -c <"$room/source.v")
+    parse=$(ours parse)
+    echo "$bytes bytes of {a,a,..}: tokens $(ours tokens), expand $(ours expand), parse $parse microseconds, $(over "$bytes" "$parse") MB a second"
+    for tool in $tools; do
+        if once "$tool" "$room/source.v" >"$room/$tool.time" 2>/dev/null; then
+            time=$(($(cat "$room/$tool.time") - $(cat "$room/$tool.start")))
+            echo "  $tool: $time microseconds, parse takes $(over "$parse" "$time") of them"
+        else
+            echo "  $tool: more than a minute, or refused"
+        fi
+    done
 done
 echo "$(nproc) processors"

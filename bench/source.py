@@ -1,7 +1,9 @@
 #!/usr/bin/env python3
 """Writes a Verilog source of at most so many bytes, within the profile of docs/PROFILE.md ("Verilog sources").
 
-usage: bench/source.py SIZE >FILE
+usage: bench/source.py SIZE [dense] >FILE
+
+With `dense` it is one concatenation of the same name over and over, where tokens are densest.
 
 Some macros stand first, then a counter and a stage that has it as an instance, over and over, their names told apart by
 a number. As many of them are written as there is room for.
@@ -142,10 +144,17 @@ def source(size):
     return "".join(parts)
 
 
+def dense(size):
+    """One concatenation of a name, as text."""
+    head, end = "module m;\nwire a;\nwire x = {a", "};\nendmodule\n"
+    return head + ",a" * ((size - len(head) - len(end)) // 2) + end
+
+
 def main():
-    if len(sys.argv) != 2 or not sys.argv[1].isdecimal():
-        sys.exit("usage: bench/source.py SIZE >FILE")
-    sys.stdout.write(source(int(sys.argv[1])))
+    if len(sys.argv) not in (2, 3) or not sys.argv[1].isdecimal() or sys.argv[2:] not in ([], ["dense"]):
+        sys.exit("usage: bench/source.py SIZE [dense] >FILE")
+    size = int(sys.argv[1])
+    sys.stdout.write(dense(size) if sys.argv[2:] else source(size))
 
 
 main()

@@ -94,7 +94,7 @@ fn put_copied(page: &mut Page, alloc: Global, body: &Stmt) {
 fn process_body(item: &Item) -> Option<&Stmt> {
     match item {
         Item::Plain(plain) => match plain.get() {
-            PlainItem::Process(process) => Some(&process.body),
+            PlainItem::Process(process) => Some(process.body.get()),
             _ => None,
         },
         _ => None,

@@ -147,19 +147,19 @@ fn left(page: &mut Page, tree: &LeftSide) {
         LeftSide::BitSelect(n, _, index) => {
             page.put("([]");
             name(page, n);
-            expr(page, index);
+            expr(page, index.get());
         }
         LeftSide::PartSelect(n, _, msb, lsb) => {
             page.put("([:]");
             name(page, n);
-            expr(page, msb);
-            expr(page, lsb);
+            expr(page, msb.get());
+            expr(page, lsb.get());
         }
         LeftSide::IndexedPartSelect(n, _, base, width) => {
             page.put("([+:]");
             name(page, n);
-            expr(page, base);
-            expr(page, width);
+            expr(page, base.get());
+            expr(page, width.get());
         }
         LeftSide::Concatenation(_, parts) => {
             page.put("({}");
@@ -180,7 +180,7 @@ fn assignment(page: &mut Page, sign: &str, tree: &Assignment) {
     page.put(" (");
     page.put(sign);
     left(page, &tree.left);
-    expr(page, &tree.value);
+    expr(page, tree.value.get());
     page.put(")");
 }
 
@@ -205,7 +205,7 @@ fn arguments(page: &mut Page, list: &[Argument]) {
                 }
                 page.put("\"");
             }
-            Argument::Expr(tree) => expr(page, tree),
+            Argument::Expr(tree) => expr(page, tree.get()),
         }
     }
 }
@@ -230,7 +230,7 @@ pub fn stmt(page: &mut Page, tree: &Stmt) {
         }
         Stmt::Conditional(_, condition, yes, no) => {
             page.put(" (if");
-            expr(page, condition);
+            expr(page, condition.get());
             stmt(page, yes.get());
             if let Some(no) = no {
                 page.put(" else");
@@ -243,24 +243,24 @@ pub fn stmt(page: &mut Page, tree: &Stmt) {
                 CaseKind::Casez => " (casez",
                 CaseKind::Casex => " (casex",
             });
-            expr(page, selector);
+            expr(page, selector.get());
             case_items(page, items.as_slice());
         }
         Stmt::For(_, start, condition, step, body) => {
             page.put(" (for");
             assignment(page, "=", start);
-            expr(page, condition);
+            expr(page, condition.get());
             assignment(page, "=", step);
             stmt(page, body.get());
         }
         Stmt::While(_, condition, body) => {
             page.put(" (while");
-            expr(page, condition);
+            expr(page, condition.get());
             stmt(page, body.get());
         }
         Stmt::Repeat(_, count, body) => {
             page.put(" (repeat");
-            expr(page, count);
+            expr(page, count.get());
             stmt(page, body.get());
         }
         Stmt::Forever(_, body) => {
@@ -279,7 +279,7 @@ pub fn stmt(page: &mut Page, tree: &Stmt) {
         }
         Stmt::DelayControl(_, delay, body) => {
             page.put(" (#");
-            expr(page, delay);
+            expr(page, delay.get());
             stmt(page, body.get());
         }
         Stmt::SystemTaskEnable(name, list) => {
@@ -304,7 +304,7 @@ fn case_items(page: &mut Page, items: &[CaseItem]) {
         page.put(" (");
         exprs(page, item.labels.as_slice());
         page.put(" :");
-        stmt(page, &item.body);
+        stmt(page, item.body.get());
         page.put(")");
     }
 }
@@ -312,8 +312,8 @@ fn case_items(page: &mut Page, items: &[CaseItem]) {
 fn range(page: &mut Page, range: &Option<Range>) {
     if let Some(range) = range {
         page.put(" ([:]");
-        expr(page, &range.msb);
-        expr(page, &range.lsb);
+        expr(page, range.msb.get());
+        expr(page, range.lsb.get());
         page.put(")");
     }
 }
@@ -346,7 +346,7 @@ fn names(page: &mut Page, list: &[DeclaredName]) {
             Some(value) => {
                 page.put(" (=");
                 name(page, &declared.name);
-                expr(page, value);
+                expr(page, value.get());
                 page.put(")");
             }
         }
@@ -375,7 +375,7 @@ fn parameters(page: &mut Page, tree: &ParameterDeclaration) {
     for assignment in tree.assignments.as_slice() {
         page.put(" (=");
         name(page, &assignment.name);
-        expr(page, &assignment.value);
+        expr(page, assignment.value.get());
         page.put(")");
     }
     page.put(")");
@@ -386,7 +386,7 @@ fn named(page: &mut Page, list: &[NamedConnection]) {
         page.put(" (.");
         page.put(connection.name.name.as_str());
         if let Some(value) = &connection.value {
-            expr(page, value);
+            expr(page, value.get());
         }
         page.put(")");
     }
@@ -399,7 +399,7 @@ fn instance(page: &mut Page, tree: &Instance) {
         Connections::Ordered(list) => {
             for value in list.as_slice() {
                 match value {
-                    Some(value) => expr(page, value),
+                    Some(value) => expr(page, value.get()),
                     None => page.put(" _"),
                 }
             }
@@ -413,7 +413,7 @@ fn assign(page: &mut Page, delay: &Option<Delay>, list: &[Assignment]) {
     page.put(" (assign");
     if let Some(delay) = delay {
         page.put(" (#");
-        expr(page, &delay.value);
+        expr(page, delay.value.get());
         page.put(")");
     }
     for tree in list {
@@ -441,7 +441,7 @@ fn plain(page: &mut Page, tree: &PlainItem) {
                 ProcessKind::Initial => " (initial",
                 ProcessKind::Always => " (always",
             });
-            stmt(page, &process.body);
+            stmt(page, process.body.get());
         }
         PlainItem::ModuleInstantiation(module, values, list) => {
             page.put(" (instance");
@@ -470,15 +470,15 @@ pub fn item(page: &mut Page, tree: &Item) {
         Item::LoopGenerate(head, block) => {
             page.put(" (for");
             name(page, &head.name);
-            expr(page, &head.start);
-            expr(page, &head.condition);
+            expr(page, head.start.get());
+            expr(page, head.condition.get());
             name(page, &head.step_name);
-            expr(page, &head.step);
+            expr(page, head.step.get());
             item(page, block.get());
         }
         Item::IfGenerate(_, condition, yes, no) => {
             page.put(" (if");
-            expr(page, condition);
+            expr(page, condition.get());
             item(page, yes.get());
             if let Some(no) = no {
                 page.put(" else");

@@ -7,9 +7,11 @@ ghost use Rattle.vlog_parts.specs.Sorts as v;
 ghost use Rattle.vlog_parts.specs.Values.{first, rest, second, third, fourth, declared_of, declareds_of, is_declared, is_parameter, is_parameter_type};
 ghost use Rattle.vlog_declarations.specs.Declarations as spec;
 ghost use Rattle.vlog_syntax.specs.declared.item.ParameterType.TheVariants as pt;
+ghost use Rattle.vlog_syntax.specs.declared.item.PlainItem.TheVariants as p;
 ghost use Rattle.vlog_parts.specs.Kinds.{sorted};
 
 use crate::modules::make_module;
+use mcy_base::Span;
 use std::alloc::{AllocError, Global};
 use vlog_grammar::Rule;
 use vlog_parts::{
@@ -28,9 +30,9 @@ fn some_range<'a>(alloc: Global, parts: &mut Parts<'a>) -> Result<Value<'a>, All
     ensures { IfOk result (λ x. x ≡ spec.made_declaration r.SomeRange parts.old) }
 {
     let span = parts.span();
-    let msb = parts.expr().into_inner();
+    let msb = parts.expr();
     parts.skip();
-    let lsb = parts.expr().into_inner();
+    let lsb = parts.expr();
     boxed_declaration_part(alloc, DeclarationPart::Range(Range { span, msb, lsb }))
 }
 
@@ -82,7 +84,8 @@ fn declared_name(parts: &mut Parts<'_>) -> Identifier
     ensures name { result ≡ (declared_of (first parts.old)).name }
     ensures rest { parts.new ≡ rest parts.old }
 {
-    let DeclaredName { name, .. } = parts.declared();
+    let DeclaredName { name, initial } = parts.declared();
+    drop(initial);
     name
 }
 
@@ -117,7 +120,7 @@ fn param_assigned<'a>(alloc: Global, parts: &mut Parts<'a>) -> Result<Value<'a>,
 {
     let name = declared_name(parts);
     parts.skip();
-    let value = parts.expr().into_inner();
+    let value = parts.expr();
     boxed_parameter_part(
         alloc,
         ParameterPart::Parameter(ParameterAssignment { name, value }),
@@ -161,14 +164,8 @@ fn output_integer<'a>(alloc: Global, parts: &mut Parts<'a>) -> Result<Value<'a>,
     ensures { IfOk result (λ x. x ≡ spec.made_declaration r.OutputInteger parts.old) }
 {
     parts.skip();
-    let names = parts.some_declareds(alloc)?;
-    boxed_declaration_part(
-        alloc,
-        DeclarationPart::OutputNames(OutputNames {
-            data_type: DataType::Integer,
-            names,
-        }),
-    )
+    let names = parts.names_of_type(alloc, DataType::Integer)?;
+    boxed_declaration_part(alloc, DeclarationPart::OutputNames(names))
 }
 
 /// A declaration of parameters.
@@ -197,6 +194,48 @@ fn parameter_declaration<'a>(
     )
 }
 
+/// A declaration of wires or variables.
+#[tactic(auto)]
+fn data_declaration<'a>(
+    alloc: Global,
+    span: Span,
+    declared: OutputNames,
+) -> Result<Value<'a>, AllocError>
+    ensures { IfOk result (λ x. x ≡ spec.plain (p.DataDeclaration (record { span = span; data_type = declared.data_type; names = declared.names }))) }
+{
+    let OutputNames { data_type, names } = declared;
+    boxed_plain(
+        alloc,
+        PlainItem::DataDeclaration(DataDeclaration {
+            span,
+            data_type,
+            names: names.into_listed(),
+        }),
+    )
+}
+
+/// A declaration of ports.
+#[tactic(auto)]
+fn port_declaration<'a>(
+    alloc: Global,
+    span: Span,
+    direction: Direction,
+    declared: OutputNames,
+) -> Result<Value<'a>, AllocError>
+    ensures { IfOk result (λ x. x ≡ spec.plain (p.PortDeclaration (record { span = span; direction = direction; data_type = declared.data_type; names = declared.names }))) }
+{
+    let OutputNames { data_type, names } = declared;
+    boxed_plain(
+        alloc,
+        PlainItem::PortDeclaration(PortDeclaration {
+            span,
+            direction,
+            data_type,
+            names: names.into_listed(),
+        }),
+    )
+}
+
 /// A declaration of inputs.
 fn input_declaration<'a>(alloc: Global, parts: &mut Parts<'a>) -> Result<Value<'a>, AllocError>
     requires { sorted r.InputDeclaration parts.old ≡ true }
@@ -204,16 +243,8 @@ fn input_declaration<'a>(alloc: Global, parts: &mut Parts<'a>) -> Result<Value<'
 {
     let span = parts.span();
     let data_type = DataType::Wire(parts.vector());
-    let OutputNames { data_type, names } = parts.names_of_type(alloc, data_type)?;
-    boxed_plain(
-        alloc,
-        PlainItem::PortDeclaration(PortDeclaration {
-            span,
-            direction: Direction::Input,
-            data_type,
-            names: names.into_listed(),
-        }),
-    )
+    let declared = parts.names_of_type(alloc, data_type)?;
+    port_declaration(alloc, span, Direction::Input, declared)
 }
 
 /// A declaration of outputs.
@@ -222,16 +253,7 @@ fn output_declaration<'a>(alloc: Global, parts: &mut Parts<'a>) -> Result<Value<
     ensures { IfOk result (λ x. x ≡ spec.made_declaration r.OutputDeclaration parts.old) }
 {
     let span = parts.span();
-    let OutputNames { data_type, names } = parts.output_names();
-    boxed_plain(
-        alloc,
-        PlainItem::PortDeclaration(PortDeclaration {
-            span,
-            direction: Direction::Output,
-            data_type,
-            names: names.into_listed(),
-        }),
-    )
+    port_declaration(alloc, span, Direction::Output, parts.output_names())
 }
 
 /// A declaration of wires.
@@ -241,15 +263,8 @@ fn net_declaration<'a>(alloc: Global, parts: &mut Parts<'a>) -> Result<Value<'a>
 {
     let span = parts.span();
     let data_type = DataType::Wire(parts.vector());
-    let OutputNames { data_type, names } = parts.names_of_type(alloc, data_type)?;
-    boxed_plain(
-        alloc,
-        PlainItem::DataDeclaration(DataDeclaration {
-            span,
-            data_type,
-            names: names.into_listed(),
-        }),
-    )
+    let declared = parts.names_of_type(alloc, data_type)?;
+    data_declaration(alloc, span, declared)
 }
 
 /// A declaration of variables.
@@ -259,15 +274,8 @@ fn reg_declaration<'a>(alloc: Global, parts: &mut Parts<'a>) -> Result<Value<'a>
 {
     let span = parts.span();
     let data_type = DataType::Reg(parts.vector());
-    let OutputNames { data_type, names } = parts.names_of_type(alloc, data_type)?;
-    boxed_plain(
-        alloc,
-        PlainItem::DataDeclaration(DataDeclaration {
-            span,
-            data_type,
-            names: names.into_listed(),
-        }),
-    )
+    let declared = parts.names_of_type(alloc, data_type)?;
+    data_declaration(alloc, span, declared)
 }
 
 /// A declaration of integers.
@@ -276,15 +284,8 @@ fn integer_declaration<'a>(alloc: Global, parts: &mut Parts<'a>) -> Result<Value
     ensures { IfOk result (λ x. x ≡ spec.made_declaration r.IntegerDeclaration parts.old) }
 {
     let span = parts.span();
-    let names = parts.some_declareds(alloc)?;
-    boxed_plain(
-        alloc,
-        PlainItem::DataDeclaration(DataDeclaration {
-            span,
-            data_type: DataType::Integer,
-            names: names.into_listed(),
-        }),
-    )
+    let declared = parts.names_of_type(alloc, DataType::Integer)?;
+    data_declaration(alloc, span, declared)
 }
 
 /// A declaration of genvars.

@@ -10,7 +10,9 @@ ghost use Rattle.vlog_parts.specs.Kinds.{sorted};
 
 use std::alloc::{AllocError, Global};
 use vlog_parts::{InstancePart, Parts, Stack, Value, boxed_instance_part, boxed_plain, identifier};
-use vlog_syntax::{Connections, Expr, Instance, NamedConnection, ParameterValues, PlainItem};
+use vlog_syntax::{
+    Boxed, Connections, Expr, Instance, NamedConnection, ParameterValues, PlainItem,
+};
 
 /// Parameters by name.
 pub fn named_parameters<'a>(alloc: Global, parts: &mut Parts<'a>) -> Result<Value<'a>, AllocError>
@@ -74,7 +76,10 @@ pub fn named_connections<'a>(alloc: Global, parts: &mut Parts<'a>) -> Result<Val
 
 /// Ports by place. One that is left empty, alone, is none.
 #[tactic(auto, unfolding(crate::specs::Items::placed))]
-fn placed(first: Option<Expr>, others: Stack<Option<Expr>>) -> Result<Connections, AllocError>
+fn placed(
+    first: Option<Boxed<Expr>>,
+    others: Stack<Option<Boxed<Expr>>>,
+) -> Result<Connections, AllocError>
     ensures { IfOk result (λ c. c ≡ co.Ordered (spec.placed first others)) }
 {
     let mut ports = others;

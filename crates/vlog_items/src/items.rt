@@ -25,7 +25,7 @@ fn some_delay<'a>(alloc: Global, parts: &mut Parts<'a>) -> Result<Value<'a>, All
     ensures { IfOk result (λ x. x ≡ spec.made_item r.SomeDelay parts.old) }
 {
     let span = parts.span();
-    let value = parts.expr().into_inner();
+    let value = parts.expr();
     boxed_item_part(alloc, ItemPart::Delay(Delay { span, value }))
 }
 
@@ -39,7 +39,7 @@ pub fn assignment(parts: &mut Parts<'_>) -> Assignment
 {
     let left = parts.left();
     let span = parts.span();
-    let value = parts.expr().into_inner();
+    let value = parts.expr();
     Assignment { left, span, value }
 }
 
@@ -87,7 +87,7 @@ fn process<'a>(
     ensures { IfOk result (λ x. x ≡ spec.process kind parts.old) }
 {
     let span = parts.span();
-    let body = parts.stmt().into_inner();
+    let body = parts.stmt();
     boxed_plain(alloc, PlainItem::Process(Process { span, kind, body }))
 }
 
@@ -121,13 +121,13 @@ fn generate_loop(parts: &mut Parts<'_>) -> GenerateLoop
     parts.skip();
     let name = parts.identifier();
     parts.skip();
-    let start = parts.expr().into_inner();
+    let start = parts.expr();
     parts.skip();
-    let condition = parts.expr().into_inner();
+    let condition = parts.expr();
     parts.skip();
     let step_name = parts.identifier();
     parts.skip();
-    let step = parts.expr().into_inner();
+    let step = parts.expr();
     GenerateLoop {
         span,
         name,
@@ -155,7 +155,7 @@ fn conditional_generate<'a>(alloc: Global, parts: &mut Parts<'a>) -> Result<Valu
 {
     let span = parts.span();
     parts.skip();
-    let condition = parts.expr().into_inner();
+    let condition = parts.expr();
     parts.skip();
     let yes = parts.item();
     let no = parts.option_item();

@@ -177,12 +177,12 @@ impl Stack<Value<'_>> {
 
     /// The next part, an expression where there is one.
     #[tactic(auto, using(crate::proofs::Sorts::not_option_expr))]
-    pub fn option_expr(&mut self) -> Option<Expr>
+    pub fn option_expr(&mut self) -> Option<Boxed<Expr>>
         ensures value { result ≡ option_expr_of (first self.old) }
         ensures rest { self.new ≡ rest self.old }
     {
         match self.next() {
-            Value::Expr(expr) => Some(expr.into_inner()),
+            Value::Expr(expr) => Some(expr),
             other => {
                 drop(other);
                 None

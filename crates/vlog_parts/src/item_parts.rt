@@ -114,7 +114,7 @@ impl Stack<Value<'_>> {
 
     /// The next part, ordered connections.
     #[tactic(auto, using(crate::proofs::Sorts::not_ordered))]
-    pub fn ordered(&mut self, alloc: Global) -> Stack<Option<Expr>>
+    pub fn ordered(&mut self, alloc: Global) -> Stack<Option<Boxed<Expr>>>
         ensures value { result ≡ ordered_of (first self.old) }
         ensures rest { self.new ≡ rest self.old }
     {

@@ -47,6 +47,15 @@ impl<T> Stack<T> {
     {
         self.items.pop()
     }
+
+    /// The items as a list, the top one first.
+    pub fn into_listed(self) -> Listed<T>
+        ensures { result ≡ self }
+    {
+        let Stack { mut items } = self;
+        items.reverse();
+        Listed::from_vec(items)
+    }
 }
 
 impl<T: Drop> Stack<T> {
@@ -88,14 +97,5 @@ impl<T: Drop> Stack<T> {
         Ok(Stack {
             items: self.items.split_off(at)?,
         })
-    }
-
-    /// The items as a list, the top one first.
-    pub fn into_listed(self) -> Listed<T>
-        ensures { result ≡ self }
-    {
-        let Stack { mut items } = self;
-        items.reverse();
-        Listed::from_vec(items)
     }
 }

@@ -114,7 +114,7 @@ pub enum InstancePart {
     ParameterValues(ParameterValues),
     Connection(NamedConnection),
     NamedConnections(Stack<NamedConnection>),
-    OrderedConnections(Stack<Option<Expr>>),
+    OrderedConnections(Stack<Option<Boxed<Expr>>>),
     Connections(Connections),
     Instance(Instance),
     Instances(Stack<Instance>),

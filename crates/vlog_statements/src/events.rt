@@ -123,7 +123,7 @@ fn expression_argument<'a>(alloc: Global, parts: &mut Parts<'a>) -> Result<Value
     requires { sorted r.ExpressionArgument parts.old ≡ true }
     ensures { IfOk result (λ x. x ≡ spec.made_event r.ExpressionArgument parts.old) }
 {
-    let expr = parts.expr().into_inner();
+    let expr = parts.expr();
     boxed_event_part(alloc, EventPart::Argument(Argument::Expr(expr)))
 }
 

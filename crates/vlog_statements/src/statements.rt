@@ -17,7 +17,7 @@ use vlog_parts::{
     AssignmentSign, CaseKeyword, Parts, StatementPart, Value, boxed_statement_part, boxed_stmt,
     identifier,
 };
-use vlog_syntax::{Assignment, CaseItem, CaseKind, Expr, LeftSide, Listed, Stmt};
+use vlog_syntax::{Assignment, Boxed, CaseItem, CaseKind, Expr, LeftSide, Listed, Stmt};
 
 /// A sequential block.
 fn seq_block<'a>(alloc: Global, parts: &mut Parts<'a>) -> Result<Value<'a>, AllocError>
@@ -36,7 +36,7 @@ fn conditional<'a>(alloc: Global, parts: &mut Parts<'a>) -> Result<Value<'a>, Al
 {
     let span = parts.span();
     parts.skip();
-    let condition = parts.expr().into_inner();
+    let condition = parts.expr();
     parts.skip();
     let yes = parts.stmt();
     let no = parts.option_stmt();
@@ -50,7 +50,7 @@ fn case<'a>(alloc: Global, parts: &mut Parts<'a>) -> Result<Value<'a>, AllocErro
 {
     let keyword = parts.case_keyword();
     parts.skip();
-    let selector = parts.expr().into_inner();
+    let selector = parts.expr();
     parts.skip();
     let items = parts.case_items(alloc);
     boxed_stmt(
@@ -68,7 +68,7 @@ fn for_statement<'a>(alloc: Global, parts: &mut Parts<'a>) -> Result<Value<'a>, 
     parts.skip();
     let start = assignment(parts);
     parts.skip();
-    let condition = parts.expr().into_inner();
+    let condition = parts.expr();
     parts.skip();
     let step = assignment(parts);
     parts.skip();
@@ -83,7 +83,7 @@ fn while_statement<'a>(alloc: Global, parts: &mut Parts<'a>) -> Result<Value<'a>
 {
     let span = parts.span();
     parts.skip();
-    let condition = parts.expr().into_inner();
+    let condition = parts.expr();
     parts.skip();
     let body = parts.stmt();
     boxed_stmt(alloc, Stmt::While(span, condition, body))
@@ -96,7 +96,7 @@ fn repeat<'a>(alloc: Global, parts: &mut Parts<'a>) -> Result<Value<'a>, AllocEr
 {
     let span = parts.span();
     parts.skip();
-    let count = parts.expr().into_inner();
+    let count = parts.expr();
     parts.skip();
     let body = parts.stmt();
     boxed_stmt(alloc, Stmt::Repeat(span, count, body))
@@ -134,7 +134,7 @@ fn delay_control_statement<'a>(
     ensures { IfOk result (λ x. x ≡ spec.made_statement r.DelayControlStatement parts.old) }
 {
     let span = parts.span();
-    let delay = parts.expr().into_inner();
+    let delay = parts.expr();
     let body = parts.stmt();
     boxed_stmt(alloc, Stmt::DelayControl(span, delay, body))
 }
@@ -151,7 +151,7 @@ fn system_task<'a>(alloc: Global, parts: &mut Parts<'a>) -> Result<Value<'a>, Al
 
 /// An assignment by its sign.
 #[tactic(auto, unfolding(crate::specs::Statements::assigned))]
-fn assigned(left: LeftSide, sign: AssignmentSign, value: Expr) -> Stmt
+fn assigned(left: LeftSide, sign: AssignmentSign, value: Boxed<Expr>) -> Stmt
     ensures { result ≡ spec.assigned left sign value }
 {
     match sign {
@@ -171,7 +171,7 @@ fn assignment_statement<'a>(alloc: Global, parts: &mut Parts<'a>) -> Result<Valu
 {
     let left = parts.left();
     let sign = parts.sign();
-    let value = parts.expr().into_inner();
+    let value = parts.expr();
     boxed_stmt(alloc, assigned(left, sign, value))
 }
 
@@ -219,7 +219,7 @@ fn labelled_case_item<'a>(alloc: Global, parts: &mut Parts<'a>) -> Result<Value<
     let span = label.first_token();
     let labels = parts.exprs(alloc).with(label)?;
     parts.skip();
-    let body = parts.stmt().into_inner();
+    let body = parts.stmt();
     boxed_statement_part(
         alloc,
         StatementPart::CaseItem(CaseItem {
@@ -237,7 +237,7 @@ fn default_case_item<'a>(alloc: Global, parts: &mut Parts<'a>) -> Result<Value<'
 {
     let span = parts.span();
     parts.skip();
-    let body = parts.stmt().into_inner();
+    let body = parts.stmt();
     boxed_statement_part(
         alloc,
         StatementPart::CaseItem(CaseItem {

@@ -1,5 +1,5 @@
 -- How deep a tree nests, by its variant.
-use Rattle.std.proofs.Common.{◌≡◌, ℕ, ◌+◌, max, List, [], ◌∷◌, map, Option, Some, None, refl, sym, ◌∙◌, ap}
+use Rattle.std.proofs.Common.{◌≡◌, ℕ, ◌+◌, max, List, [], ◌∷◌, map, Option, Some, None, sym, ◌∙◌, ap}
 use Rattle.mcy_base.specs.declared.span.Span.{Span}
 use Rattle.vlog_syntax.specs.declared.identifier.Identifier.{Identifier}
 use Rattle.vlog_syntax.specs.declared.identifier.Number.{Number}
@@ -21,7 +21,7 @@ use Rattle.vlog_syntax.specs.declared.stmt.EventControl.{EventControl}
 use Rattle.vlog_syntax.specs.declared.stmt.Stmt.{Stmt}
 use Rattle.vlog_syntax.specs.declared.stmt.Stmt.TheVariants as sv
 use Rattle.vlog_syntax.specs.declared.stmt.Stmt.TheOpen as s
-use Rattle.vlog_syntax.specs.declared.stmt.Stmt.TheFolds.{fold-CaseItem, fold-roll-Stmt}
+use Rattle.vlog_syntax.specs.declared.stmt.Stmt.TheFolds.{fold-roll-Stmt}
 use Rattle.vlog_syntax.specs.declared.item.GenerateLoop.{GenerateLoop}
 use Rattle.vlog_syntax.specs.declared.item.PlainItem.{PlainItem}
 use Rattle.vlog_syntax.specs.declared.item.Item.{Item}

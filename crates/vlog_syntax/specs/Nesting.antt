@@ -21,7 +21,6 @@ use Rattle.vlog_syntax.specs.declared.stmt.Stmt.TheOpen as s
 use Rattle.vlog_syntax.specs.declared.stmt.Stmt.TheOpen.{Stmt-F, CaseItem-F}
 use Rattle.vlog_syntax.specs.declared.stmt.Stmt.TheFolds.{fold-Stmt, fold-CaseItem}
 use Rattle.vlog_syntax.specs.declared.item.Range.{Range}
-use Rattle.vlog_syntax.specs.declared.item.VectorType.{VectorType}
 use Rattle.vlog_syntax.specs.declared.item.DataType.{DataType}
 use Rattle.vlog_syntax.specs.declared.item.DataType.TheVariants as d
 use Rattle.vlog_syntax.specs.declared.item.DeclaredName.{DeclaredName}
@@ -29,7 +28,6 @@ use Rattle.vlog_syntax.specs.declared.item.PortDeclaration.{PortDeclaration}
 use Rattle.vlog_syntax.specs.declared.item.DataDeclaration.{DataDeclaration}
 use Rattle.vlog_syntax.specs.declared.item.ParameterType.{ParameterType}
 use Rattle.vlog_syntax.specs.declared.item.ParameterType.TheVariants as p
-use Rattle.vlog_syntax.specs.declared.item.ParameterAssignment.{ParameterAssignment}
 use Rattle.vlog_syntax.specs.declared.item.ParameterDeclaration.{ParameterDeclaration}
 use Rattle.vlog_syntax.specs.declared.item.Ports.{Ports}
 use Rattle.vlog_syntax.specs.declared.item.Ports.TheVariants as o

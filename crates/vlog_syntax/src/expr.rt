@@ -1,6 +1,7 @@
 //! Expressions (IEEE 1364-2005, 5).
 ghost use Rattle.std.specs.Prelude.{◌≡◌, IfOk};
 ghost use Rattle.vlog_syntax.specs.Places.{first_token};
+ghost use Rattle.vlog_syntax.specs.declared.expr.Expr.TheVariants as e;
 
 use crate::boxed::Boxed;
 use crate::identifier::{Identifier, Number};
@@ -65,58 +66,62 @@ impl Expr {
         match self {
             Expr::Number(number) => Ok(Expr::Number(*number)),
             Expr::Name(name) => Ok(Expr::Name(name.copy(alloc)?)),
-            Expr::BitSelect(name, span, index) => Ok(Expr::BitSelect(
-                name.copy(alloc)?,
-                *span,
-                Boxed::new(alloc, index.get().copy(alloc)?)?,
-            )),
-            Expr::PartSelect(name, span, msb, lsb) => Ok(Expr::PartSelect(
-                name.copy(alloc)?,
-                *span,
-                Boxed::new(alloc, msb.get().copy(alloc)?)?,
-                Boxed::new(alloc, lsb.get().copy(alloc)?)?,
-            )),
-            Expr::IndexedPartSelect(name, span, base, width) => Ok(Expr::IndexedPartSelect(
-                name.copy(alloc)?,
-                *span,
-                Boxed::new(alloc, base.get().copy(alloc)?)?,
-                Boxed::new(alloc, width.get().copy(alloc)?)?,
-            )),
-            Expr::Parenthesized(span, inner) => Ok(Expr::Parenthesized(
-                *span,
-                Boxed::new(alloc, inner.get().copy(alloc)?)?,
-            )),
-            Expr::Unary(span, operator, operand) => Ok(Expr::Unary(
-                *span,
-                *operator,
-                Boxed::new(alloc, operand.get().copy(alloc)?)?,
-            )),
-            Expr::Binary(span, operator, left, right) => Ok(Expr::Binary(
-                *span,
-                *operator,
-                Boxed::new(alloc, left.get().copy(alloc)?)?,
-                Boxed::new(alloc, right.get().copy(alloc)?)?,
-            )),
-            Expr::Conditional(span, condition, yes, no) => Ok(Expr::Conditional(
-                *span,
-                Boxed::new(alloc, condition.get().copy(alloc)?)?,
-                Boxed::new(alloc, yes.get().copy(alloc)?)?,
-                Boxed::new(alloc, no.get().copy(alloc)?)?,
-            )),
-            Expr::Concatenation(span, parts) => {
-                Ok(Expr::Concatenation(*span, copy_exprs(alloc, parts.as_slice())?))
+            Expr::BitSelect(name, span, index) => {
+                let index = copy_boxed(alloc, index.get())?;
+                bit_select(alloc, name, *span, index)
             }
-            Expr::MultipleConcatenation(span, count, parts) => Ok(Expr::MultipleConcatenation(
-                *span,
-                Boxed::new(alloc, count.get().copy(alloc)?)?,
-                copy_exprs(alloc, parts.as_slice())?,
-            )),
-            Expr::SystemFunctionCall(name, arguments) => Ok(Expr::SystemFunctionCall(
-                name.copy(alloc)?,
-                copy_exprs(alloc, arguments.as_slice())?,
-            )),
+            Expr::PartSelect(name, span, msb, lsb) => {
+                let msb = copy_boxed(alloc, msb.get())?;
+                let lsb = copy_boxed(alloc, lsb.get())?;
+                part_select(alloc, name, *span, msb, lsb)
+            }
+            Expr::IndexedPartSelect(name, span, base, width) => {
+                let base = copy_boxed(alloc, base.get())?;
+                let width = copy_boxed(alloc, width.get())?;
+                indexed_part_select(alloc, name, *span, base, width)
+            }
+            Expr::Parenthesized(span, inner) => {
+                let inner = copy_boxed(alloc, inner.get())?;
+                Ok(Expr::Parenthesized(*span, inner))
+            }
+            Expr::Unary(span, operator, operand) => {
+                let operand = copy_boxed(alloc, operand.get())?;
+                Ok(Expr::Unary(*span, *operator, operand))
+            }
+            Expr::Binary(span, operator, left, right) => {
+                let left = copy_boxed(alloc, left.get())?;
+                let right = copy_boxed(alloc, right.get())?;
+                Ok(Expr::Binary(*span, *operator, left, right))
+            }
+            Expr::Conditional(span, condition, yes, no) => {
+                let condition = copy_boxed(alloc, condition.get())?;
+                let yes = copy_boxed(alloc, yes.get())?;
+                let no = copy_boxed(alloc, no.get())?;
+                Ok(Expr::Conditional(*span, condition, yes, no))
+            }
+            Expr::Concatenation(span, parts) => {
+                let parts = copy_exprs(alloc, parts.as_slice())?;
+                Ok(Expr::Concatenation(*span, parts))
+            }
+            Expr::MultipleConcatenation(span, count, parts) => {
+                let count = copy_boxed(alloc, count.get())?;
+                let parts = copy_exprs(alloc, parts.as_slice())?;
+                Ok(Expr::MultipleConcatenation(*span, count, parts))
+            }
+            Expr::SystemFunctionCall(name, arguments) => {
+                let arguments = copy_exprs(alloc, arguments.as_slice())?;
+                call(alloc, name, arguments)
+            }
         }
     }
+}
+
+/// The same expression in a box.
+#[cycle(copy)]
+pub fn copy_boxed(alloc: Global, expr: &Expr) -> Result<Boxed<Expr>, AllocError>
+    ensures { IfOk result (λ b. b ≡ expr.now) }
+{
+    Boxed::new(alloc, expr.copy(alloc)?)
 }
 
 /// The same expressions.
@@ -129,4 +134,49 @@ pub fn copy_exprs(alloc: Global, parts: &[Expr]) -> Result<Listed<Expr>, AllocEr
         copies.push(part.copy(alloc)?)?;
     }
     Ok(copies)
+}
+
+/// `name[index]` of a copy of the name.
+fn bit_select(
+    alloc: Global,
+    name: &Identifier,
+    span: Span,
+    index: Boxed<Expr>,
+) -> Result<Expr, AllocError>
+    ensures { IfOk result (λ x. x ≡ e.BitSelect name.now span index) }
+{
+    Ok(Expr::BitSelect(name.copy(alloc)?, span, index))
+}
+
+/// `name[msb:lsb]` of a copy of the name.
+fn part_select(
+    alloc: Global,
+    name: &Identifier,
+    span: Span,
+    msb: Boxed<Expr>,
+    lsb: Boxed<Expr>,
+) -> Result<Expr, AllocError>
+    ensures { IfOk result (λ x. x ≡ e.PartSelect name.now span msb lsb) }
+{
+    Ok(Expr::PartSelect(name.copy(alloc)?, span, msb, lsb))
+}
+
+/// `name[base +: width]` of a copy of the name.
+fn indexed_part_select(
+    alloc: Global,
+    name: &Identifier,
+    span: Span,
+    base: Boxed<Expr>,
+    width: Boxed<Expr>,
+) -> Result<Expr, AllocError>
+    ensures { IfOk result (λ x. x ≡ e.IndexedPartSelect name.now span base width) }
+{
+    Ok(Expr::IndexedPartSelect(name.copy(alloc)?, span, base, width))
+}
+
+/// A call of a copy of the name.
+fn call(alloc: Global, name: &Identifier, arguments: Listed<Expr>) -> Result<Expr, AllocError>
+    ensures { IfOk result (λ x. x ≡ e.SystemFunctionCall name.now arguments) }
+{
+    Ok(Expr::SystemFunctionCall(name.copy(alloc)?, arguments))
 }

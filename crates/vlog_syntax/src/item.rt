@@ -10,8 +10,8 @@ use mcy_base::Span;
 #[derive(Drop)]
 pub struct Range {
     pub span: Span,
-    pub msb: Expr,
-    pub lsb: Expr,
+    pub msb: Boxed<Expr>,
+    pub lsb: Boxed<Expr>,
 }
 
 /// The direction of a port.
@@ -40,7 +40,7 @@ pub enum DataType {
 #[derive(Drop)]
 pub struct DeclaredName {
     pub name: Identifier,
-    pub initial: Option<Expr>,
+    pub initial: Option<Boxed<Expr>>,
 }
 
 /// `input a, b`: ports of one direction and type, which is a wire's where none is written.
@@ -78,7 +78,7 @@ pub enum ParameterType {
 #[derive(Drop)]
 pub struct ParameterAssignment {
     pub name: Identifier,
-    pub value: Expr,
+    pub value: Boxed<Expr>,
 }
 
 /// `parameter a = 1, b = 2`
@@ -103,14 +103,14 @@ pub enum Ports {
 #[derive(Drop)]
 pub struct NamedConnection {
     pub name: Identifier,
-    pub value: Option<Expr>,
+    pub value: Option<Boxed<Expr>>,
 }
 
 /// The ports of an instance.
 #[derive(Drop)]
 pub enum Connections {
     /// By their places. A place may be left empty.
-    Ordered(Listed<Option<Expr>>),
+    Ordered(Listed<Option<Boxed<Expr>>>),
     /// By their names.
     Named(Listed<NamedConnection>),
 }
@@ -143,14 +143,14 @@ pub enum ProcessKind {
 pub struct Process {
     pub span: Span,
     pub kind: ProcessKind,
-    pub body: Stmt,
+    pub body: Boxed<Stmt>,
 }
 
 /// `#value`, with the place of its `#`.
 #[derive(Drop)]
 pub struct Delay {
     pub span: Span,
-    pub value: Expr,
+    pub value: Boxed<Expr>,
 }
 
 /// `for (name = start; condition; step_name = step)`, of a loop generate construct, with the place of its `for`.
@@ -158,10 +158,10 @@ pub struct Delay {
 pub struct GenerateLoop {
     pub span: Span,
     pub name: Identifier,
-    pub start: Expr,
-    pub condition: Expr,
+    pub start: Boxed<Expr>,
+    pub condition: Boxed<Expr>,
     pub step_name: Identifier,
-    pub step: Expr,
+    pub step: Boxed<Expr>,
 }
 
 /// An item that is no generate construct.
@@ -193,7 +193,7 @@ pub enum Item {
     /// `for (..) block`
     LoopGenerate(GenerateLoop, Boxed<Item>),
     /// `if (condition) yes else no`
-    IfGenerate(Span, Expr, Boxed<Item>, Option<Boxed<Item>>),
+    IfGenerate(Span, Boxed<Expr>, Boxed<Item>, Option<Boxed<Item>>),
     /// `begin : name .. end`, as the block of a loop or a condition.
     GenerateBlock(Span, Option<Identifier>, Listed<Item>),
     /// `;`, in the place of a condition's block.

@@ -1,8 +1,10 @@
 //! Left sides of assignments (IEEE 1364-2005, A.8.5).
 ghost use Rattle.std.specs.Prelude.{◌≡◌, IfOk};
 ghost use Rattle.vlog_syntax.specs.Places.{left_first_token};
+ghost use Rattle.vlog_syntax.specs.declared.left_side.LeftSide.TheVariants as l;
 
-use crate::expr::Expr;
+use crate::boxed::Boxed;
+use crate::expr::{Expr, copy_boxed};
 use crate::identifier::Identifier;
 use crate::listed::Listed;
 use mcy_base::Span;
@@ -13,11 +15,11 @@ use std::alloc::{AllocError, Global};
 pub enum LeftSide {
     Name(Identifier),
     /// `name[index]`, with the place of its `[`.
-    BitSelect(Identifier, Span, Expr),
+    BitSelect(Identifier, Span, Boxed<Expr>),
     /// `name[msb:lsb]`, with the place of its `[`.
-    PartSelect(Identifier, Span, Expr, Expr),
+    PartSelect(Identifier, Span, Boxed<Expr>, Boxed<Expr>),
     /// `name[base +: width]`, with the place of its `[`.
-    IndexedPartSelect(Identifier, Span, Expr, Expr),
+    IndexedPartSelect(Identifier, Span, Boxed<Expr>, Boxed<Expr>),
     /// `{a, b}`, with the place of its `{`.
     Concatenation(Span, Listed<LeftSide>),
 }
@@ -43,31 +45,62 @@ impl LeftSide {
     {
         match self {
             LeftSide::Name(name) => Ok(LeftSide::Name(name.copy(alloc)?)),
-            LeftSide::BitSelect(name, span, index) => Ok(LeftSide::BitSelect(
-                name.copy(alloc)?,
-                *span,
-                index.copy(alloc)?,
-            )),
-            LeftSide::PartSelect(name, span, msb, lsb) => Ok(LeftSide::PartSelect(
-                name.copy(alloc)?,
-                *span,
-                msb.copy(alloc)?,
-                lsb.copy(alloc)?,
-            )),
-            LeftSide::IndexedPartSelect(name, span, base, width) => {
-                Ok(LeftSide::IndexedPartSelect(
-                    name.copy(alloc)?,
-                    *span,
-                    base.copy(alloc)?,
-                    width.copy(alloc)?,
-                ))
+            LeftSide::BitSelect(name, span, index) => bit_select(alloc, name, *span, index.get()),
+            LeftSide::PartSelect(name, span, msb, lsb) => {
+                part_select(alloc, name, *span, msb.get(), lsb.get())
             }
-            LeftSide::Concatenation(span, parts) => Ok(LeftSide::Concatenation(
-                *span,
-                copy_left_sides(alloc, parts.as_slice())?,
-            )),
+            LeftSide::IndexedPartSelect(name, span, base, width) => {
+                indexed_part_select(alloc, name, *span, base.get(), width.get())
+            }
+            LeftSide::Concatenation(span, parts) => {
+                let parts = copy_left_sides(alloc, parts.as_slice())?;
+                Ok(LeftSide::Concatenation(*span, parts))
+            }
         }
     }
+}
+
+/// The same `name[index]`.
+fn bit_select(
+    alloc: Global,
+    name: &Identifier,
+    span: Span,
+    index: &Expr,
+) -> Result<LeftSide, AllocError>
+    ensures { IfOk result (λ x. x ≡ l.BitSelect name.now span index.now) }
+{
+    let index = copy_boxed(alloc, index)?;
+    Ok(LeftSide::BitSelect(name.copy(alloc)?, span, index))
+}
+
+/// The same `name[msb:lsb]`.
+fn part_select(
+    alloc: Global,
+    name: &Identifier,
+    span: Span,
+    msb: &Expr,
+    lsb: &Expr,
+) -> Result<LeftSide, AllocError>
+    ensures { IfOk result (λ x. x ≡ l.PartSelect name.now span msb.now lsb.now) }
+{
+    let msb = copy_boxed(alloc, msb)?;
+    let lsb = copy_boxed(alloc, lsb)?;
+    Ok(LeftSide::PartSelect(name.copy(alloc)?, span, msb, lsb))
+}
+
+/// The same `name[base +: width]`.
+fn indexed_part_select(
+    alloc: Global,
+    name: &Identifier,
+    span: Span,
+    base: &Expr,
+    width: &Expr,
+) -> Result<LeftSide, AllocError>
+    ensures { IfOk result (λ x. x ≡ l.IndexedPartSelect name.now span base.now width.now) }
+{
+    let base = copy_boxed(alloc, base)?;
+    let width = copy_boxed(alloc, width)?;
+    Ok(LeftSide::IndexedPartSelect(name.copy(alloc)?, span, base, width))
 }
 
 /// The same left sides.

@@ -1,8 +1,9 @@
 //! Statements (IEEE 1364-2005, 9).
 ghost use Rattle.std.specs.Prelude.{◌≡◌, IfOk};
+ghost use Rattle.vlog_syntax.specs.declared.stmt.Stmt.TheVariants as s;
 
 use crate::boxed::Boxed;
-use crate::expr::{Expr, copy_exprs};
+use crate::expr::{Expr, copy_boxed, copy_exprs};
 use crate::identifier::Identifier;
 use crate::left_side::LeftSide;
 use crate::listed::Listed;
@@ -46,7 +47,7 @@ pub enum EventControl {
 pub struct Assignment {
     pub left: LeftSide,
     pub span: Span,
-    pub value: Expr,
+    pub value: Boxed<Expr>,
 }
 
 /// An argument of a system task.
@@ -54,7 +55,7 @@ pub struct Assignment {
 pub enum Argument {
     /// The characters of a string, its escapes replaced (IEEE 1364-2005, 3.6.3).
     String(Bytes, Span),
-    Expr(Expr),
+    Expr(Boxed<Expr>),
 }
 
 /// An item of a case statement. The default has no labels.
@@ -63,7 +64,7 @@ pub enum Argument {
 pub struct CaseItem {
     pub span: Span,
     pub labels: Listed<Expr>,
-    pub body: Stmt,
+    pub body: Boxed<Stmt>,
 }
 
 /// A statement. The place is that of its first token, attributes aside.
@@ -75,21 +76,21 @@ pub enum Stmt {
     /// `begin : name .. end`
     SeqBlock(Span, Option<Identifier>, Listed<Stmt>),
     /// `if (condition) yes else no`
-    Conditional(Span, Expr, Boxed<Stmt>, Option<Boxed<Stmt>>),
+    Conditional(Span, Boxed<Expr>, Boxed<Stmt>, Option<Boxed<Stmt>>),
     /// `case (selector) .. endcase`
-    Case(Span, CaseKind, Expr, Listed<CaseItem>),
+    Case(Span, CaseKind, Boxed<Expr>, Listed<CaseItem>),
     /// `for (start; condition; step) body`
-    For(Span, Assignment, Expr, Assignment, Boxed<Stmt>),
+    For(Span, Assignment, Boxed<Expr>, Assignment, Boxed<Stmt>),
     /// `while (condition) body`
-    While(Span, Expr, Boxed<Stmt>),
+    While(Span, Boxed<Expr>, Boxed<Stmt>),
     /// `repeat (count) body`
-    Repeat(Span, Expr, Boxed<Stmt>),
+    Repeat(Span, Boxed<Expr>, Boxed<Stmt>),
     /// `forever body`
     Forever(Span, Boxed<Stmt>),
     /// `@(..) body`
     EventControl(Span, EventControl, Boxed<Stmt>),
     /// `#delay body`
-    DelayControl(Span, Expr, Boxed<Stmt>),
+    DelayControl(Span, Boxed<Expr>, Boxed<Stmt>),
     /// `$name(..);`
     SystemTaskEnable(Identifier, Listed<Argument>),
     /// `left = value;`
@@ -146,7 +147,7 @@ impl Assignment {
         Ok(Assignment {
             left: self.left.copy(alloc)?,
             span: self.span,
-            value: self.value.copy(alloc)?,
+            value: copy_boxed(alloc, self.value.get())?,
         })
     }
 }
@@ -160,7 +161,7 @@ impl Argument {
             Argument::String(text, span) => {
                 Ok(Argument::String(Bytes::copy(alloc, text.as_slice())?, *span))
             }
-            Argument::Expr(expr) => Ok(Argument::Expr(expr.copy(alloc)?)),
+            Argument::Expr(expr) => Ok(Argument::Expr(copy_boxed(alloc, expr.get())?)),
         }
     }
 }
@@ -194,61 +195,52 @@ impl Stmt {
     {
         match self {
             Stmt::Null(span) => Ok(Stmt::Null(*span)),
-            Stmt::SeqBlock(span, name, body) => Ok(Stmt::SeqBlock(
-                *span,
-                copy_name(alloc, name)?,
-                copy_statements(alloc, body.as_slice())?,
-            )),
-            Stmt::Conditional(span, condition, yes, no) => Ok(Stmt::Conditional(
-                *span,
-                condition.copy(alloc)?,
-                Boxed::new(alloc, yes.get().copy(alloc)?)?,
+            Stmt::SeqBlock(span, name, body) => {
+                let body = copy_statements(alloc, body.as_slice())?;
+                seq_block(alloc, *span, name, body)
+            }
+            Stmt::Conditional(span, condition, yes, no) => {
+                let yes = copy_body(alloc, yes.get())?;
                 match no {
-                    Some(no) => Some(Boxed::new(alloc, no.get().copy(alloc)?)?),
-                    None => None,
-                },
-            )),
-            Stmt::Case(span, kind, selector, items) => Ok(Stmt::Case(
-                *span,
-                *kind,
-                selector.copy(alloc)?,
-                copy_items(alloc, items.as_slice())?,
-            )),
-            Stmt::For(span, start, condition, step, body) => Ok(Stmt::For(
-                *span,
-                start.copy(alloc)?,
-                condition.copy(alloc)?,
-                step.copy(alloc)?,
-                Boxed::new(alloc, body.get().copy(alloc)?)?,
-            )),
-            Stmt::While(span, condition, body) => Ok(Stmt::While(
-                *span,
-                condition.copy(alloc)?,
-                Boxed::new(alloc, body.get().copy(alloc)?)?,
-            )),
-            Stmt::Repeat(span, count, body) => Ok(Stmt::Repeat(
-                *span,
-                count.copy(alloc)?,
-                Boxed::new(alloc, body.get().copy(alloc)?)?,
-            )),
-            Stmt::Forever(span, body) => Ok(Stmt::Forever(
-                *span,
-                Boxed::new(alloc, body.get().copy(alloc)?)?,
-            )),
-            Stmt::EventControl(span, control, body) => Ok(Stmt::EventControl(
-                *span,
-                control.copy(alloc)?,
-                Boxed::new(alloc, body.get().copy(alloc)?)?,
-            )),
-            Stmt::DelayControl(span, delay, body) => Ok(Stmt::DelayControl(
-                *span,
-                delay.copy(alloc)?,
-                Boxed::new(alloc, body.get().copy(alloc)?)?,
-            )),
-            Stmt::SystemTaskEnable(name, arguments) => Ok(Stmt::SystemTaskEnable(
-                name.copy(alloc)?,
-                copy_arguments(alloc, arguments.as_slice())?,
-            )),
+                    Some(no) => {
+                        let no = copy_body(alloc, no.get())?;
+                        conditional(alloc, *span, condition.get(), yes, Some(no))
+                    }
+                    None => conditional(alloc, *span, condition.get(), yes, None),
+                }
+            }
+            Stmt::Case(span, kind, selector, items) => {
+                let items = copy_items(alloc, items.as_slice())?;
+                case(alloc, *span, *kind, selector.get(), items)
+            }
+            Stmt::For(span, start, condition, step, body) => {
+                let body = copy_body(alloc, body.get())?;
+                for_loop(alloc, *span, start, condition.get(), step, body)
+            }
+            Stmt::While(span, condition, body) => {
+                let body = copy_body(alloc, body.get())?;
+                let (condition, body) = guarded(alloc, condition.get(), body)?;
+                Ok(Stmt::While(*span, condition, body))
+            }
+            Stmt::Repeat(span, count, body) => {
+                let body = copy_body(alloc, body.get())?;
+                let (count, body) = guarded(alloc, count.get(), body)?;
+                Ok(Stmt::Repeat(*span, count, body))
+            }
+            Stmt::Forever(span, body) => {
+                let body = copy_body(alloc, body.get())?;
+                Ok(Stmt::Forever(*span, body))
+            }
+            Stmt::EventControl(span, control, body) => {
+                let body = copy_body(alloc, body.get())?;
+                event_control(alloc, *span, control, body)
+            }
+            Stmt::DelayControl(span, delay, body) => {
+                let body = copy_body(alloc, body.get())?;
+                let (delay, body) = guarded(alloc, delay.get(), body)?;
+                Ok(Stmt::DelayControl(*span, delay, body))
+            }
+            Stmt::SystemTaskEnable(name, arguments) => task_enable(alloc, name, arguments),
             Stmt::BlockingAssignment(assignment) => {
                 Ok(Stmt::BlockingAssignment(assignment.copy(alloc)?))
             }
@@ -257,6 +249,103 @@ impl Stmt {
             }
         }
     }
+}
+
+/// The same statement in a box.
+#[cycle(copy)]
+fn copy_body(alloc: Global, statement: &Stmt) -> Result<Boxed<Stmt>, AllocError>
+    ensures { IfOk result (λ b. b ≡ statement.now) }
+{
+    Boxed::new(alloc, statement.copy(alloc)?)
+}
+
+/// A copy of the expression, and the statement behind it.
+fn guarded(
+    alloc: Global,
+    guard: &Expr,
+    body: Boxed<Stmt>,
+) -> Result<(Boxed<Expr>, Boxed<Stmt>), AllocError>
+    ensures { IfOk result (λ p. (p.0 ≡ guard.now) × (p.1 ≡ body)) }
+{
+    Ok((copy_boxed(alloc, guard)?, body))
+}
+
+/// A block with a copy of the name.
+fn seq_block(
+    alloc: Global,
+    span: Span,
+    name: &Option<Identifier>,
+    body: Listed<Stmt>,
+) -> Result<Stmt, AllocError>
+    ensures { IfOk result (λ x. x ≡ s.SeqBlock span name.now body) }
+{
+    Ok(Stmt::SeqBlock(span, copy_name(alloc, name)?, body))
+}
+
+/// An `if` with a copy of the condition.
+fn conditional(
+    alloc: Global,
+    span: Span,
+    condition: &Expr,
+    yes: Boxed<Stmt>,
+    no: Option<Boxed<Stmt>>,
+) -> Result<Stmt, AllocError>
+    ensures { IfOk result (λ x. x ≡ s.Conditional span condition.now yes no) }
+{
+    Ok(Stmt::Conditional(span, copy_boxed(alloc, condition)?, yes, no))
+}
+
+/// A case statement with a copy of the selector.
+fn case(
+    alloc: Global,
+    span: Span,
+    kind: CaseKind,
+    selector: &Expr,
+    items: Listed<CaseItem>,
+) -> Result<Stmt, AllocError>
+    ensures { IfOk result (λ x. x ≡ s.Case span kind selector.now items) }
+{
+    Ok(Stmt::Case(span, kind, copy_boxed(alloc, selector)?, items))
+}
+
+/// A loop with copies of its start, its condition and its step.
+fn for_loop(
+    alloc: Global,
+    span: Span,
+    start: &Assignment,
+    condition: &Expr,
+    step: &Assignment,
+    body: Boxed<Stmt>,
+) -> Result<Stmt, AllocError>
+    ensures { IfOk result (λ x. x ≡ s.For span start.now condition.now step.now body) }
+{
+    let start = start.copy(alloc)?;
+    let step = step.copy(alloc)?;
+    Ok(Stmt::For(span, start, copy_boxed(alloc, condition)?, step, body))
+}
+
+/// A statement behind a copy of its event control.
+fn event_control(
+    alloc: Global,
+    span: Span,
+    control: &EventControl,
+    body: Boxed<Stmt>,
+) -> Result<Stmt, AllocError>
+    ensures { IfOk result (λ x. x ≡ s.EventControl span control.now body) }
+{
+    Ok(Stmt::EventControl(span, control.copy(alloc)?, body))
+}
+
+/// The same call of a system task.
+fn task_enable(
+    alloc: Global,
+    name: &Identifier,
+    arguments: &Listed<Argument>,
+) -> Result<Stmt, AllocError>
+    ensures { IfOk result (λ x. x ≡ s.SystemTaskEnable name.now arguments.now) }
+{
+    let arguments = copy_arguments(alloc, arguments.as_slice())?;
+    Ok(Stmt::SystemTaskEnable(name.copy(alloc)?, arguments))
 }
 
 impl CaseItem {
@@ -268,7 +357,7 @@ impl CaseItem {
         Ok(CaseItem {
             span: self.span,
             labels: copy_exprs(alloc, self.labels.as_slice())?,
-            body: self.body.copy(alloc)?,
+            body: copy_body(alloc, self.body.get())?,
         })
     }
 }

@@ -63,12 +63,10 @@ fn left_selected(name: Identifier, select: Option<Select>) -> LeftSide
 {
     match select {
         None => LeftSide::Name(name),
-        Some(Select::Bit(span, index)) => LeftSide::BitSelect(name, span, index.into_inner()),
-        Some(Select::Part(span, msb, lsb)) => {
-            LeftSide::PartSelect(name, span, msb.into_inner(), lsb.into_inner())
-        }
+        Some(Select::Bit(span, index)) => LeftSide::BitSelect(name, span, index),
+        Some(Select::Part(span, msb, lsb)) => { LeftSide::PartSelect(name, span, msb, lsb) }
         Some(Select::Indexed(span, base, width)) => {
-            LeftSide::IndexedPartSelect(name, span, base.into_inner(), width.into_inner())
+            LeftSide::IndexedPartSelect(name, span, base, width)
         }
     }
 }
