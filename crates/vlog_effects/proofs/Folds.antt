@@ -1,0 +1,46 @@
+-- Left sides, items of cases, and the bits of labels that are no matter, by their variants.
+use Rattle.std.proofs.Common.{◌≡◌, ℕ, List, [], ◌∷◌, map, sym, ◌∙◌, ap, rules}
+use Rattle.mcy_base.specs.declared.span.Span.{Span}
+use Rattle.vlog_syntax.specs.declared.identifier.Identifier.{Identifier}
+use Rattle.vlog_syntax.specs.declared.identifier.Number.{Number}
+use Rattle.vlog_syntax.specs.declared.expr.Expr.{Expr}
+use Rattle.vlog_syntax.specs.declared.expr.Expr.TheVariants as ev
+use Rattle.vlog_syntax.specs.declared.expr.Expr.TheOpen as e
+use Rattle.vlog_syntax.specs.declared.expr.Expr.TheFolds.{fold-roll-Expr}
+use Rattle.vlog_syntax.specs.declared.left_side.LeftSide.{LeftSide, out-LeftSide}
+use Rattle.vlog_syntax.specs.declared.left_side.LeftSide.TheViews.{the_lemmas}
+use Rattle.vlog_syntax.specs.declared.left_side.LeftSide.TheVariants as lv
+use Rattle.vlog_syntax.specs.declared.left_side.LeftSide.TheOpen as l
+use Rattle.vlog_syntax.specs.declared.left_side.LeftSide.TheFolds.{fold-roll-LeftSide}
+use Rattle.vlog_syntax.specs.declared.stmt.CaseKind.{CaseKind}
+use Rattle.vlog_syntax.specs.declared.stmt.CaseItem.{CaseItem, roll-CaseItem}
+use Rattle.vlog_syntax.specs.declared.stmt.Stmt.{Stmt}
+use Rattle.vlog_syntax.specs.declared.stmt.Stmt.TheOpen.{CaseItem-F}
+use Rattle.vlog_syntax.specs.declared.stmt.Stmt.TheFolds.{fold-roll-CaseItem}
+use Rattle.vlog_effects.specs.LeftSides.{Whole, Bit, Range, Indexed, Part, concatenated, parts_step, parts_of}
+use Rattle.vlog_effects.specs.Steps.{InNames, Item, ignored, ignored_step, dont_care, step_of, item_of, steps_of}
+use Rattle.vlog_effects.specs.Laws.{item_steps}
+
+pub parts-name : (n : Identifier) → parts_of (lv.Name n) ≡ record { name = n; select = Whole } ∷ []
+parts-name n = ap parts_of (sym (lv.rolls-Name n)) ∙ fold-roll-LeftSide (List Part) parts_step (l.Name n)
+
+pub parts-bit : (n : Identifier) (at : Span) (i : Expr) → parts_of (lv.BitSelect n at i) ≡ record { name = n; select = Bit at i } ∷ []
+parts-bit n at i = ap parts_of (sym (lv.rolls-BitSelect n at i)) ∙ fold-roll-LeftSide (List Part) parts_step (l.BitSelect n at i)
+
+pub parts-range : (n : Identifier) (at : Span) (msb lsb : Expr) → parts_of (lv.PartSelect n at msb lsb) ≡ record { name = n; select = Range at msb lsb } ∷ []
+parts-range n at msb lsb = ap parts_of (sym (lv.rolls-PartSelect n at msb lsb)) ∙ fold-roll-LeftSide (List Part) parts_step (l.PartSelect n at msb lsb)
+
+pub parts-indexed : (n : Identifier) (at : Span) (base count : Expr) → parts_of (lv.IndexedPartSelect n at base count) ≡ record { name = n; select = Indexed at base count } ∷ []
+parts-indexed n at base count = ap parts_of (sym (lv.rolls-IndexedPartSelect n at base count)) ∙ fold-roll-LeftSide (List Part) parts_step (l.IndexedPartSelect n at base count)
+
+pub parts-concatenation : (at : Span) (parts : List LeftSide) → parts_of (lv.Concatenation at parts) ≡ concatenated (map parts_of parts)
+parts-concatenation at parts = ap parts_of (sym (lv.rolls-Concatenation at parts)) ∙ fold-roll-LeftSide (List Part) parts_step (l.Concatenation at parts)
+
+pub dont_care-number : (kind : CaseKind) (n : Number) → dont_care kind (ev.Number n) ≡ ignored kind n
+dont_care-number kind n = ap (dont_care kind) (sym (ev.rolls-Number n)) ∙ fold-roll-Expr ℕ (ignored_step kind) (e.Number n)
+
+pub out-name : (n : Identifier) → out-LeftSide (lv.Name n) ≡ l.Name n
+out-name n = ap out-LeftSide (sym (lv.rolls-Name n)) ∙ search (rules, the_lemmas)
+
+pub steps-item : (x : CaseItem-F Stmt CaseItem) → item_steps (roll-CaseItem x) ≡ record { place = x.span; labels = x.labels; body = steps_of x.body }
+steps-item x = fold-roll-CaseItem InNames Item step_of item_of x

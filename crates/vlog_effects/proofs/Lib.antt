@@ -1,0 +1,15 @@
+pub mod Bools
+pub mod Numbers
+pub mod Writing
+pub mod Variants
+pub mod Loops
+pub mod Turning
+pub mod Running
+pub mod Folds
+pub mod Reversal
+pub mod Kept
+pub mod Sizes
+pub mod Pointwise
+pub mod Alike
+pub mod Unlatched
+pub mod Cases

@@ -1,0 +1,7 @@
+pub mod Expressions
+pub mod Steps
+pub mod LeftSides
+pub mod Effects
+pub mod Latches
+pub mod Laws
+pub mod Examples
