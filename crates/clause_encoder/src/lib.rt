@@ -1,0 +1,6 @@
+//! Clauses whose free bits settle every other variable by propagation.
+#![tactic(auto)]
+
+mod miter;
+
+pub use miter::Miter;

@@ -1,0 +1,55 @@
+use Rattle.std.proofs.Common.{◌≡◌, ◌≢◌, ◌<◌, ◌≤◌, ◌+◌, ◌++◌, ◌∷◌, [], ℕ, None, length, ap, sym, ◌∙◌, subst, arith}
+use Rattle.std.specs.Prelude.{All, sum_by}
+use Rattle.std.proofs.lemmas.List.{length_push}
+use Rattle.std.proofs.lemmas.List.Sums.{sum_by_push}
+use Rattle.clause_store.specs.Clauses.{Values, IsModel, AreOver}
+use Rattle.clause_store.specs.Propagation.{Known, IsQuiet}
+use Rattle.lrat_checker.specs.Tables.{known_of}
+use Rattle.sat_solver.specs.Found.{Hunt, listed_values, values_of}
+use Rattle.sat_solver.specs.Trails.{IsDone}
+use Rattle.sat_solver.proofs.Hunts.{end-found, end-none}
+use Rattle.sat_solver.proofs.Models.{settled, model-by_quiet, quiet-left}
+use Rattle.sat_solver.proofs.search.Search.step.Goals as goal
+
+pub invariant_of-self-in-Some : goal.invariant_of-self-in-Some
+invariant_of-self-in-Some c =
+    let step = c.in_ok-learn-in-Some.ensures.ok in
+    let fewer : length c.self.inside.checker.lemmas < c.self.inside.limit = rw (← c.self.view_is) at c.requires.fewer in
+    let count : length (c.self.inside.checker.lemmas ++ step.lemma ∷ []) ≡ length c.self.inside.checker.lemmas + 1 = length_push c.self.inside.checker.lemmas step.lemma in
+    let sum : sum_by length (c.self.inside.checker.lemmas ++ step.lemma ∷ []) ≡ sum_by length c.self.inside.checker.lemmas + length step.lemma = sum_by_push length c.self.inside.checker.lemmas step.lemma in
+    record {
+      miter = rw step.added c.self.invariant.miter;
+      free = rw step.added c.self.invariant.free;
+      limit = c.self.invariant.limit;
+      lemmas = rw step.added (omega (arith, count, fewer));
+      literals = rw step.added (omega (arith, count, sum, step.few, c.self.invariant.literals));
+      len = rw step.added (c.learn.ensures.len ∙ c.next_conflict.ensures.len ∙ c.self.invariant.len);
+      ready = c.learn.ensures.ready;
+    }
+
+pub returns-in_ok-model-in-None-clause-found : goal.returns-in_ok-model-in-None-clause-found
+returns-in_ok-model-in-None-clause-found c =
+    let done : IsDone (c.self.inside.checker.clauses ++ c.self.inside.checker.lemmas) c.self.inside.checker.free c.next_conflict.new.trail.values.items = rw (c.in-None.is, c.store.ensures.clauses, c.self.invariant.free) at c.in_ok-next_conflict.ensures.end in
+    let known : Known = known_of c.next_conflict.new.trail.values.items in
+    let over : AreOver c.self.inside.checker.variables c.self.inside.checker.clauses = c.self.invariant.miter.over in
+    let quiet : All (IsQuiet (known_of c.next_conflict.new.trail.values.items)) c.self.inside.checker.clauses = quiet-left (known_of c.next_conflict.new.trail.values.items) c.self.inside.checker.clauses c.self.inside.checker.lemmas done.quiet in
+    let all : (v : ℕ) → 0 < v → v ≤ c.self.inside.checker.variables → known_of c.next_conflict.new.trail.values.items v ≢ None = λ v low high. settled c.self.inside.checker.clauses c.self.inside.checker.variables c.self.inside.checker.free (known_of c.next_conflict.new.trail.values.items) c.self.invariant.miter.settles quiet done.bits (v + 1) v (omega arith) low high in
+    let model : IsModel (values_of (known_of c.next_conflict.new.trail.values.items)) c.self.inside.checker.clauses = model-by_quiet c.self.inside.checker.clauses c.self.inside.checker.variables (known_of c.next_conflict.new.trail.values.items) over all quiet in
+    let same : listed_values c.in_ok-model-in-None.field-0 ≡ values_of (known_of c.next_conflict.new.trail.values.items) = λ i v. (rw c.deref.ensures.value at (c.in_ok-model-in-None.ensures v)) i in
+    let P : Values → Type 0 = λ values. IsModel values c.self.inside.checker.clauses in
+    (subst P (sym same) model, rw (← c.self.view_is) at c.requires)
+
+pub returns-in_ok-learn-in-Some-clause-found : goal.returns-in_ok-learn-in-Some-clause-found
+returns-in_ok-learn-in-Some-clause-found c =
+    let step = c.in_ok-learn-in-Some.ensures.ok in
+    let some : All (λ e. 0 < length e) c.self.inside.checker.lemmas = rw (← c.self.view_is) at c.requires.none_empty in
+    let hunt : Hunt = record { log = c.learn.new.checker; limit = c.self.inside.limit } in
+    end-found hunt c.self.inside.checker.lemmas step.lemma c.end.result (ap (λ log. log.lemmas) step.added) some c.end.ensures
+
+pub returns-in_ok-learn-in-Some-clause-none : goal.returns-in_ok-learn-in-Some-clause-none
+returns-in_ok-learn-in-Some-clause-none c =
+    let step = c.in_ok-learn-in-Some.ensures.ok in
+    let some : All (λ e. 0 < length e) c.self.inside.checker.lemmas = rw (← c.self.view_is) at c.requires.none_empty in
+    let fewer : length c.self.inside.checker.lemmas < c.self.inside.limit = rw (← c.self.view_is) at c.requires.fewer in
+    let hunt : Hunt = record { log = c.learn.new.checker; limit = c.self.inside.limit } in
+    rw (← c.self.view_is) (end-none hunt c.self.inside.checker.lemmas step.lemma c.end.result (ap (λ log. log.lemmas) step.added) some fewer c.end.ensures)
