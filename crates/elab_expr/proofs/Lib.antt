@@ -5,3 +5,8 @@ pub mod UnaryLemmas
 pub mod NodeLemmas
 pub mod Extensions
 pub mod Selects
+pub mod Plans
+pub mod Growing
+pub mod Adding
+pub mod Arms
+pub mod Facts

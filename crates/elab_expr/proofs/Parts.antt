@@ -1,5 +1,5 @@
 -- The parts of a builder.
-use Rattle.std.proofs.Common.{◌≡◌, ℕ, zero, suc, ◌+◌, ◌≤◌, Bool, List, [], ◌∷◌, ◌++◌, length, slice_get, refl, sym, ◌∙◌, ap, subst, arith, add-zero}
+use Rattle.std.proofs.Common.{◌≡◌, ℕ, zero, suc, ◌+◌, ◌*◌, ◌<◌, ◌≤◌, Bool, List, [], ◌∷◌, ◌++◌, length, slice_get, refl, sym, ◌∙◌, ap, subst, arith, append_assoc, add-zero}
 use Rattle.std.specs.Prelude.{Some}
 use Rattle.std.proofs.lemmas.List.{length-append}
 use Rattle.mcy_base.specs.declared.span.Span.{Span}
@@ -10,10 +10,12 @@ use Rattle.netlist_core.specs.declared.cell.CellKind.{CellKind}
 use Rattle.netlist_core.specs.Numbers.{number}
 use Rattle.netlist_core.specs.Cells.{cell_value}
 use Rattle.netlist_core.specs.Runs.{Nets, values, plain, input_ports, output_port, ports_seen, Computes}
-use Rattle.netlist_core.specs.Shapes.{shape_of, widths, HasWidths}
+use Rattle.netlist_core.specs.Shapes.{HasShape, shape_of, widths, HasWidths}
 use Rattle.netlist_core.specs.Checked.{AllWide}
+use Rattle.vlog_meaning.specs.Scopes.{Store}
+use Rattle.elab_expr.specs.declared.builder.Joint.{Joint}
 use Rattle.elab_expr.specs.declared.builder.Signal.{Signal}
-use Rattle.elab_expr.specs.Building.{Building, RunsIn, Grows, AllBelow, PortsBelow, fresh_bits, own_bits, with_cell}
+use Rattle.elab_expr.specs.Building.{Building, RunsIn, Grows, AreAdded, AllBelow, PortsBelow, fresh_bits, own_bits, with_cell, store}
 
 -- one net more
 pub fresh_step : (from k : ℕ) → fresh_bits from (suc k) ≡ fresh_bits from k ++ Net (from + k) ∷ []
@@ -33,10 +35,79 @@ own_more (x ∷ xs) s = let e = own_more xs s in omega (arith, e)
 
 -- Nets that stand there.
 
+pub below_later : (n m : ℕ) (bits : List Bit) → n ≤ m → AllBelow n bits → AllBelow m bits
+below_later n m [] le h = tt
+below_later n m (Fixed b ∷ more) le h = below_later n m more le h
+below_later n m (Net k ∷ more) le h = (omega (arith, h.0), below_later n m more le h.1)
+
+pub ports_later : (n m : ℕ) (ports : List (List Bit)) → n ≤ m → PortsBelow n ports → PortsBelow m ports
+ports_later n m [] le h = tt
+ports_later n m (bits ∷ more) le h = (below_later n m bits le h.0, ports_later n m more le h.1)
+
 pub below_append : (n : ℕ) (xs ys : List Bit) → AllBelow n xs → AllBelow n ys → AllBelow n (xs ++ ys)
 below_append n [] ys h k = k
 below_append n (Fixed b ∷ xs) ys h k = below_append n xs ys h k
 below_append n (Net i ∷ xs) ys h k = (h.0, below_append n xs ys h.1 k)
+
+pub ports_append : (n : ℕ) (xs ys : List (List Bit)) → PortsBelow n xs → PortsBelow n ys → PortsBelow n (xs ++ ys)
+ports_append n [] ys h k = k
+ports_append n (x ∷ xs) ys h k = (h.0, ports_append n xs ys h.1 k)
+
+pub fresh_below : (from k : ℕ) → AllBelow (from + k) (fresh_bits from k)
+fresh_below from zero = tt
+fresh_below from (suc k) =
+    let e : from + 1 + k ≡ from + suc k = omega arith in
+    (omega arith, subst (λ (n : ℕ). AllBelow n (fresh_bits (from + 1) k)) e (fresh_below (from + 1) k))
+
+pub nets_le : (from to : ℕ) (cells : List Cell) → AreAdded from cells to → from ≤ to
+nets_le from to [] h = omega (arith, h)
+nets_le from to (x ∷ more) h = let e = nets_le (from + length (output_port x.ports)) to more h.4 in omega (arith, e)
+
+pub added_append : (from mid to : ℕ) (xs ys : List Cell) → AreAdded from xs mid → AreAdded mid ys to → AreAdded from (xs ++ ys) to
+added_append from mid to [] ys h k = subst (λ (n : ℕ). AreAdded n ys to) (sym h) k
+added_append from mid to (x ∷ xs) ys h k = (h.0, h.1, h.2, h.3, added_append (from + length (output_port x.ports)) mid to xs ys h.4 k)
+
+-- Builders that grow.
+
+pub grows_not : (b : Building) → Grows b b
+grows_not b = record { more = []; is = ap (λ (l : List Cell). record b { cells = l }) (sym (append_nil b.cells)); added = refl }
+  where
+    append_nil : (l : List Cell) → l ++ [] ≡ l
+    append_nil [] = refl
+    append_nil (x ∷ l) = ap (λ (t : List Cell). x ∷ t) (append_nil l)
+
+pub grows_not_more : (b : Building) → (grows_not b).more ≡ []
+unfolding grows_not
+grows_not_more b = refl
+
+pub grown_nets : (a b : Building) → Grows a b → a.nets ≤ b.nets
+grown_nets a b g = nets_le a.nets b.nets g.more g.added
+
+pub grown_cells : (a b : Building) (g : Grows a b) → b.cells ≡ a.cells ++ g.more
+grown_cells a b g = ap (λ (x : Building). x.cells) g.is
+
+abbrev pub grows_again : (a b c : Building) → Grows a b → Grows b c → Grows a c
+grows_again a b c g h = record {
+  more = g.more ++ h.more;
+  is = h.is ∙ ap (λ (x : Building). record x { cells = x.cells ++ h.more; nets = c.nets }) g.is ∙ ap (λ (l : List Cell). record a { cells = l; nets = c.nets }) (append_assoc a.cells g.more h.more);
+  added = added_append a.nets b.nets c.nets g.more h.more g.added h.added;
+}
+
+-- the signals are what they were
+pub store_same : (a b : Building) (nets : Nets) → Grows a b → store b nets ≡ store a nets
+store_same a b nets g = ap (λ (x : Building). store x nets) g.is
+
+earlier_cell : (cells more : List Cell) (k : ℕ) (cell : Cell) → slice_get cells k ≡ Some cell → slice_get (cells ++ more) k ≡ Some cell
+earlier_cell [] more k cell e = cc
+earlier_cell (x ∷ cells) more zero cell e = e
+earlier_cell (x ∷ cells) more (suc k) cell e = earlier_cell cells more k cell e
+
+-- a run of what grew is one of what it grew from
+pub runs_before : (a b : Building) (nets : Nets) → Grows a b → RunsIn b nets → RunsIn a nets
+runs_before a b nets g runs = record {
+  computed = λ c cell at. runs.computed c cell (subst (λ (l : List Cell). slice_get l c ≡ Some cell) (sym (grown_cells a b g)) (earlier_cell a.cells g.more c cell at));
+  joined = λ k joint at. runs.joined k joint (subst (λ (l : List Joint). slice_get l k ≡ Some joint) (sym (ap (λ (x : Building). x.joints) g.is)) at);
+}
 
 -- A cell that is added.
 
@@ -78,6 +149,10 @@ grows_cell b kind signed inputs w span shape wide some narrow below =
         ap (λ (n : ℕ). b.nets + n) (ap length out ∙ long),
       );
     }
+
+pub grows_cell_more : (b : Building) (kind : CellKind) (signed : Bool) (inputs : List (List Bit)) (w : ℕ) (span : Span) (shape : HasWidths (shape_of kind) (widths inputs ++ w ∷ [])) (wide : AllWide inputs) (some : 1 ≤ w) (narrow : w ≤ 128) (below : PortsBelow b.nets inputs) → (grows_cell b kind signed inputs w span shape wide some narrow below).more ≡ next_cell b kind signed inputs w span ∷ []
+unfolding grows_cell
+grows_cell_more b kind signed inputs w span shape wide some narrow below = refl
 
 -- which cell it is plays no part where nothing is mutated
 ports_any : (nets : Nets) (c d p : ℕ) (ports : List (List Bit)) → ports_seen (plain nets) c p ports ≡ ports_seen (plain nets) d p ports

@@ -1,16 +1,20 @@
 -- A netlist that is being built, and its runs.
-use Rattle.std.specs.Prelude.{◌≡◌, ℕ, zero, suc, ◌+◌, ◌<◌, Bool, List, [], ◌∷◌, ◌++◌, slice_get, slice_set, slice_index_or, Some, length}
+use Rattle.std.specs.Prelude.{◌≡◌, ℕ, zero, suc, ◌+◌, ◌≤◌, ◌<◌, Bool, List, [], ◌∷◌, ◌++◌, slice_get, slice_set, slice_index_or, Option, Some, None, length}
 use Rattle.mcy_base.specs.declared.span.Span.{Span}
 use Rattle.netlist_core.specs.declared.bit.Bit.{Bit}
 use Rattle.netlist_core.specs.declared.bit.Bit.TheVariants.{Fixed, Net}
 use Rattle.netlist_core.specs.declared.cell.Cell.{Cell}
 use Rattle.netlist_core.specs.declared.cell.CellKind.{CellKind}
 use Rattle.netlist_core.specs.declared.port.Register.{Register}
-use Rattle.netlist_core.specs.Runs.{Nets, bit_value, plain, input_ports, output_port, Computes}
+use Rattle.netlist_core.specs.Numbers.{number}
+use Rattle.netlist_core.specs.Runs.{Nets, bit_value, values, plain, input_ports, output_port, Computes}
 use Rattle.netlist_core.specs.Shapes.{HasShape}
 use Rattle.netlist_core.specs.Checked.{AllWide}
 use Rattle.elab_expr.specs.declared.builder.Joint.{Joint}
 use Rattle.elab_expr.specs.declared.builder.Signal.{Signal as Declared}
+use Rattle.vlog_meaning.specs.declared.scope.Decl.{Decl}
+use Rattle.vlog_meaning.specs.declared.scope.Decl.TheVariants.{Signal, Constant}
+use Rattle.vlog_meaning.specs.Scopes.{Names, Store}
 
 -- The cells so far, the nets that have a bit's value, the registers, the signals as they were declared, the bits that
 -- each signal has now, and a number above all nets.
@@ -90,3 +94,16 @@ pub record Grows (old new : Building) : Type 0 where
   pub more : List Cell
   pub is : new ≡ record old { cells = old.cells ++ more; nets = new.nets }
   pub added : AreAdded old.nets more new.nets
+
+-- the value of each signal in a run
+abbrev pub store : Building → Nets → Store
+store b nets k = number (values nets (signal b k))
+
+-- a declared signal is one that the builder has, with its width, and its bits stand there
+abbrev pub IsSignal : Building → Option Decl → Type 0
+IsSignal b (Some (Signal width low is_signed number)) = (number < length b.signals) × (length (signal b number) ≡ width) × AllBelow b.nets (signal b number)
+IsSignal b (Some (Constant value is_signed)) = Unit {0}
+IsSignal b None = Unit {0}
+
+abbrev pub HasSignals : Names → Building → Type 0
+HasSignals names b = (name : List ℕ) → IsSignal b (names name)

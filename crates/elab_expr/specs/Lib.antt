@@ -1,4 +1,7 @@
 pub mod Building
+pub mod Evaluates
+pub mod Expressions
 pub mod Kinds
+pub mod Made
 pub mod Refusals
 pub mod Wiring

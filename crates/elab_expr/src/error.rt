@@ -1,9 +1,11 @@
 //! Why there are no cells.
 ghost use Rattle.std.specs.Prelude.{◌≡◌};
 ghost use Rattle.elab_expr.specs.declared.error.ElabError.TheVariants.{Memory};
+ghost use Rattle.elab_expr.specs.Expressions.{elab_error};
 
 use mcy_base::{Kind, Span};
 use std::alloc::AllocError;
+use vlog_meaning::{Cause, Fault};
 use vlog_syntax::Feature;
 
 /// Why an expression makes no cells, with the place.
@@ -30,5 +32,24 @@ impl From<AllocError> for ElabError {
 
     fn from(_error: AllocError) -> Self {
         ElabError::Memory
+    }
+}
+
+impl ElabError {
+    /// A fault of an expression, or what is not supported in it.
+    pub fn of(fault: Fault) -> ElabError
+        ensures { result ≡ elab_error fault }
+    {
+        let span = fault.span;
+        match fault.cause {
+            Cause::Unknown => ElabError::Unknown(span),
+            Cause::NotConstant => ElabError::NotConstant(span),
+            Cause::DivideByZero => ElabError::DivideByZero(span),
+            Cause::TooWide => ElabError::TooWide(span),
+            Cause::RangeForm => ElabError::Unsupported(span, Feature::RangeForm),
+            Cause::SystemFunction => ElabError::Unsupported(span, Feature::SystemFunction),
+            Cause::DivideOrPower => ElabError::Unsupported(span, Feature::DivideOrPower),
+            Cause::IndexedBase => ElabError::Unsupported(span, Feature::IndexedBase),
+        }
     }
 }

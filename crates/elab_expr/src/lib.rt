@@ -2,9 +2,13 @@
 #![tactic(auto)]
 
 mod builder;
+mod constant;
 mod error;
 mod kinds;
+mod names;
 mod nodes;
+mod operators;
+mod unsupported;
 mod wiring;
 
 pub use builder::{Builder, Joint, Signal};

@@ -1,0 +1,7 @@
+use Rattle.std.proofs.Common.{◌≡◌}
+use Rattle.vlog_meaning.specs.Scopes.{names_of, decl_shape}
+use Rattle.elab_expr.proofs.Adding.{named_holds}
+use Rattle.elab_expr.proofs.names.named.Goals as goal
+
+pub returns : goal.returns
+returns c = named_holds c.args.builder.now c.in_ok-bits.bits c.in_ok-extended_bits.field-0 (decl_shape (names_of c.args.scope.now c.args.name.now.name)) c.args.context (names_of c.args.scope.now c.args.name.now.name) c.in_ok-bits.ensures.long c.in_ok-bits.ensures.value c.in_ok-bits.ensures.below c.in_ok-extended_bits.ensures.long (rw c.as_slice.ensures at c.in_ok-extended_bits.ensures.value) (rw c.as_slice.ensures at c.in_ok-extended_bits.ensures.below)

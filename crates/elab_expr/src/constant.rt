@@ -1,0 +1,76 @@
+//! Constants in expressions: their bits, and the places and counts that they are.
+ghost use Rattle.std.specs.Prelude.{◌≡◌, ◌≤◌, ◌^◌, ℕ, pos, length, IfOk, IsTrue};
+ghost use Rattle.netlist_core.specs.Numbers.{number};
+ghost use Rattle.netlist_core.specs.Runs.{Nets, values};
+ghost use Rattle.vlog_meaning.specs.Integers.{natural, bound_integer};
+ghost use Rattle.vlog_meaning.specs.Scopes.{Store, names_of, nothing};
+ghost use Rattle.vlog_meaning.specs.Senses.{sense, own, constant_integer, is_empty, IsWhole, IsContext};
+ghost use Rattle.elab_expr.specs.Building.{AllBelow};
+
+use crate::wiring::constant_bits;
+use netlist_core::BitList;
+use std::alloc::{AllocError, Global};
+use vlog_meaning::{Bound, Scope, Shape, shape_of, signal_in, value_of};
+use vlog_syntax::Expr;
+
+/// Whether the expression reads no signal.
+#[tactic(auto, using(crate::proofs::Plans::none_read))]
+pub(crate) fn is_constant(expr: &Expr, scope: &Scope) -> bool
+    ensures { result ≡ is_empty (sense (names_of scope.now) expr.now).signals }
+{
+    signal_in(expr, scope).is_none()
+}
+
+/// The bits of a constant at a width and sign.
+pub(crate) fn folded(
+    alloc: Global,
+    expr: &Expr,
+    scope: &Scope,
+    context: Shape,
+) -> Result<BitList, AllocError>
+    requires whole { IsWhole (names_of scope.now) expr.now }
+    requires constant { IsTrue (is_empty (sense (names_of scope.now) expr.now).signals) }
+    requires context { IsContext (sense (names_of scope.now) expr.now).shape context }
+    ensures long { IfOk result (λ bits. length bits ≡ context.width) }
+    ensures value { IfOk result (λ bits. (nets : Nets) (signals : Store) → number (values nets bits) ≡ (sense (names_of scope.now) expr.now).value signals context) }
+    ensures below { IfOk result (λ bits. (n : ℕ) → AllBelow n bits) }
+{
+    Ok(constant_bits(alloc, value_of(expr, scope, &[], context), context.width)?)
+}
+
+/// The place that a constant index names.
+pub(crate) fn index_of(expr: &Expr, scope: &Scope) -> Bound
+    requires { IsWhole (names_of scope.now) expr.now }
+    ensures value { bound_integer result ≡ pos (own nothing (sense (names_of scope.now) expr.now)) }
+    ensures small { IsTrue result.is_negative → result.magnitude ≤ 2 ^ 127 }
+{
+    let own = shape_of(expr, scope);
+    Bound {
+        is_negative: false,
+        magnitude: value_of(expr, scope, &[], own),
+    }
+}
+
+/// The integer that a constant bound is.
+pub(crate) fn bound_of(expr: &Expr, scope: &Scope) -> Bound
+    requires { IsWhole (names_of scope.now) expr.now }
+    ensures value { bound_integer result ≡ constant_integer (sense (names_of scope.now) expr.now) }
+    ensures small { IsTrue result.is_negative → result.magnitude ≤ 2 ^ 127 }
+{
+    let own = shape_of(expr, scope);
+    Bound::of(own, value_of(expr, scope, &[], own))
+}
+
+/// The count that a constant is.
+pub(crate) fn count_of(expr: &Expr, scope: &Scope) -> u8
+    requires whole { IsWhole (names_of scope.now) expr.now }
+    requires few { natural (constant_integer (sense (names_of scope.now) expr.now)) ≤ 128 }
+    ensures { result ≡ natural (constant_integer (sense (names_of scope.now) expr.now)) }
+{
+    let bound = bound_of(expr, scope);
+    if bound.is_negative {
+        0
+    } else {
+        bound.magnitude as u8
+    }
+}
