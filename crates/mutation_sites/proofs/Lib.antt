@@ -1,0 +1,3 @@
+mod Listed
+mod Ports
+mod Totals

@@ -1,0 +1,6 @@
+use Rattle.std.proofs.Common.{◌≡◌, ◌+◌, drop}
+use Rattle.mutation_sites.specs.Counts.{registers_count}
+use Rattle.mutation_sites.proofs.count.registers_count.Given as goal
+
+abbrev pub invariant-loop-register : goal.invariant-loop-register
+invariant-loop-register l = l.count + registers_count l.modes (drop l.register-index l.registers) ≡ registers_count l.modes l.registers

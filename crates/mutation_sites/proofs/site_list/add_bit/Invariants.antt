@@ -1,0 +1,8 @@
+use Rattle.std.proofs.Common.{◌≡◌, ◌++◌, drop}
+use Rattle.std.specs.Prelude.{filter}
+use Rattle.mutation_sites.specs.Modes.{is_in}
+use Rattle.mutation_sites.specs.Sites.{bit_sites}
+use Rattle.mutation_sites.proofs.site_list.add_bit.Given as goal
+
+abbrev pub invariant-loop-mode : goal.invariant-loop-mode
+invariant-loop-mode l = l.list.items ++ bit_sites (filter (is_in l.modes) (drop l.mode-index l.mode-items)) l.place l.port l.bit ≡ l.fn.list.items ++ bit_sites (filter (is_in l.modes) l.mode-items) l.place l.port l.bit

@@ -1,0 +1,4 @@
+pub mod Modes
+pub mod Sites
+pub mod Counts
+pub mod Examples
