@@ -1,10 +1,11 @@
 #!/usr/bin/env python3
 """Expressions of Verilog with the values that Icarus Verilog gives them.
 
-    expressions.py CRATE    writes CRATE/stdin and CRATE/stdout: a line for each expression, and its value
+    expressions.py VALUES CELLS    writes stdin and stdout of both folders: a line for each expression, and its value
 
 A line of the first is the width to which the value is extended, the values of the names, `;` and the expression in postfix
-form. Rows whose value is not of two values are left out, but for selects beyond a vector, whose missing bits are 0.
+form. Rows whose value is not of two values are left out, but for selects beyond a vector, whose missing bits are 0. CELLS
+has those rows alone that become cells, where nothing but constants is divided or a power.
 """
 import random
 import subprocess
@@ -221,25 +222,46 @@ def selects_only(row):
     return row[0] in ("[]", "[:]", "[+:]") or (row[0] == "{}" and any(selects_only(p) for p in row[1]))
 
 
-def main():
+def divides_names(row):
+    """Whether more than constants is divided or a power, which no cell computes."""
+    if isinstance(row, tuple):
+        here = row[0] == "b" and row[1] in ("/", "%", "**") and names_in(row)
+        return bool(here) or any(map(divides_names, row[1:]))
+    return isinstance(row, list) and any(map(divides_names, row))
+
+
+def all_rows():
+    """Widths, expressions and the values of their names."""
     rng = random.Random(1364)
     rows = [(w, row, values_for(rng, row)) for w, row in designed() for _ in range(2)]
     for _ in range(150):
         row = drawn(rng, rng.randint(1, 3))
         rows.append((128 if rng.random() < 0.2 else 64, row, values_for(rng, row)))
-    tests, answers = [], []
-    for (width, row, values), (seen, zeroed) in zip(rows, simulated(rows)):
-        if set(seen) - set("01") and not selects_only(row):
-            continue
-        given = " ".join(f"{n}={v}" for n, v in values.items())
-        tests.append(f"{width} {given} ; {' '.join(postfix(row))}")
-        answers.append(str(int(zeroed, 2)))
-    folder = sys.argv[1]
+    return rows
+
+
+def line_of(width, row, values):
+    given = " ".join(f"{n}={v}" for n, v in values.items())
+    return f"{width} {given} ; {' '.join(postfix(row))}"
+
+
+def write(folder, tests):
     with open(f"{folder}/stdin", "w") as out:
-        out.write("\n".join(tests) + "\n")
+        out.writelines(f"{line_of(*row)}\n" for row, _ in tests)
     with open(f"{folder}/stdout", "w") as out:
-        out.write("\n".join(answers) + "\n")
-    print(len(tests), "expressions")
+        out.writelines(f"{answer}\n" for _, answer in tests)
+    print(folder, len(tests), "expressions")
+
+
+def main():
+    rows = all_rows()
+    tests = [
+        (row, int(zeroed, 2))
+        for row, (seen, zeroed) in zip(rows, simulated(rows))
+        if not set(seen) - set("01") or selects_only(row[1])
+    ]
+    write(sys.argv[1], tests)
+    write(sys.argv[2], [(row, answer) for row, answer in tests if not divides_names(row[1])])
 
 
 if __name__ == "__main__":

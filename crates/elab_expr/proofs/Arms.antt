@@ -1,5 +1,5 @@
 -- The cells of each production after those of its operands, in plain variables.
-use Rattle.std.proofs.Common.{◌≡◌, ℕ, zero, suc, ◌+◌, ◌-◌, ◌*◌, ◌<◌, ◌≤◌, ◌^◌, ◌&&◌, ◌||◌, ◌==◌, ◌-ℤ◌, ℤ, pos, negsuc, Bool, true, false, not, nat_lt, nat_le, List, [], ◌∷◌, ◌++◌, length, take, get_or, map, refl, sym, ◌∙◌, ap, subst, arith, append_assoc}
+use Rattle.std.proofs.Common.{◌≡◌, ℕ, zero, suc, ◌+◌, ◌-◌, ◌*◌, ◌<◌, ◌≤◌, ◌^◌, ◌&&◌, ◌||◌, ◌==◌, ◌-ℤ◌, ℤ, pos, Bool, true, false, not, nat_lt, nat_le, List, [], ◌∷◌, ◌++◌, length, take, get_or, map, refl, sym, ◌∙◌, ap, subst, arith, append_assoc}
 use Rattle.std.specs.Prelude.{Option, None, Some, if◌then◌else◌}
 use Rattle.std.proofs.lemmas.Bool.Decides.{nat_tests}
 use Rattle.std.proofs.lemmas.Int.{ints}
@@ -7,7 +7,6 @@ use Rattle.std.proofs.lemmas.List.{length-append, map-append}
 use Rattle.std.proofs.lemmas.Nat.{pow-add}
 use Rattle.mcy_base.specs.declared.span.Span.{Span}
 use Rattle.netlist_core.specs.declared.bit.Bit.{Bit}
-use Rattle.netlist_core.specs.declared.cell.CellKind.{CellKind}
 use Rattle.netlist_core.specs.declared.cell.CellKind.TheVariants.{Mux, Pick, Ror}
 use Rattle.netlist_core.specs.Numbers.{number}
 use Rattle.netlist_core.specs.Runs.{Nets, values}
@@ -29,11 +28,11 @@ use Rattle.elab_expr.specs.declared.error.ElabError.{ElabError}
 use Rattle.elab_expr.specs.Building.{Building, AllBelow, RunsIn, store}
 use Rattle.elab_expr.specs.Evaluates.{Adds, Builds, Evaluates}
 use Rattle.elab_expr.specs.Kinds.{unary_kind, binary_kind}
-use Rattle.elab_expr.specs.Made.{Made, Plan, made_of, plan, plans, made, own_cells, all_cells, cell_of, pick_cells, condition_cells, unary_cells, binary_cells, choice_cells}
+use Rattle.elab_expr.specs.Made.{Made, made_of, plan, plans, made, own_cells, all_cells, cell_of, pick_cells, condition_cells, unary_cells, binary_cells, choice_cells}
 use Rattle.elab_expr.specs.Refusals.{IsShort}
 use Rattle.elab_expr.specs.Wiring.{ShapeOfBits}
 use Rattle.elab_expr.proofs.Bits.{number-fits}
-use Rattle.elab_expr.proofs.Growing.{then_adds, none_made, short_before, short_after, count, more_short, stretched}
+use Rattle.elab_expr.proofs.Growing.{then_adds, none_made, count, more_short, stretched}
 use Rattle.elab_expr.proofs.Parts.{grows_not, grows_again, grown_nets, runs_before, store_same, below_append, below_later}
 use Rattle.elab_expr.proofs.Selects.{number_append}
 use Rattle.elab_expr.proofs.Plans.{plan_sense, plan_first}

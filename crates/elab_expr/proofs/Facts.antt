@@ -1,6 +1,6 @@
 -- What the parts of an expression have where the whole has a shape, a context and nothing that is not supported; and
 -- what the whole makes, from what its parts make.
-use Rattle.std.proofs.Common.{◌≡◌, ℕ, zero, suc, ◌+◌, ◌*◌, ◌<◌, ◌≤◌, ◌^◌, ◌&&◌, ◌==◌, ◌-ℤ◌, ℤ, pos, Bool, true, false, not, List, [], ◌∷◌, ◌++◌, length, map, refl, sym, ◌∙◌, ap, subst, arith}
+use Rattle.std.proofs.Common.{◌≡◌, ℕ, ◌+◌, ◌*◌, ◌<◌, ◌≤◌, ◌^◌, ◌&&◌, ◌==◌, ◌-ℤ◌, ℤ, pos, Bool, true, false, not, List, [], ◌∷◌, ◌++◌, map, refl, sym, ◌∙◌, ap, subst, arith}
 use Rattle.std.specs.Prelude.{Option, None, Some, if◌then◌else◌}
 use Rattle.mcy_base.specs.declared.span.Span.{Span}
 use Rattle.netlist_core.specs.declared.bit.Bit.{Bit}
@@ -13,29 +13,26 @@ use Rattle.vlog_syntax.specs.declared.identifier.Number.{Number}
 use Rattle.vlog_syntax.specs.declared.identifier.Identifier.{Identifier}
 use Rattle.vlog_syntax.specs.declared.operator.UnaryOperator.{UnaryOperator}
 use Rattle.vlog_syntax.specs.declared.operator.BinaryOperator.{BinaryOperator}
-use Rattle.vlog_meaning.specs.declared.fault.Fault.{Fault}
 use Rattle.vlog_meaning.specs.declared.fault.Cause.TheVariants.{DivideOrPower, NotConstant}
 use Rattle.vlog_meaning.specs.declared.function.Function.{Function}
 use Rattle.vlog_meaning.specs.declared.function.Function.TheVariants.{Signed, Unsigned, Clog2, Random, Time}
 use Rattle.vlog_meaning.specs.declared.shapes.Shape.{Shape}
 use Rattle.vlog_meaning.specs.Functions.{function_of}
 use Rattle.vlog_meaning.specs.Integers.{natural, window, extended}
-use Rattle.vlog_meaning.specs.Operators.{IsSized, joint, sizing, pair_shape, unary_shape, unary_value, operand_context}
-use Rattle.vlog_meaning.specs.Scopes.{Names, Store, decl_shape, decl_low, decl_value, nothing}
-use Rattle.vlog_meaning.specs.Senses.{Sense, sense, senses, step, own, fault, is_empty, constant_integer, constant_faults, part_width, total_width, joined, repeated, taken, all_signals, all_faults, call_faults, call_shape, call_signals, call_value, index_features, binary_features, is_division, binary_step, IsWhole, AreWhole, IsWholeCall, IsContext}
-use Rattle.vlog_meaning.proofs.Blanks.{left_nil, right_nil, these_nil, those_nil}
+use Rattle.vlog_meaning.specs.Operators.{IsSized, sizing, pair_shape, unary_shape, unary_value, operand_context}
+use Rattle.vlog_meaning.specs.Scopes.{Names, decl_shape, decl_low, decl_value}
+use Rattle.vlog_meaning.specs.Senses.{Sense, sense, senses, step, own, fault, is_empty, constant_integer, constant_faults, part_width, total_width, joined, repeated, taken, all_signals, call_faults, call_shape, call_signals, call_value, index_features, binary_features, is_division, binary_step, IsWhole, IsContext}
+use Rattle.vlog_meaning.proofs.Blanks.{left_nil, right_nil, these_nil}
 use Rattle.vlog_meaning.proofs.Contexts.{joint_left, joint_right}
 use Rattle.vlog_meaning.proofs.Steps as steps
 use Rattle.vlog_meaning.proofs.Whole as whole
-use Rattle.elab_expr.specs.declared.error.ElabError.{ElabError}
 use Rattle.elab_expr.specs.Building.{Building, RunsIn, store}
-use Rattle.elab_expr.specs.Evaluates.{Adds, Builds, Evaluates, TakesBits, takes_sign}
-use Rattle.elab_expr.specs.Made.{Plan, Made, plan, plans, plan_step, cells_step, unsupported_step, made, all_unsupported, all_cells, call_unsupported, pick_cells, unary_cells, binary_cells, choice_cells}
-use Rattle.elab_expr.specs.Refusals.{IsShort}
+use Rattle.elab_expr.specs.Evaluates.{Builds, Evaluates, TakesBits, takes_sign}
+use Rattle.elab_expr.specs.Made.{Plan, Made, plan, plans, plan_step, unsupported_step, made, all_unsupported, all_cells, call_unsupported, pick_cells, unary_cells, binary_cells, choice_cells}
 use Rattle.elab_expr.proofs.Growing.{made_as, evaluates_as}
 use Rattle.elab_expr.proofs.Plans as planned
 use Rattle.elab_expr.proofs.Plans.{plan_sense}
-use Rattle.elab_expr.proofs.Arms.{same_short, unextended}
+use Rattle.elab_expr.proofs.Arms.{unextended}
 
 -- Each production.
 

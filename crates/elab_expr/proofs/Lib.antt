@@ -10,3 +10,5 @@ pub mod Growing
 pub mod Adding
 pub mod Arms
 pub mod Facts
+pub mod Operands
+pub mod Refused

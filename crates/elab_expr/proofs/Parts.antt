@@ -1,5 +1,5 @@
 -- The parts of a builder.
-use Rattle.std.proofs.Common.{◌≡◌, ℕ, zero, suc, ◌+◌, ◌*◌, ◌<◌, ◌≤◌, Bool, List, [], ◌∷◌, ◌++◌, length, slice_get, refl, sym, ◌∙◌, ap, subst, arith, append_assoc, add-zero}
+use Rattle.std.proofs.Common.{◌≡◌, ℕ, zero, suc, ◌+◌, ◌≤◌, Bool, List, [], ◌∷◌, ◌++◌, length, slice_get, refl, sym, ◌∙◌, ap, subst, arith, append_assoc, add-zero}
 use Rattle.std.specs.Prelude.{Some}
 use Rattle.std.proofs.lemmas.List.{length-append}
 use Rattle.mcy_base.specs.declared.span.Span.{Span}
@@ -10,9 +10,8 @@ use Rattle.netlist_core.specs.declared.cell.CellKind.{CellKind}
 use Rattle.netlist_core.specs.Numbers.{number}
 use Rattle.netlist_core.specs.Cells.{cell_value}
 use Rattle.netlist_core.specs.Runs.{Nets, values, plain, input_ports, output_port, ports_seen, Computes}
-use Rattle.netlist_core.specs.Shapes.{HasShape, shape_of, widths, HasWidths}
+use Rattle.netlist_core.specs.Shapes.{shape_of, widths, HasWidths}
 use Rattle.netlist_core.specs.Checked.{AllWide}
-use Rattle.vlog_meaning.specs.Scopes.{Store}
 use Rattle.elab_expr.specs.declared.builder.Joint.{Joint}
 use Rattle.elab_expr.specs.declared.builder.Signal.{Signal}
 use Rattle.elab_expr.specs.Building.{Building, RunsIn, Grows, AreAdded, AllBelow, PortsBelow, fresh_bits, own_bits, with_cell, store}

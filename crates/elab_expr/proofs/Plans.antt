@@ -18,11 +18,11 @@ use Rattle.vlog_meaning.specs.declared.fault.Fault.{Fault}
 use Rattle.vlog_meaning.specs.declared.shapes.Shape.{Shape}
 use Rattle.vlog_meaning.specs.Answers.{least, least_at, earlier}
 use Rattle.vlog_meaning.specs.Scopes.{Names, Store}
-use Rattle.vlog_meaning.specs.Senses.{Sense, sense, senses, step, is_empty, index_features, binary_features}
+use Rattle.vlog_meaning.specs.Senses.{Sense, sense, step, is_empty, index_features, binary_features}
 use Rattle.vlog_meaning.proofs.Firsts.{least_none, least_nil}
 use Rattle.vlog_meaning.proofs.Refusals.{least_empty, pair_first}
 use Rattle.vlog_meaning.proofs.Settled.{settled}
-use Rattle.elab_expr.specs.Made.{Plan, Made, plan, plans, plan_step, made, all_cells, all_unsupported, own_cells}
+use Rattle.elab_expr.specs.Made.{Plan, plan, plans, plan_step, all_unsupported}
 
 pub plan_number : (names : Names) (n : Number) → plan names (v.Number n) ≡ plan_step names (e.Number n)
 plan_number names n = ap (plan names) (sym (v.rolls-Number n)) ∙ fold-roll-Expr Plan (plan_step names) (e.Number n)

@@ -12,7 +12,7 @@ ghost use Rattle.netlist_core.specs.Runs.{Nets, values, plain, ports_seen};
 ghost use Rattle.netlist_core.specs.Shapes.{shape_of, widths, HasWidths};
 ghost use Rattle.netlist_core.specs.Checked.{AllWide};
 ghost use Rattle.elab_expr.specs.Building.{RunsIn, Grows, PortsBelow, fresh_bits, empty, with_cell, with_declared, with_signal, with_joint, with_register, own_bits, signal, declared_at};
-ghost use Rattle.elab_expr.specs.Refusals.{IsShort};
+ghost use Rattle.elab_expr.specs.Refusals.{IsShort, max_cells};
 
 use crate::error::ElabError;
 use mcy_base::{Kind, Span, Text, Word};
@@ -60,7 +60,7 @@ impl Model for Builder {
 }
 
 /// The most cells of a netlist.
-const MAX_CELLS: usize = 65_535;
+pub(crate) const MAX_CELLS: usize = 65_535;
 
 /// New nets, from this number on.
 fn fresh(alloc: Global, from: u32, width: u8) -> Result<BitList, AllocError>
@@ -211,6 +211,14 @@ impl Builder {
         ensures { result.now ≡ signal self.now number }
     {
         self.signals[number as usize].as_slice()
+    }
+
+    /// The cells so far, at most 65,535.
+    pub fn cells(&self) -> &[Cell]
+        ensures cells { result.now ≡ self.now.cells }
+        ensures few { length self.now.cells ≤ max_cells }
+    {
+        &self.cells
     }
 
     /// Adds the next cell, with these ports and new nets as its Y, and gives Y. There may be 65,535 cells.

@@ -1,9 +1,11 @@
 //! Expressions become cells of the same value: the builder of a netlist, and what each operator adds to it.
 #![tactic(auto)]
 
+mod build;
 mod builder;
 mod constant;
 mod error;
+mod expression;
 mod kinds;
 mod names;
 mod nodes;
@@ -13,11 +15,9 @@ mod wiring;
 
 pub use builder::{Builder, Joint, Signal};
 pub use error::ElabError;
+pub use expression::build_expr;
 pub use kinds::{binary_kind, unary_kind};
 pub use nodes::{binary_cell, mux_cell, pick_cell, ror_cell, unary_cell};
 pub use wiring::{
     constant_bits, copied_bits, extended_bits, joined_bits, repeated_bits, window_bits,
 };
-
-#[cfg(test)]
-mod tests;

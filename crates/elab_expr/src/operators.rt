@@ -1,15 +1,16 @@
 //! What an operator adds, where its operands have bits: its cell, and its bits at a width that is not less than its
 //! own.
-ghost use Rattle.std.specs.Prelude.{◌≡◌, ◌==◌, ◌+◌, ◌≤◌, not, false, nat_lt, [], ◌∷◌, Some, length, pos, IfOk, IfErr, if◌then◌else◌};
+ghost use Rattle.std.specs.Prelude.{◌≡◌, ◌==◌, ◌+◌, ◌≤◌, ◌&&◌, not, false, nat_lt, [], ◌∷◌, Some, length, pos, IfOk, IfErr, if◌then◌else◌};
 ghost use Rattle.netlist_core.specs.Numbers.{number};
 ghost use Rattle.netlist_core.specs.Runs.{values};
 ghost use Rattle.netlist_core.specs.declared.cell.CellKind.TheVariants.{Ror, Mux, Pick};
+ghost use Rattle.vlog_meaning.specs.Functions.{function_of as function_named};
 ghost use Rattle.vlog_meaning.specs.Integers.{window};
 ghost use Rattle.vlog_meaning.specs.Operators.{IsSized, ArePaired, digit, sizing, result_width, is_reduction, unary_value, binary_value};
 ghost use Rattle.vlog_meaning.specs.Scopes.{names_of, decl_shape, decl_value};
 ghost use Rattle.vlog_meaning.specs.Senses.{is_division};
 ghost use Rattle.elab_expr.specs.Building.{AllBelow, HasSignals, store};
-ghost use Rattle.elab_expr.specs.Evaluates.{Adds};
+ghost use Rattle.elab_expr.specs.Evaluates.{Adds, takes_sign};
 ghost use Rattle.elab_expr.specs.Kinds.{unary_kind, binary_kind};
 ghost use Rattle.elab_expr.specs.Made.{cell_of};
 ghost use Rattle.elab_expr.specs.Refusals.{IsShort};
@@ -22,7 +23,7 @@ use crate::nodes::{binary_cell, mux_cell, pick_cell, ror_cell, unary_cell};
 use crate::wiring::extended_bits;
 use mcy_base::Span;
 use netlist_core::BitList;
-use vlog_meaning::{Scope, Shape};
+use vlog_meaning::{Function, Scope, Shape, function_of};
 use vlog_syntax::{BinaryOperator, Identifier, UnaryOperator};
 
 /// `op a`, where a is evaluated at this shape.
@@ -172,4 +173,19 @@ fn pick_bits(
 {
     let y = pick_cell(builder, a, index, size, span)?;
     Ok(extended_bits(builder.alloc(), y.as_slice(), false, width)?)
+}
+
+/// The shape at which a call that has this shape takes the bits of its argument: `$signed` extends them with the sign of
+/// its context.
+pub(crate) fn argument_shape(name: &Identifier, own: Shape, context: Shape) -> Shape
+    ensures { result ≡ record { width = own.width; is_signed = takes_sign (function_named name.now.name) && context.is_signed } }
+{
+    let is_signed = match function_of(name.name.as_str()) {
+        Some(Function::Signed) => context.is_signed,
+        _ => false,
+    };
+    Shape {
+        width: own.width,
+        is_signed,
+    }
 }

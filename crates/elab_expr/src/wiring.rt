@@ -154,3 +154,21 @@ pub fn repeated_bits(alloc: Global, bits: &[Bit], times: u8) -> Result<BitList, 
     }
     Ok(found)
 }
+
+/// So many times the same bits, at a width that is not less.
+pub(crate) fn repeated_at(
+    alloc: Global,
+    bits: &[Bit],
+    times: u8,
+    width: u8,
+) -> Result<BitList, AllocError>
+    requires some { 1 ≤ times * length bits.now }
+    requires wide { times * length bits.now ≤ width }
+    requires narrow { width ≤ 128 }
+    ensures long { IfOk result (λ found. length found ≡ width) }
+    ensures value { IfOk result (λ found. (nets : Nets) → number (values nets found) ≡ repeated times (length bits.now) (number (values nets bits.now))) }
+    ensures below { IfOk result (λ found. (n : ℕ) → AllBelow n bits.now → AllBelow n found) }
+{
+    let all = repeated_bits(alloc, bits, times)?;
+    Ok(extended_bits(alloc, all.as_slice(), false, width)?)
+}

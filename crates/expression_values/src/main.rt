@@ -2,7 +2,6 @@
 //! to which the value is extended, the values of names, `;` and the expression in postfix form.
 #![tactic(auto)]
 
-mod postfix;
 mod row;
 
 use row::value_of_row;

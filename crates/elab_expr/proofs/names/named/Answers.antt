@@ -1,4 +1,3 @@
-use Rattle.std.proofs.Common.{◌≡◌}
 use Rattle.vlog_meaning.specs.Scopes.{names_of, decl_shape}
 use Rattle.elab_expr.proofs.Adding.{named_holds}
 use Rattle.elab_expr.proofs.names.named.Goals as goal

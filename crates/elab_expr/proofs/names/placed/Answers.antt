@@ -1,4 +1,3 @@
-use Rattle.std.proofs.Common.{◌≡◌}
 use Rattle.vlog_meaning.specs.Integers.{bound_integer}
 use Rattle.vlog_meaning.specs.Scopes.{names_of}
 use Rattle.elab_expr.proofs.Adding.{placed_holds}

@@ -1,4 +1,4 @@
-use Rattle.std.proofs.Common.{◌≡◌, ◌∙◌, arith}
+use Rattle.std.proofs.Common.{◌∙◌, arith}
 use Rattle.elab_expr.proofs.Adding.{zeros_above}
 use Rattle.elab_expr.proofs.names.placed_bits.Goals as goal
 

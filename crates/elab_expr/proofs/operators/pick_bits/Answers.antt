@@ -1,4 +1,3 @@
-use Rattle.std.proofs.Common.{◌≡◌, ◌∙◌, sym, ap, arith, length}
 use Rattle.elab_expr.proofs.Adding.{pick_adds, fresh_long}
 use Rattle.elab_expr.proofs.operators.pick_bits.Goals as goal
 

@@ -1,9 +1,5 @@
-use Rattle.std.proofs.Common.{◌≡◌, refl, ap, ◌∙◌, sym, take, suc, add-one, arith}
-use Rattle.std.specs.Prelude.{None}
-use Rattle.vlog_syntax.specs.declared.expr.Expr.{Expr}
+use Rattle.std.proofs.Common.{refl, ap, ◌∙◌, take, add-one, arith}
 use Rattle.vlog_meaning.specs.Scopes.{names_of}
-use Rattle.vlog_meaning.specs.Senses.{sense, index_features, binary_features}
-use Rattle.vlog_meaning.specs.Answers.{least}
 use Rattle.vlog_meaning.proofs.Refusals.{least_empty, pair_first}
 use Rattle.elab_expr.specs.Made.{Plan, plan, plans, all_unsupported}
 use Rattle.elab_expr.proofs.Plans.{none_unsupported, index_unsupported, pair_unsupported, plans_take, plan_number, plan_name, plan_part_select, plan_bit_select, plan_indexed_part_select}

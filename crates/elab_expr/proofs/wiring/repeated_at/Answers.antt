@@ -1,0 +1,9 @@
+use Rattle.std.proofs.Common.{◌∙◌, arith}
+use Rattle.elab_expr.proofs.Adding.{zeros_above}
+use Rattle.elab_expr.proofs.wiring.repeated_at.Goals as goal
+
+pub returns-clause-value : goal.returns-clause-value
+returns-clause-value c = λ nets. zeros_above nets c.in_ok-all.all c.in_ok-extended_bits.field-0 c.args.width (omega (arith, c.in_ok-all.ensures.long, c.requires.wide)) (rw c.as_slice.ensures at (c.in_ok-extended_bits.ensures.value nets)) ∙ c.in_ok-all.ensures.value nets
+
+pub returns-clause-below : goal.returns-clause-below
+returns-clause-below c = λ n h. (rw c.as_slice.ensures at (c.in_ok-extended_bits.ensures.below n)) (c.in_ok-all.ensures.below n h)
