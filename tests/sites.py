@@ -5,7 +5,10 @@
     python3 tests/sites.py output > crates/site_cases/stdout
 
 Sites stand by place (cells by number, then registers), port (of a register D, then Q), bit and mode. A
-port of one bit has no site of a mode that reads a control bit.
+port of one bit has no site of a mode that reads a control bit; the control bit of bit i of a port of width
+w is bit (i + 1) mod w. In a mutant the cell, at an input port, or the register, at D, reads the mutated bit;
+at Y and Q all readers and outputs do. The mutated bit is a constant, or the Y of one more cell, the last:
+`not` for inv, `xnor` for cnot0, `xor` for cnot1.
 """
 
 import sys
@@ -18,13 +21,27 @@ def bits(first, width):
     return str(first) if width == 1 else f"{first}..{first + width - 1}"
 
 
+def nets_of(text):
+    """The numbers of the nets that a text names."""
+    first, _, last = text.partition("..")
+    return list(range(int(first), int(last or first) + 1))
+
+
+PORTS = {"not": "AY", "ror": "AY", "and": "ABY", "add": "ABY", "eq": "ABY", "mux": "SABY"}
+
+
 class Netlist:
     def __init__(self):
         self.lines, self.cells, self.registers, self.next = [], [], [], 0
+        self.kinds, self.gates, self.flops, self.outputs = [], [], [], []
 
     def nets(self, width):
         first, self.next = self.next, self.next + width
         return bits(first, width)
+
+    def output(self, nets):
+        self.lines.append(f"output {nets}")
+        self.outputs.append(nets_of(nets))
 
     def input(self, width):
         nets = self.nets(width)
@@ -36,25 +53,67 @@ class Netlist:
         y = self.nets(width)
         self.lines.append(f"{kind} {' '.join(nets for nets, _ in ports)} {y}")
         self.cells.append([w for _, w in ports] + [width])
+        self.kinds.append(kind)
+        self.gates.append([nets_of(nets) for nets, _ in ports] + [nets_of(y)])
         return y
 
     def register(self, width, d=None):
         q = self.nets(width)
         self.lines.append(f"register {width} {d or q} {q}")
         self.registers.append([width, width])
+        self.flops.append([nets_of(d or q), nets_of(q)])
         return q
 
-    def sites(self, modes):
+    def places(self, modes):
         places = [("Cell", number, ports) for number, ports in enumerate(self.cells)]
         places += [("Register", number, ports) for number, ports in enumerate(self.registers)]
         return [
-            f"{mode.capitalize()} {place}({number}) {port} {bit}"
+            (mode, place, number, port, bit, width)
             for place, number, ports in places
             for port, width in enumerate(ports)
             for bit in range(width)
             for mode in MODES
             if mode in modes.split() and (width > 1 or not mode.startswith("cnot"))
         ]
+
+    def sites(self, modes):
+        return [
+            f"{mode.capitalize()} {place}({number}) {port} {bit}"
+            for mode, place, number, port, bit, _ in self.places(modes)
+        ]
+
+    def text(self, mode, place, number, port, bit, width):
+        if place == "Cell":
+            name = f"cell {self.kinds[number]}_{number} {PORTS[self.kinds[number]][port]}"
+        else:
+            name = f"reg state {'DQ'[port]}"
+        control = f" {(bit + 1) % width}" if mode.startswith("cnot") else ""
+        return f"{mode} top {name} {bit}{control} top.v:1"
+
+    def texts(self, modes):
+        return [self.text(*site) for site in self.places(modes)]
+
+    def mutant(self, mode, place, number, port, bit, width):
+        """The lines of the outputs, the registers and the cells."""
+        outputs = [list(nets) for nets in self.outputs]
+        flops = [[list(d), list(q)] for d, q in self.flops]
+        gates = [[list(nets) for nets in ports] for ports in self.gates]
+        at = (gates if place == "Cell" else flops)[number][port]
+        old, control = at[bit], at[(bit + 1) % width]
+        new = {"const0": "false", "const1": "true"}.get(mode, self.next)
+        if (place == "Cell" and port == len(gates[number]) - 1) or (place == "Register" and port == 1):
+            readers = outputs + [d for d, _ in flops] + [nets for ports in gates for nets in ports[:-1]]
+            for nets in readers:
+                nets[:] = [new if net == old else net for net in nets]
+        else:
+            at[bit] = new
+        lines = [("Output", [nets]) for nets in outputs] + [("Register", ports) for ports in flops]
+        lines += [(kind.capitalize(), ports) for kind, ports in zip(self.kinds, gates)]
+        lines += {"inv": [("Not", [[old], [new]])], "cnot0": [("Xnor", [[old], [control], [new]])], "cnot1": [("Xor", [[old], [control], [new]])]}.get(mode, [])
+        return [f"{name}{''.join(' | ' + ' '.join(map(str, nets)) for nets in ports)}" for name, ports in lines]
+
+    def mutants(self, modes):
+        return [line for site, place in zip(self.sites(modes), self.places(modes)) for line in [site, *self.mutant(*place)]]
 
 
 def the_and_gate():
@@ -99,6 +158,27 @@ def one_register():
     return n
 
 
+def a_counter():
+    """A register of 2 bits that counts, and shows its bits and whether one of them is 1."""
+    n = Netlist()
+    step = n.input(2)
+    q = n.nets(2)
+    n.next -= 2
+    n.register(2, bits(4, 2))
+    n.cell("add", [(q, 2), (step, 2)], 2)
+    n.cell("ror", [(q, 2)], 1)
+    n.output(q)
+    n.output(bits(6, 1))
+    return n
+
+
+def a_choice():
+    n = Netlist()
+    s, a, b = n.input(1), n.input(1), n.input(1)
+    n.output(n.cell("mux", [(s, 1), (a, 1), (b, 1)], 1))
+    return n
+
+
 CASES = [
     ("nothing", Netlist(), "sites", ALL),
     ("the and gate, inverted", the_and_gate(), "sites", "inv"),
@@ -112,6 +192,11 @@ CASES = [
     ("a comparison", the_comparison(), "count", ALL),
     ("a register of 8 bits", one_register(), "count", ALL),
     ("the widest", the_adder(128), "count", ALL),
+    ("texts of cells", a_choice(), "texts", ALL),
+    ("texts of registers and of control bits", a_counter(), "texts", "inv cnot0"),
+    ("mutants of a choice", a_choice(), "mutants", ALL),
+    ("mutants of a counter", a_counter(), "mutants", ALL),
+    ("mutants of a register of its own Q", with_registers(), "mutants", "inv cnot1"),
 ]
 
 
@@ -122,8 +207,9 @@ def main():
             continue
         sites = netlist.sites(modes)
         print(f"# {title}\n{len(sites)} sites")
-        if verb == "sites":
-            print("\n".join(sites), end="\n" if sites else "")
+        if verb != "count":
+            lines = {"sites": netlist.sites, "texts": netlist.texts, "mutants": netlist.mutants}[verb](modes)
+            print("\n".join(lines), end="\n" if lines else "")
 
 
 if __name__ == "__main__":

@@ -1,3 +1,13 @@
 mod Listed
 mod Ports
 mod Totals
+mod Alike
+mod Formed
+mod More
+mod Unread
+mod Kept
+mod Acyclic
+mod Back
+mod Refused
+mod Pigeons
+mod Placed

@@ -1,6 +1,7 @@
 //! The mutation sites of a netlist, in their order: by place, port, bit and mode.
 ghost use Rattle.std.specs.Prelude.{◌≡◌, ◌≤◌, ◌++◌, length, All, IfOk, OnOk, map};
 ghost use Rattle.mutation_sites.specs.Modes.{modes_of};
+ghost use Rattle.mutation_sites.specs.Mutants.{IsSite};
 ghost use Rattle.mutation_sites.specs.Sites.{sites, cells_sites, registers_sites, ports_sites, port_sites, bit_sites};
 
 use crate::mode::{ModeSet, all_modes};
@@ -8,9 +9,10 @@ use crate::site::{Place, Site};
 use netlist_core::{Bit, BitList, Netlist};
 use std::alloc::{AllocError, Global};
 
-/// The sites of the netlist for a set of modes.
+/// The sites of the netlist for a set of modes. At each there is a bit.
 pub fn sites(alloc: Global, netlist: &Netlist, modes: ModeSet) -> Result<Vec<Site>, AllocError>
-    ensures { IfOk result (λ list. list.items ≡ sites modes netlist.now.raw) }
+    ensures all { IfOk result (λ list. list.items ≡ sites modes netlist.now.raw) }
+    ensures placed { IfOk result (λ list. All (IsSite netlist.now.raw) list.items) }
 {
     let mut list = Vec::new(alloc);
     add_cells(&mut list, netlist, modes)?;

@@ -12,17 +12,24 @@
 //! | `KIND BITS ..` | There is a cell more, with these bits at its ports, Y last. |
 //! | `sites MODE ..` | Prints how many sites the netlist has for these modes, and each of them; begins another netlist. |
 //! | `count MODE ..` | Prints the count alone. |
+//! | `texts MODE ..` | Prints the text of each site. |
+//! | `mutants MODE ..` | Prints the text of each site, and the outputs, registers and cells of its mutant. |
 //!
 //! A line that begins with `#` is printed, and an empty one is left out.
 #![tactic(auto)]
 
+ghost use Rattle.std.specs.List.{All};
+ghost use Rattle.mutation_sites.specs.Mutants.{IsSite};
+
+mod mutants;
 mod parts;
 
 use anyhow::{Context, Result};
-use mutation_sites::{ModeSet, Site, site_count, sites};
+use mutants::tell_mutants;
+use mutation_sites::{ModeSet, Site, site_count, site_text, sites};
 use netlist_core::{Netlist, RawNetlist, is_formed};
-use parts::{add_part, no_parts};
-use std::{io, mem};
+use parts::{add_part, files, no_parts};
+use std::{io, mem, str};
 
 /// The modes that the words name.
 fn modes_of(words: &str) -> ModeSet {
@@ -54,12 +61,59 @@ fn tell_site<R: Print>(rt: &R, site: &Site) -> io::Result<()> {
     )
 }
 
-/// Prints the count of the sites, and where asked the sites.
-fn tell_sites<R: Print + AllocGlobal>(
+/// What is asked of the sites.
+#[derive(Clone, Copy, PartialEq, Eq)]
+enum Question {
+    Count,
+    Sites,
+    Texts,
+    Mutants,
+}
+
+/// Prints the sites, or their texts, or their mutants.
+fn tell_each<R: Print + AllocGlobal>(
+    rt: &R,
+    netlist: &Netlist,
+    modes: ModeSet,
+    question: Question,
+) -> Result<()> {
+    let list = sites(rt.alloc(), netlist, modes)?;
+    match question {
+        Question::Count => {}
+        Question::Sites => tell_sites(rt, &list)?,
+        Question::Texts => tell_texts(rt, netlist, &list)?,
+        Question::Mutants => tell_mutants(rt, netlist, &list)?,
+    }
+    Ok(())
+}
+
+/// Prints the sites.
+fn tell_sites<R: Print>(rt: &R, list: &[Site]) -> io::Result<()> {
+    for site in list {
+        tell_site(rt, site)?;
+    }
+    Ok(())
+}
+
+/// Prints the texts of sites.
+fn tell_texts<R: Print + AllocGlobal>(rt: &R, netlist: &Netlist, list: &[Site]) -> Result<()>
+    requires { All (IsSite netlist.now.raw) list.now }
+{
+    let files = files(rt.alloc())?;
+    for site in list {
+        let text = site_text(rt.alloc(), netlist, &files, site)?;
+        let text = str::from_utf8(text.as_slice()).ok().context("no text")?;
+        println!(rt; "{text}")?;
+    }
+    Ok(())
+}
+
+/// Prints the count of the sites, and what is asked of them.
+fn answer<R: Print + AllocGlobal>(
     rt: &R,
     raw: RawNetlist,
     modes: ModeSet,
-    all: bool,
+    question: Question,
 ) -> Result<()> {
     if !is_formed(&raw) {
         println!(rt; "not formed")?;
@@ -67,32 +121,30 @@ fn tell_sites<R: Print + AllocGlobal>(
     }
     let netlist = Netlist::check(rt.alloc(), raw).ok().context("no netlist")?;
     println!(rt; "{} sites", site_count(&netlist, modes))?;
-    if all {
-        for site in &sites(rt.alloc(), &netlist, modes)? {
-            tell_site(rt, site)?;
-        }
+    tell_each(rt, &netlist, modes, question)
+}
+
+/// What the word asks, if it asks.
+fn asked(verb: &str) -> Option<Question> {
+    match verb {
+        "count" => Some(Question::Count),
+        "sites" => Some(Question::Sites),
+        "texts" => Some(Question::Texts),
+        "mutants" => Some(Question::Mutants),
+        _ => None,
     }
-    Ok(())
 }
 
 /// Carries out a statement.
 fn carry_out<R: Print + AllocGlobal>(rt: &R, raw: &mut RawNetlist, line: &str) -> Result<()> {
     let (verb, rest) = line.split_once(' ').unwrap_or((line, ""));
+    if let Some(question) = asked(verb) {
+        let whole = mem::replace(raw, no_parts(rt.alloc())?);
+        return answer(rt, whole, modes_of(rest), question);
+    }
     match verb {
         "" => {}
         "#" => println!(rt; "{line}")?,
-        "sites" => tell_sites(
-            rt,
-            mem::replace(raw, no_parts(rt.alloc())?),
-            modes_of(rest),
-            true,
-        )?,
-        "count" => tell_sites(
-            rt,
-            mem::replace(raw, no_parts(rt.alloc())?),
-            modes_of(rest),
-            false,
-        )?,
         _ => add_part(rt.alloc(), raw, verb, rest)?,
     }
     Ok(())

@@ -1,6 +1,6 @@
 //! The parts of a netlist, as statements add them.
 use anyhow::{Context, Result};
-use mcy_base::{Items, Span, Text, Word};
+use mcy_base::{Items, Span, Text, TextList, Word};
 use netlist_core::{Bit, BitList, Cell, CellKind, Port, PortList, RawNetlist, Register};
 use std::alloc::{AllocError, Global};
 
@@ -14,6 +14,13 @@ pub(crate) fn no_parts(alloc: Global) -> Result<RawNetlist, AllocError> {
         registers: Items::from_vec(Vec::new(alloc)),
         cells: Items::from_vec(Vec::new(alloc)),
     })
+}
+
+/// The names of the sources: there is one.
+pub(crate) fn files(alloc: Global) -> Result<TextList, AllocError> {
+    let name = Text::copy(alloc, "top.v")?;
+    let names = vec![in alloc; name]?;
+    Ok(Items::from_vec(names))
 }
 
 /// The kind of this name.

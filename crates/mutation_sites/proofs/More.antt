@@ -1,0 +1,42 @@
+-- A mutant has the netlist's kinds of cells, and at most one cell more, the last.
+use Rattle.std.proofs.Common.{◌≡◌, ℕ, ◌+◌, ◌≤◌, List, [], ◌∷◌, ◌++◌, map, take, length, refl, ap, arith}
+use Rattle.mcy_base.specs.declared.span.Span.{Span}
+use Rattle.netlist_core.specs.declared.bit.Bit.{Bit}
+use Rattle.netlist_core.specs.declared.cell.Cell.{Cell as Gate}
+use Rattle.netlist_core.specs.declared.cell.CellKind.{CellKind}
+use Rattle.netlist_core.specs.declared.raw.RawNetlist.{RawNetlist}
+use Rattle.mutation_sites.specs.declared.mode.Mode.{Mode}
+use Rattle.mutation_sites.specs.declared.mode.Mode.TheVariants.{Inv, Const0, Const1, Cnot0, Cnot1}
+use Rattle.mutation_sites.specs.declared.site.Site.{Site}
+use Rattle.mutation_sites.specs.declared.readers.Readers.{Readers}
+use Rattle.mutation_sites.specs.Mutants.{readers_at, port_at, HasOneMore}
+use Rattle.mutation_sites.specs.Wiring.{cells_connected, new_bit, new_cells, bit_of, control_of, span_at, mutant_of}
+
+kinds-first : (readers : Readers) (new : Bit) (c : ℕ) (cells extra : List Gate) → take (length cells) (map (λ (cell : Gate). cell.kind) (cells_connected readers new c cells ++ extra)) ≡ map (λ (cell : Gate). cell.kind) cells
+kinds-first readers new c [] extra = refl
+kinds-first readers new c (cell ∷ rest) extra = ap (λ (kinds : List CellKind). cell.kind ∷ kinds) (kinds-first readers new (c + 1) rest extra)
+
+pub length-cells : (readers : Readers) (new : Bit) (c : ℕ) (cells extra : List Gate) → length (cells_connected readers new c cells ++ extra) ≡ length cells + length extra
+length-cells readers new c [] extra = omega arith
+length-cells readers new c (cell ∷ rest) extra = let later = length-cells readers new (c + 1) rest extra in omega (arith, later)
+
+pub new-few : (mode : Mode) (bit control : Bit) (fresh : ℕ) (span : Span) → length (new_cells mode bit control fresh span) ≤ 1
+new-few Inv bit control fresh span = omega arith
+new-few Const0 bit control fresh span = omega arith
+new-few Const1 bit control fresh span = omega arith
+new-few Cnot0 bit control fresh span = omega arith
+new-few Cnot1 bit control fresh span = omega arith
+
+pub has-one-more : (netlist : RawNetlist) (site : Site) (fresh : ℕ) → HasOneMore netlist (mutant_of netlist site fresh)
+has-one-more netlist site fresh =
+    let readers = readers_at netlist site.place site.port site.bit in
+    let new = new_bit site.mode fresh in
+    let bits = port_at netlist site.place site.port in
+    let bit = bit_of bits site.bit in
+    let control = control_of bits site.bit in
+    let span = span_at netlist site.place in
+    record {
+      inputs = refl;
+      count = omega (arith, length-cells readers new 0 netlist.cells (new_cells site.mode bit control fresh span), new-few site.mode bit control fresh span);
+      kinds = kinds-first readers new 0 netlist.cells (new_cells site.mode bit control fresh span);
+    }

@@ -1,0 +1,7 @@
+use Rattle.std.proofs.Common.{◌≡◌, drop}
+use Rattle.netlist_core.specs.Runs.{q_bits}
+use Rattle.netlist_core.specs.Drivers.{times_at}
+use Rattle.mutation_sites.proofs.unused.is_at_q.Given as goal
+
+abbrev pub invariant-loop-register : goal.invariant-loop-register
+invariant-loop-register l = times_at l.net (q_bits l.registers) ≡ times_at l.net (q_bits (drop l.register-index l.registers))

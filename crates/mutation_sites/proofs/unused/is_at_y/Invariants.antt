@@ -1,0 +1,6 @@
+use Rattle.std.proofs.Common.{◌≡◌, drop}
+use Rattle.netlist_core.specs.Drivers.{times_at, y_bits}
+use Rattle.mutation_sites.proofs.unused.is_at_y.Given as goal
+
+abbrev pub invariant-loop-cell : goal.invariant-loop-cell
+invariant-loop-cell l = times_at l.net (y_bits l.cells) ≡ times_at l.net (y_bits (drop l.cell-index l.cells))
