@@ -1,5 +1,5 @@
 #!/usr/bin/env python3
-"""The cases of crates/site_cases: netlists, and their sites by the definition alone.
+"""The cases of crates/site_cases: netlists, their sites and what is selected of them, by the definitions alone.
 
     python3 tests/sites.py input > crates/site_cases/stdin
     python3 tests/sites.py output > crates/site_cases/stdout
@@ -9,9 +9,15 @@ port of one bit has no site of a mode that reads a control bit; the control bit 
 w is bit (i + 1) mod w. In a mutant the cell, at an input port, or the register, at D, reads the mutated bit;
 at Y and Q all readers and outputs do. The mutated bit is a constant, or the Y of one more cell, the last:
 `not` for inv, `xnor` for cnot0, `xor` for cnot1.
+
+Site number i draws the i-th word of the generator. A plain pick takes the least by word and number, an even
+one by rank, word and number, where a site's rank counts those of its file and line that are less by word
+and number.
 """
 
 import sys
+
+import pcg
 
 MODES = ["inv", "const0", "const1", "cnot0", "cnot1"]
 ALL = " ".join(MODES)
@@ -34,6 +40,11 @@ class Netlist:
     def __init__(self):
         self.lines, self.cells, self.registers, self.next = [], [], [], 0
         self.kinds, self.gates, self.flops, self.outputs = [], [], [], []
+        self.place, self.cell_places, self.register_places = (0, 1), [], []
+
+    def at(self, file, line):
+        self.place = file, line
+        self.lines.append(f"at {file} {line}")
 
     def nets(self, width):
         first, self.next = self.next, self.next + width
@@ -54,6 +65,7 @@ class Netlist:
         self.lines.append(f"{kind} {' '.join(nets for nets, _ in ports)} {y}")
         self.cells.append([w for _, w in ports] + [width])
         self.kinds.append(kind)
+        self.cell_places.append(self.place)
         self.gates.append([nets_of(nets) for nets, _ in ports] + [nets_of(y)])
         return y
 
@@ -61,6 +73,7 @@ class Netlist:
         q = self.nets(width)
         self.lines.append(f"register {width} {d or q} {q}")
         self.registers.append([width, width])
+        self.register_places.append(self.place)
         self.flops.append([nets_of(d or q), nets_of(q)])
         return q
 
@@ -114,6 +127,18 @@ class Netlist:
 
     def mutants(self, modes):
         return [line for site, place in zip(self.sites(modes), self.places(modes)) for line in [site, *self.mutant(*place)]]
+
+
+def selected(netlist, pick, size, seed):
+    lines = [(netlist.cell_places if place == "Cell" else netlist.register_places)[number] for _, place, number, *_ in netlist.places(ALL)]
+    words = pcg.words(seed, len(lines))
+    order = sorted(range(len(lines)), key=lambda i: (words[i], i))
+    rank, seen = [0] * len(lines), {}
+    for i in order:
+        if pick == "even":
+            rank[i] = seen.get(lines[i], 0)
+        seen[lines[i]] = seen.get(lines[i], 0) + 1
+    return sorted(sorted(order, key=lambda i: rank[i])[:size])
 
 
 def the_and_gate():
@@ -179,6 +204,50 @@ def a_choice():
     return n
 
 
+def on_lines(*lines):
+    """For each file and line a register, of so many bits."""
+    n = Netlist()
+    for file, line, width in lines:
+        n.at(file, line)
+        n.register(width)
+    return n
+
+
+def a_line_in_two_parts():
+    """Sites of one line that do not stand together: cells come before registers."""
+    n = Netlist()
+    n.at(0, 7)
+    a, b = n.input(1), n.input(1)
+    n.cell("and", [(a, 1), (b, 1)], 1)
+    n.at(0, 8)
+    n.cell("add", [(n.input(4), 4), (n.input(4), 4)], 4)
+    n.at(0, 7)
+    n.register(2)
+    return n
+
+
+UNEVEN = [(0, 1, 8), (0, 2, 1), (0, 3, 1), (1, 2, 2)]
+SEEDS = [0, 1, 7, 2**64 - 1]
+
+PICKS = [
+    ("nine sites: all", the_and_gate(), "plain", 100, 1),
+    ("nine sites: one", the_and_gate(), "plain", 1, 1),
+    ("nine sites: none", the_and_gate(), "plain", 0, 1),
+    ("as many as there are", the_and_gate(), "plain", 9, 3),
+    ("all but one", the_and_gate(), "plain", 8, 3),
+    ("one line alone: an even pick is a plain one", the_adder(3), "even", 5, 11),
+    ("the same, plain", the_adder(3), "plain", 5, 11),
+    ("one line has most sites: plain", on_lines(*UNEVEN), "plain", 12, 1),
+    ("one line has most sites: even", on_lines(*UNEVEN), "even", 12, 1),
+    ("fewer than there are lines", on_lines(*UNEVEN), "even", 3, 2),
+    ("one of each line", on_lines(*UNEVEN), "even", 4, 2),
+    ("more than the small lines have", on_lines(*UNEVEN), "even", 60, 2),
+    ("all, evenly", on_lines(*UNEVEN), "even", 1000, 2),
+    ("one line in two files is two lines", on_lines((0, 5, 1), (1, 5, 1)), "even", 2, 5),
+    ("a line in two parts is one line", a_line_in_two_parts(), "even", 9, 4),
+    ("nothing to pick", Netlist(), "even", 4, 4),
+] + [(f"seed {seed}", the_adder(8), pick, 10, seed) for seed in SEEDS for pick in ("plain", "even")]
+
 CASES = [
     ("nothing", Netlist(), "sites", ALL),
     ("the and gate, inverted", the_and_gate(), "sites", "inv"),
@@ -200,16 +269,28 @@ CASES = [
 ]
 
 
+def tell_sites(title, netlist, verb, modes):
+    if sys.argv[1] == "input":
+        return [f"# {title}", *netlist.lines, f"{verb} {modes}"]
+    tell = {"count": lambda modes: [], "sites": netlist.sites, "texts": netlist.texts, "mutants": netlist.mutants}[verb]
+    return [f"# {title}", f"{len(netlist.sites(modes))} sites", *tell(modes)]
+
+
+def tell_pick(title, netlist, pick, size, seed):
+    if sys.argv[1] == "input":
+        return [f"# {title}", *netlist.lines, f"{pick} {size} {seed}"]
+    return [f"# {title}", *map(str, selected(netlist, pick, size, seed))]
+
+
+def tell_words(seed):
+    if sys.argv[1] == "input":
+        return [f"# the first words of seed {seed}", f"words 20 {seed}"]
+    return [f"# the first words of seed {seed}", *map(str, pcg.words(seed, 20))]
+
+
 def main():
-    for title, netlist, verb, modes in CASES:
-        if sys.argv[1] == "input":
-            print("\n".join([f"# {title}", *netlist.lines, f"{verb} {modes}"]))
-            continue
-        sites = netlist.sites(modes)
-        print(f"# {title}\n{len(sites)} sites")
-        if verb != "count":
-            lines = {"sites": netlist.sites, "texts": netlist.texts, "mutants": netlist.mutants}[verb](modes)
-            print("\n".join(lines), end="\n" if lines else "")
+    texts = [tell_sites(*case) for case in CASES] + [tell_pick(*case) for case in PICKS] + [tell_words(seed) for seed in SEEDS]
+    print("\n".join(line for text in texts for line in text))
 
 
 if __name__ == "__main__":

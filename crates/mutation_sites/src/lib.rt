@@ -18,6 +18,7 @@ pub use count::site_count;
 pub use laws::ports_have_their_sites;
 pub use mode::{Mode, ModeSet};
 pub use mutant::mutate;
+pub use place::span_at;
 pub use site::{Place, Site};
 pub use site_list::sites;
 pub use text::site_text;

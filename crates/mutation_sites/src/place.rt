@@ -105,8 +105,8 @@ fn bit_or_zero(bits: &[Bit], i: u8) -> Bit
     bits.get(i as usize).copied().unwrap_or(Bit::Fixed(false))
 }
 
-/// The place in the source of a cell or a register.
-pub(crate) fn span_at(raw: &RawNetlist, place: Place) -> Span
+/// The place in the sources of a cell or a register; of one that the netlist does not have, line 0 of file 0.
+pub fn span_at(raw: &RawNetlist, place: Place) -> Span
     ensures { result ≡ span_at raw.now place }
 {
     match place {

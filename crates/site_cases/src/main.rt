@@ -1,4 +1,4 @@
-//! Lists the mutation sites of the netlists that the lines of standard input describe.
+//! Lists the mutation sites of the netlists that the lines of standard input describe, their mutants, and what is selected of them.
 //!
 //! A line is a statement: a word, and what belongs to it, with one blank between words. BITS are the bits at a port from
 //! bit 0 on, with commas between them: a net by its number, `5..8` for the nets from 5 to 8, `low` and `high` for the
@@ -10,9 +10,13 @@
 //! | `output BITS` | There is an output more. |
 //! | `register WIDTH D Q` | There is a register more, with a start value of this width and these bits at D and Q. |
 //! | `KIND BITS ..` | There is a cell more, with these bits at its ports, Y last. |
+//! | `at FILE LINE` | The cells and registers that follow stand there in the sources. |
 //! | `sites MODE ..` | Prints how many sites the netlist has for these modes, and each of them; begins another netlist. |
 //! | `count MODE ..` | Prints the count alone. |
 //! | `texts MODE ..` | Prints the text of each site. |
+//! | `plain SIZE SEED` | Prints the numbers of the selected sites, of all modes; begins another netlist. |
+//! | `even SIZE SEED` | The same by an even pick. |
+//! | `words COUNT SEED` | Prints the first words of the generator that picks are made by. |
 //! | `mutants MODE ..` | Prints the text of each site, and the outputs, registers and cells of its mutant. |
 //!
 //! A line that begins with `#` is printed, and an empty one is left out.
@@ -23,13 +27,31 @@ ghost use Rattle.mutation_sites.specs.Mutants.{IsSite};
 
 mod mutants;
 mod parts;
+mod picks;
 
 use anyhow::{Context, Result};
+use mcy_base::Span;
 use mutants::tell_mutants;
+use mutation_select::Pick;
 use mutation_sites::{ModeSet, Site, site_count, site_text, sites};
 use netlist_core::{Netlist, RawNetlist, is_formed};
 use parts::{add_part, files, no_parts};
+use picks::{place_of, tell_pick, tell_words};
 use std::{io, mem, str};
+
+/// A netlist to which statements add, and the place of the parts that follow.
+#[derive(Drop)]
+struct Sheet {
+    raw: RawNetlist,
+    place: Span,
+}
+
+/// Where parts stand before they are told to stand elsewhere.
+const START: Span = Span {
+    file: 0,
+    line: 1,
+    col: 1,
+};
 
 /// The modes that the words name.
 fn modes_of(words: &str) -> ModeSet {
@@ -135,25 +157,38 @@ fn asked(verb: &str) -> Option<Question> {
     }
 }
 
+/// Takes the netlist of a sheet, and begins another.
+fn take_netlist<R: AllocGlobal>(rt: &R, sheet: &mut Sheet) -> Result<RawNetlist> {
+    sheet.place = START;
+    Ok(mem::replace(&mut sheet.raw, no_parts(rt.alloc())?))
+}
+
 /// Carries out a statement.
-fn carry_out<R: Print + AllocGlobal>(rt: &R, raw: &mut RawNetlist, line: &str) -> Result<()> {
+fn carry_out<R: Print + AllocGlobal>(rt: &R, sheet: &mut Sheet, line: &str) -> Result<()> {
     let (verb, rest) = line.split_once(' ').unwrap_or((line, ""));
     if let Some(question) = asked(verb) {
-        let whole = mem::replace(raw, no_parts(rt.alloc())?);
+        let whole = take_netlist(rt, sheet)?;
         return answer(rt, whole, modes_of(rest), question);
     }
     match verb {
         "" => {}
         "#" => println!(rt; "{line}")?,
-        _ => add_part(rt.alloc(), raw, verb, rest)?,
+        "at" => sheet.place = place_of(rest)?,
+        "words" => tell_words(rt, rest)?,
+        "plain" => tell_pick(rt, take_netlist(rt, sheet)?, Pick::Plain, rest)?,
+        "even" => tell_pick(rt, take_netlist(rt, sheet)?, Pick::Even, rest)?,
+        _ => add_part(rt.alloc(), &mut sheet.raw, sheet.place, verb, rest)?,
     }
     Ok(())
 }
 
 fn main(rt: HostRuntime) -> Result<()> {
-    let mut raw = no_parts(rt.alloc())?;
+    let mut sheet = Sheet {
+        raw: no_parts(rt.alloc())?,
+        place: START,
+    };
     for line in rt.lines(rt.alloc()) {
-        carry_out(&rt, &mut raw, line?.as_str())?;
+        carry_out(&rt, &mut sheet, line?.as_str())?;
     }
     Ok(())
 }

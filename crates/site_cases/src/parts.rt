@@ -85,33 +85,26 @@ fn port(alloc: Global, bits: BitList) -> Result<Port, AllocError> {
     })
 }
 
-/// The place of each part in the source.
-const PLACE: Span = Span {
-    file: 0,
-    line: 1,
-    col: 1,
-};
-
 /// The register that the words give.
-fn register(alloc: Global, words: &str) -> Result<Register> {
+fn register(alloc: Global, place: Span, words: &str) -> Result<Register> {
     let (width, ports) = words.split_once(' ').context("no width")?;
     let (d, q) = ports.split_once(' ').context("no Q")?;
     let width = width.parse::<u8>().ok().context("no width")?;
     Ok(Register {
         name: Text::copy(alloc, "state")?,
-        span: PLACE,
+        span: place,
         d: bits_of(alloc, d)?,
         q: bits_of(alloc, q)?,
         start: Word::new(width, 0).context("no width")?,
     })
 }
 
-fn cell(kind: CellKind, ports: PortList) -> Cell {
+fn cell(kind: CellKind, place: Span, ports: PortList) -> Cell {
     Cell {
         kind,
         is_signed: false,
         ports,
-        span: PLACE,
+        span: place,
     }
 }
 
@@ -124,15 +117,21 @@ fn ports_of(alloc: Global, words: &str) -> Result<PortList> {
     Ok(ports)
 }
 
-/// Adds what a statement gives.
-pub(crate) fn add_part(alloc: Global, raw: &mut RawNetlist, verb: &str, rest: &str) -> Result<()> {
+/// Adds what a statement gives, at a place in the sources.
+pub(crate) fn add_part(
+    alloc: Global,
+    raw: &mut RawNetlist,
+    place: Span,
+    verb: &str,
+    rest: &str,
+) -> Result<()> {
     match verb {
         "input" => raw.inputs.push(port(alloc, bits_of(alloc, rest)?)?)?,
         "output" => raw.outputs.push(port(alloc, bits_of(alloc, rest)?)?)?,
-        "register" => raw.registers.push(register(alloc, rest)?)?,
+        "register" => raw.registers.push(register(alloc, place, rest)?)?,
         _ => {
             let kind = kind_of(verb).context("no statement")?;
-            raw.cells.push(cell(kind, ports_of(alloc, rest)?))?;
+            raw.cells.push(cell(kind, place, ports_of(alloc, rest)?))?;
         }
     }
     Ok(())

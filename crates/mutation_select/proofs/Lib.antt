@@ -1,0 +1,6 @@
+mod Counts
+mod Ascending
+mod Order
+mod Firsts
+mod Ranks
+mod Numbered

@@ -1,0 +1,41 @@
+-- The numbers of what sites draw are their places, in order.
+use Rattle.std.proofs.Common.{◌≡◌, ℕ, ◌+◌, ◌≤◌, List, [], ◌∷◌, length, map, refl, sym, ap, ◌∙◌, subst, arith}
+use Rattle.std.specs.List.Sorted.{IsPermutation}
+use Rattle.std.proofs.lemmas.List.Sorted.{IsPermutation-refl}
+use Rattle.rand_pcg.specs.Lcg.{Lcg}
+use Rattle.rand_pcg.specs.Pcg.{pcg64}
+use Rattle.netlist_core.specs.declared.raw.RawNetlist.{RawNetlist}
+use Rattle.mutation_sites.specs.declared.site.Site.{Site}
+use Rattle.mutation_select.specs.declared.words.Drawn.{Drawn}
+use Rattle.mutation_select.specs.declared.pick.Pick.{Pick}
+use Rattle.mutation_select.specs.declared.pick.Pick.TheVariants.{Plain, Even}
+use Rattle.mutation_select.specs.Draws.{drawn}
+use Rattle.mutation_select.specs.Selection.{draw_number, draws, number_of, rank, with_rank}
+use Rattle.mutation_select.specs.Walks.{Ascends}
+
+pub drawn-ascends : (netlist : RawNetlist) (g : Lcg) (i : ℕ) (sites : List Site) → Ascends i (map number_of (drawn netlist g i sites))
+drawn-ascends netlist g i [] = tt
+drawn-ascends netlist g i (site ∷ more) = (omega arith, drawn-ascends netlist (pcg64 g).1 (i + 1) more)
+
+pub length-drawn : (netlist : RawNetlist) (g : Lcg) (i : ℕ) (sites : List Site) → length (drawn netlist g i sites) ≡ length sites
+length-drawn netlist g i [] = refl
+length-drawn netlist g i (site ∷ more) = omega (arith, length-drawn netlist (pcg64 g).1 (i + 1) more)
+
+ranked-numbers : (f : Drawn → ℕ) (sites : List Drawn) → map draw_number (map (λ d. with_rank (f d) d) sites) ≡ map number_of sites
+ranked-numbers f [] = refl
+ranked-numbers f (d ∷ more) = ap (λ rest. number_of d ∷ rest) (ranked-numbers f more)
+
+pub numbers-of-draws : (pick : Pick) (sites : List Drawn) → map draw_number (draws pick sites) ≡ map number_of sites
+numbers-of-draws Plain sites = ranked-numbers (λ d. 0) sites
+numbers-of-draws Even sites = ranked-numbers (rank sites) sites
+
+ranked-length : (f : Drawn → ℕ) (sites : List Drawn) → length (map (λ d. with_rank (f d) d) sites) ≡ length sites
+ranked-length f [] = refl
+ranked-length f (d ∷ more) = omega (arith, ranked-length f more)
+
+pub length-draws : (pick : Pick) (sites : List Drawn) → length (draws pick sites) ≡ length sites
+length-draws Plain sites = ranked-length (λ d. 0) sites
+length-draws Even sites = ranked-length (rank sites) sites
+
+pub permutation-same : {X : Type 0} (xs ys : List X) → ys ≡ xs → IsPermutation xs ys
+permutation-same xs ys same = subst (λ list. IsPermutation xs list) (sym same) (IsPermutation-refl xs)

@@ -1,0 +1,7 @@
+use Rattle.std.proofs.Common.{rules}
+use Rattle.mutation_select.specs.Draws.{generator}
+use Rattle.mutation_select.proofs.words.draw_words.Goals as goal
+
+pub loop-number-init : goal.loop-number-init
+unfolding generator
+loop-number-init c = search rules

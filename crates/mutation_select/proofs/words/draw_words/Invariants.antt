@@ -1,0 +1,6 @@
+use Rattle.std.proofs.Common.{◌≡◌, ◌++◌, drop, length}
+use Rattle.mutation_select.specs.Draws.{drawn, generator}
+use Rattle.mutation_select.proofs.words.draw_words.Given as goal
+
+abbrev pub invariant-loop-number : goal.invariant-loop-number
+invariant-loop-number l = l.list.items ++ drawn l.netlist.raw l.words l.number (drop l.number l.sites) ≡ drawn l.netlist.raw (generator l.word_seed) 0 l.sites
