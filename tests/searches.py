@@ -4,8 +4,8 @@
     tests/searches.py            writes crates/search_cases/stdin and crates/search_cases/stdout
     tests/searches.py --check    only compares the two files with what would be written
 
-This is the rule of the search, over lists: decide the least open free bit to 0, propagate by passes over the clauses in order,
-and learn the free bits at which the walk down the trail stops. What comes of it is tested by the definition besides: each lemma
+This is the rule of the search, over lists: decide the least open free bit to 0, propagate by examining the new clauses in order
+and then those in which the next literal of the trail is false, and learn the free bits at which the walk down the trail stops. What comes of it is tested by the definition besides: each lemma
 is over free bits, has no earlier one as a part and follows by propagation, a model makes each clause true, and a refuted list of
 clauses has no model among all values of the free bits.
 """
@@ -61,23 +61,35 @@ class Search:
     def __init__(self, clauses, free, limit):
         self.clauses, self.lemmas, self.free, self.limit = clauses, [], free, limit
         self.trail, self.starts = [], []
+        self.taken, self.head, self.holders = 0, 0, {}
 
     def known(self):
         return {literal for literal, _ in self.trail}
 
+    def examine(self, clause):
+        """Whether the clause is false. Where it is unit, its literal is made true."""
+        known = self.known()
+        open_ = left(clause, known)
+        if len(open_) == 1 and open_[0] not in known:
+            self.trail.append((open_[0], clause))
+        return not open_
+
     def propagate(self):
         """The clause that is false in the end, if there is one."""
-        while True:
-            count = len(self.trail)
-            for clause in self.clauses + self.lemmas:
-                known = self.known()
-                open_ = left(clause, known)
-                if not open_:
+        clauses = self.clauses + self.lemmas
+        while self.taken < len(clauses):
+            clause = clauses[self.taken]
+            if self.examine(clause):
+                return clause
+            for literal in clause:
+                self.holders.setdefault(literal, []).append(clause)
+            self.taken += 1
+        while self.head < len(self.trail):
+            for clause in self.holders.get(-self.trail[self.head][0], []):
+                if self.examine(clause):
                     return clause
-                if len(open_) == 1 and open_[0] not in known:
-                    self.trail.append((open_[0], clause))
-            if len(self.trail) == count:
-                return None
+            self.head += 1
+        return None
 
     def conflict(self):
         """The clause that is false after decisions, or None at a model."""
@@ -117,6 +129,7 @@ class Search:
         self.lemmas.append(lemma)
         if back < len(self.starts):
             del self.trail[self.starts[back]:], self.starts[back:]
+            self.head = min(self.head, len(self.trail))
 
     def step(self):
         conflict = self.conflict()

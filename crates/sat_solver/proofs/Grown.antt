@@ -1,12 +1,10 @@
 -- Trails to which literals were added.
-use Rattle.std.proofs.Common.{◌≡◌, ℕ, ◌+◌, ◌*◌, ◌<◌, ◌≤◌, Bool, List, [], ◌∷◌, ◌++◌, length, take, get_or, set, ℤ, Option, Some, None, is_some, cond, refl, ap, sym, ◌∙◌, subst, slice_get, arith}
-use Rattle.std.specs.Prelude.{All, count_by}
+use Rattle.std.proofs.Common.{◌≡◌, ℕ, ◌+◌, ◌*◌, ◌<◌, ◌≤◌, Bool, List, [], ◌∷◌, ◌++◌, length, get_or, set, ℤ, Option, Some, None, is_some, cond, refl, ap, ◌∙◌, arith}
+use Rattle.std.specs.Prelude.{count_by}
 use Rattle.std.proofs.lemmas.List.{take-append-le, length_push, length-set}
-use Rattle.std.proofs.lemmas.List.Elements.{All-more}
 use Rattle.std.proofs.lemmas.List.Sums.{sum_by-le}
-use Rattle.std.proofs.lemmas.Option.{slice_get-get_or, slice_get_within}
 use Rattle.clause_store.specs.Clauses.{variable}
-use Rattle.clause_store.specs.Propagation.{Known, is_positive, IsUnit, IsQuiet, clause_at}
+use Rattle.clause_store.specs.Propagation.{is_positive, IsUnit, clause_at}
 use Rattle.lrat_checker.specs.Tables.{known_of}
 use Rattle.sat_solver.specs.declared.trail.Trail.{Trail}
 use Rattle.sat_solver.specs.Trails.{IsGrown, IsUnchanged}
@@ -53,10 +51,3 @@ count-le table = let bound : count_by is_some table ≤ length table * 1 = sum_b
   one : (o : Option Bool) → cond (is_some o) 1 0 ≤ 1
   one None = omega arith
   one (Some b) = omega arith
-
--- one more clause is quiet
-pub quiet-more : (clauses : List (List ℤ)) (known : Known) (id : ℕ) (clause : List ℤ) → slice_get clauses id ≡ Some clause → All (IsQuiet known) (take id clauses) → IsQuiet known clause → All (IsQuiet known) (take (id + 1) clauses)
-quiet-more clauses known id clause at all here =
-    let within : id < length clauses = slice_get_within clauses id clause at in
-    let same : get_or clauses id [] ≡ clause = let got : Some (get_or clauses id []) ≡ Some clause = sym (slice_get-get_or clauses id [] within) ∙ at in cc in
-    All-more (IsQuiet known) clauses id [] within all (let P : List ℤ → Type 0 = IsQuiet known in subst P (sym same) here)

@@ -48,17 +48,18 @@ pub fn analyze(
     while place > 0 {
         place -= 1;
         let l = trail.literals[place];
-        if needs(&needed, l) {
-            if stops(&needed, trail, free, place) {
-                if lemma.len() == 1 {
-                    back = level_of(&trail.starts, place);
-                }
-                lemma.push(negated(l))?;
-            } else {
-                let reason = trail.reasons[place];
-                mark(&mut needed, store.clause(reason));
-                hints.push(reason)?;
+        if !needs(&needed, l) {
+            continue;
+        }
+        if stops(&needed, trail, free, place) {
+            if lemma.len() == 1 {
+                back = level_of(&trail.starts, place);
             }
+            lemma.push(negated(l))?;
+        } else {
+            let reason = trail.reasons[place];
+            mark(&mut needed, store.clause(reason));
+            hints.push(reason)?;
         }
     }
     hints.reverse();

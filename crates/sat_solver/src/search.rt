@@ -1,7 +1,8 @@
 //! The search: it decides free bits alone, and propagates before each decision.
 //!
 //! Invariant: the trail's literals have reasons among the clauses and lemmas, and no clause was false or unit when a
-//! level began, so that the checker never refuses a lemma. Contracts see the log and the limit.
+//! level began, so that the checker never refuses a lemma. The lists and counts of propagation are those of the clauses
+//! and lemmas that it has taken in. Contracts see the log and the limit.
 ghost use Rattle.std.specs.Prelude.{◌≡◌, ℕ, ◌+◌, ◌<◌, ◌≤◌, [], length, All, IfOk, OnOk, OnErr, IfSome, MatchOption, ⊤};
 ghost use Rattle.clause_store.specs.Clauses.{IsModel};
 ghost use Rattle.lrat_checker.specs.Tables.{known_of};
@@ -11,7 +12,7 @@ ghost use Rattle.sat_solver.specs.Found.{Hunt, IsRunning, IsContinued, Finds, Is
 use crate::decide::next_conflict;
 use crate::found::{Assignment, Found};
 use crate::learn::learn;
-use crate::trail::Trail;
+use crate::propagator::Propagator;
 use clause_encoder::Miter;
 use lrat_checker::Checker;
 use std::alloc::{AllocError, Global};
@@ -22,7 +23,7 @@ use std::marker::Model;
 pub struct Search {
     alloc: Global,
     checker: Checker,
-    trail: Trail,
+    propagator: Propagator,
     free: u32,
     limit: u32,
 }
@@ -48,11 +49,11 @@ impl Search {
     {
         let free = miter.free;
         let checker = Checker::new(alloc, miter.store, miter.variables, free)?;
-        let trail = Trail::new(alloc, miter.variables)?;
+        let propagator = Propagator::new(alloc, miter.variables)?;
         Ok(Search {
             alloc,
             checker,
-            trail,
+            propagator,
             free,
             limit,
         })
@@ -84,13 +85,13 @@ impl Search {
         ensures none { IfOk result (λ o. MatchOption o ((length self.new.log.lemmas ≡ length self.old.log.lemmas + 1) × IsRunning self.new) (λ _. ⊤)) }
         ensures err { OnErr result (IsRunning self.new) }
     {
-        match next_conflict(self.checker.store(), &mut self.trail, self.free)? {
-            None => Ok(Some(Found::Model(model(self.alloc, &self.trail.values)?))),
+        match next_conflict(self.checker.store(), &mut self.propagator, self.free)? {
+            None => Ok(Some(Found::Model(model(self.alloc, &self.propagator.trail.values)?))),
             Some(conflict) => {
                 learn(
                     self.alloc,
                     &mut self.checker,
-                    &mut self.trail,
+                    &mut self.propagator,
                     self.free,
                     conflict,
                 )?;

@@ -32,13 +32,13 @@ loop-place-init c =
     let whole : c.len-place.result ≡ length c.args.trail.now.literals.items = omega (arith, c.len-place.ensures, c.args.trail.now.literals.ok.0) in
     (rw (c.in_ok-push.ensures.items, c.new-hints.ensures.items, c.new-lemma.ensures.items, whole) start, c.mark.ensures.len ∙ count, omega (arith, whole))
 
-pub loop-place-preserved : goal.loop-place-preserved
-loop-place-preserved c =
+pub loop-place-preserved-then-not-needs : goal.loop-place-preserved-then-not-needs
+loop-place-preserved-then-not-needs c =
     let next : c.loop-place.place ≡ c.loop-place.place - 1 + 1 = omega (arith, c.loop-place-test.true) in
     let inside : c.loop-place.place - 1 < length c.args.trail.now.literals.items = omega (arith, c.loop-place-test.true, c.loop-place.invariant.2) in
     let here : c.index-l.result.now ≡ literal_at c.args.trail.now.literals.items (c.loop-place.place - 1) = get_or_read c.args.trail.now.literals.items (c.loop-place.place - 1) c.index-l.result.now inside c.index-l.ensures (pos 0) in
     let fits : FitsSigned w32 c.index-l.result.now = search rules in
-    let skip : is_needed c.loop-place.needed.items (variable (literal_at c.args.trail.now.literals.items (c.loop-place.place - 1))) ≡ false = rw (c.deref.ensures.value, to_z-of_z w32 c.index-l.result.now fits, here) at (sym c.if-needs.ensures) in
+    let skip : is_needed c.loop-place.needed.items (variable (literal_at c.args.trail.now.literals.items (c.loop-place.place - 1))) ≡ false = rw (c.deref.ensures.value, to_z-of_z w32 c.index-l.result.now fits, here) at (sym c.if-not-needs.ensures) in
     (walked-skip c.args.store.now c.args.free c.args.trail.now.literals.items c.args.trail.now.starts.items c.loop-place.needed.items c.loop-place.lemma.items c.loop-place.hints.items c.loop-place.back (c.loop-place.place - 1) skip (rw next at c.loop-place.invariant.0), c.loop-place.invariant.1, omega (arith, c.loop-place.invariant.2))
 
 pub loop-place-preserved-in-Continue-branch-3 : goal.loop-place-preserved-in-Continue-branch-3
@@ -47,10 +47,10 @@ loop-place-preserved-in-Continue-branch-3 c =
     let inside : c.loop-place.place - 1 < length c.args.trail.now.literals.items = omega (arith, c.loop-place-test.true, c.loop-place.invariant.2) in
     let here : c.index-l.result.now ≡ literal_at c.args.trail.now.literals.items (c.loop-place.place - 1) = get_or_read c.args.trail.now.literals.items (c.loop-place.place - 1) c.index-l.result.now inside c.index-l.ensures (pos 0) in
     let fits : FitsSigned w32 c.index-l.result.now = search rules in
-    let need : is_needed c.loop-place.needed.items (variable (literal_at c.args.trail.now.literals.items (c.loop-place.place - 1))) ≡ true = rw (c.deref.ensures.value, to_z-of_z w32 c.index-l.result.now fits, here) at (sym c.if-needs.ensures) in
+    let need : is_needed c.loop-place.needed.items (variable (literal_at c.args.trail.now.literals.items (c.loop-place.place - 1))) ≡ true = rw (c.deref.ensures.value, to_z-of_z w32 c.index-l.result.now fits, here) at (sym c.if-not-needs.ensures) in
     let good = c.if-stops.ensures.yes in
     let last_within : last_start c.args.trail.now.starts.items < length c.args.trail.now.literals.items = c.requires.ready.trail.starts_.within (length c.args.trail.now.starts.items - 1) (omega (arith, good.2)) in
-    let none_ : NoneNeeded c.args.trail.now.literals.items c.loop-place.needed.items (last_start c.args.trail.now.starts.items) (c.loop-place.place - 1) = rw c.deref-then-needs.ensures.value at good.3 in
+    let none_ : NoneNeeded c.args.trail.now.literals.items c.loop-place.needed.items (last_start c.args.trail.now.starts.items) (c.loop-place.place - 1) = rw c.deref-in-loop-place.ensures.value at good.3 in
     let second : length c.loop-place.lemma.items ≡ 1 → ((j : ℕ) → j < c.if-len-eq1.back → get_or c.args.trail.now.starts.items j 0 ≤ c.loop-place.place - 1) × (c.if-len-eq1.back ≤ length c.args.trail.now.starts.items) = λ one. elim c.if-len-eq1.branch [
       | then-len-eq1 w ↦ rw (w.back-is, ← w.deref-then-len-eq1.ensures.value) (w.level_of-back.ensures.begun, w.level_of-back.ensures.within)
       | else-len-eq1 w ↦ absurd (omega (arith, one, w.if-len-eq1.false, c.len.ensures, c.loop-place.lemma.ok.0))
@@ -75,13 +75,13 @@ pub mark-requires-else-stops : goal.mark-requires-else-stops
 mark-requires-else-stops c =
     rw c.loop-place.invariant.1 (clause-within c.args.store.now (length c.args.trail.now.values.items) (c.index-reason.result.now - 1) c.clause-else-stops.result.now c.requires.over c.clause-else-stops.ensures)
 
-pub loop-place-preserved-in-Continue-branch-4 : goal.loop-place-preserved-in-Continue-branch-4
-loop-place-preserved-in-Continue-branch-4 c =
+pub loop-place-preserved : goal.loop-place-preserved
+loop-place-preserved c =
     let next : c.loop-place.place ≡ c.loop-place.place - 1 + 1 = omega (arith, c.loop-place-test.true) in
     let inside : c.loop-place.place - 1 < length c.args.trail.now.literals.items = omega (arith, c.loop-place-test.true, c.loop-place.invariant.2) in
     let here : c.index-l.result.now ≡ literal_at c.args.trail.now.literals.items (c.loop-place.place - 1) = get_or_read c.args.trail.now.literals.items (c.loop-place.place - 1) c.index-l.result.now inside c.index-l.ensures (pos 0) in
     let fits : FitsSigned w32 c.index-l.result.now = search rules in
-    let need : is_needed c.loop-place.needed.items (variable (literal_at c.args.trail.now.literals.items (c.loop-place.place - 1))) ≡ true = rw (c.deref.ensures.value, to_z-of_z w32 c.index-l.result.now fits, here) at (sym c.if-needs.ensures) in
+    let need : is_needed c.loop-place.needed.items (variable (literal_at c.args.trail.now.literals.items (c.loop-place.place - 1))) ≡ true = rw (c.deref.ensures.value, to_z-of_z w32 c.index-l.result.now fits, here) at (sym c.if-not-needs.ensures) in
     let reason : c.index-reason.result.now ≡ get_or c.args.trail.now.reasons.items (c.loop-place.place - 1) 0 = get_or_read c.args.trail.now.reasons.items (c.loop-place.place - 1) c.index-reason.result.now (omega (arith, inside, c.requires.ready.trail.reasoned.paired)) c.index-reason.ensures 0 in
     let found = reason-clause c.args.store.now c.args.free c.args.trail.now.starts.items c.args.trail.now.literals.items (c.loop-place.place - 1) (get_or c.args.trail.now.reasons.items (c.loop-place.place - 1) 0) c.if-stops.ensures.no (c.requires.ready.trail.reasoned.each (c.loop-place.place - 1) inside) in
     let is : found.0 ≡ c.clause-else-stops.result.now = clause-read c.args.store.now (get_or c.args.trail.now.reasons.items (c.loop-place.place - 1) 0) found.0 c.clause-else-stops.result.now found.1 (rw reason at c.clause-else-stops.ensures) in

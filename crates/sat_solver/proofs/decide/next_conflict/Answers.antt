@@ -6,39 +6,51 @@ use Rattle.clause_store.specs.Clauses.{variable}
 use Rattle.clause_store.specs.Propagation.{is_positive, IsQuiet}
 use Rattle.lrat_checker.specs.Tables.{known_of}
 use Rattle.sat_solver.specs.Trails.{IsReady}
+use Rattle.sat_solver.specs.Propagators.{IsAssigned}
 use Rattle.sat_solver.proofs.Grown.{count-le}
 use Rattle.sat_solver.proofs.Ready.{ready-grown, ready-decide, ready-same}
 use Rattle.sat_solver.proofs.decide.next_conflict.Goals as goal
 
 pub returns-in_err-conflict-clause-ready : goal.returns-in_err-conflict-clause-ready
-returns-in_err-conflict-clause-ready c = ready-grown c.args.store.now c.args.free c.decisions.trail c.propagate.new.trail c.decisions.invariant.0 c.propagate.ensures.grown
+returns-in_err-conflict-clause-ready c = ready-grown c.args.store.now c.args.free c.decisions.propagator.trail c.propagate.new.self.trail c.decisions.invariant.0 c.propagate.ensures.grown
 
 pub returns-in-Some-clause-ready : goal.returns-in-Some-clause-ready
-returns-in-Some-clause-ready c = ready-grown c.args.store.now c.args.free c.decisions.trail c.propagate.new.trail c.decisions.invariant.0 c.propagate.ensures.grown
+returns-in-Some-clause-ready c = ready-grown c.args.store.now c.args.free c.decisions.propagator.trail c.propagate.new.self.trail c.decisions.invariant.0 c.propagate.ensures.grown
 
 pub returns-in-None-clause-ready : goal.returns-in-None-clause-ready
-returns-in-None-clause-ready c = ready-grown c.args.store.now c.args.free c.decisions.trail c.propagate.new.trail c.decisions.invariant.0 c.propagate.ensures.grown
+returns-in-None-clause-ready c = ready-grown c.args.store.now c.args.free c.decisions.propagator.trail c.propagate.new.self.trail c.decisions.invariant.0 c.propagate.ensures.grown
 
 pub decide-requires-clause-short : goal.decide-requires-clause-short
 decide-requires-clause-short c =
-    let ready : IsReady c.args.store.now c.args.free c.propagate.new.trail = ready-grown c.args.store.now c.args.free c.decisions.trail c.propagate.new.trail c.decisions.invariant.0 c.propagate.ensures.grown in
-    omega (arith, ready.trail.counted, count-le c.propagate.new.trail.values.items, c.propagate.ensures.grown.len, c.decisions.invariant.1, c.requires.short)
+    let ready : IsReady c.args.store.now c.args.free c.propagate.new.self.trail = ready-grown c.args.store.now c.args.free c.decisions.propagator.trail c.propagate.new.self.trail c.decisions.invariant.0 c.propagate.ensures.grown in
+    omega (arith, ready.trail.counted, count-le c.propagate.new.self.trail.values.items, c.propagate.ensures.grown.len, c.decisions.invariant.1, c.requires.short)
+
+pub decide-requires-clause-open : goal.decide-requires-clause-open
+decide-requires-clause-open c =
+    let fits : FitsSigned w32 c.negative.result = search rules in
+    let v : variable c.negative.result ≡ c.in-Some-open_bit.v = c.negative.ensures in
+    rw (to_z-of_z w32 c.negative.result fits, v, ← c.deref.ensures.value) c.in-Some-open_bit.ensures.found.2
+
+pub decide-requires-clause-kept : goal.decide-requires-clause-kept
+decide-requires-clause-kept c = (c.args.store.now, c.propagate.ensures.kept)
 
 pub decisions-preserved : goal.decisions-preserved
 decisions-preserved c =
-    let ready : IsReady c.args.store.now c.args.free c.propagate.new.trail = ready-grown c.args.store.now c.args.free c.decisions.trail c.propagate.new.trail c.decisions.invariant.0 c.propagate.ensures.grown in
-    let quiet : All (IsQuiet (known_of c.propagate.new.trail.values.items)) c.args.store.now = rw c.in_default.is at c.in_ok-conflict.ensures.end in
+    let ready : IsReady c.args.store.now c.args.free c.propagate.new.self.trail = ready-grown c.args.store.now c.args.free c.decisions.propagator.trail c.propagate.new.self.trail c.decisions.invariant.0 c.propagate.ensures.grown in
+    let quiet : All (IsQuiet (known_of c.propagate.new.self.trail.values.items)) c.args.store.now = rw c.in_default.is at c.in_ok-conflict.ensures.end in
     let fits : FitsSigned w32 c.negative.result = search rules in
+    let decided : IsAssigned c.negative.result 0 c.propagate.new.self.trail c.decide.new.self.trail = rw (to_z-of_z w32 c.negative.result fits) at c.in_ok-decide-in-Some-open_bit.ensures.decided in
     let found = c.in-Some-open_bit.ensures.found in
     let v : variable c.negative.result ≡ c.in-Some-open_bit.v = c.negative.ensures in
-    let open_ : known_of c.propagate.new.trail.values.items (variable c.negative.result) ≡ None = rw (v, ← c.deref.ensures.value) found.2 in
-    let len : length c.propagate.new.trail.values.items ≡ length c.args.trail.now.values.items = c.propagate.ensures.grown.len ∙ c.decisions.invariant.1 in
-    let values : c.decide.new.self.values.items ≡ set c.propagate.new.trail.values.items (variable c.negative.result) (Some (is_positive c.negative.result)) = rw (to_z-of_z w32 c.negative.result fits) at c.in_ok-decide-in-Some-open_bit.ensures.values in
-    let literals : c.decide.new.self.literals.items ≡ c.propagate.new.trail.literals.items ++ c.negative.result ∷ [] = rw (to_z-of_z w32 c.negative.result fits) at c.in_ok-decide-in-Some-open_bit.ensures.literals in (
-      ready-decide c.args.store.now c.args.free c.propagate.new.trail c.decide.new.self c.negative.result ready quiet (omega (arith, v, found.1, len, c.requires.free)) open_ (omega (arith, v, found.0)) (omega (arith, v, found.1)) values literals c.in_ok-decide-in-Some-open_bit.ensures.reasons c.in_ok-decide-in-Some-open_bit.ensures.starts,
-      ap (length {A = Option Bool}) values ∙ Rattle.std.proofs.lemmas.List.length-set c.propagate.new.trail.values.items (variable c.negative.result) (Some (is_positive c.negative.result)) ∙ len,
+    let open_ : known_of c.propagate.new.self.trail.values.items (variable c.negative.result) ≡ None = rw (v, ← c.deref.ensures.value) found.2 in
+    let len : length c.propagate.new.self.trail.values.items ≡ length c.args.propagator.now.trail.values.items = c.propagate.ensures.grown.len ∙ c.decisions.invariant.1 in
+    let values : c.decide.new.self.trail.values.items ≡ set c.propagate.new.self.trail.values.items (variable c.negative.result) (Some (is_positive c.negative.result)) = decided.values in
+    let literals : c.decide.new.self.trail.literals.items ≡ c.propagate.new.self.trail.literals.items ++ c.negative.result ∷ [] = decided.literals in (
+      ready-decide c.args.store.now c.args.free c.propagate.new.self.trail c.decide.new.self.trail c.negative.result ready quiet (omega (arith, v, found.1, len, c.requires.free)) open_ (omega (arith, v, found.0)) (omega (arith, v, found.1)) values literals decided.reasons c.in_ok-decide-in-Some-open_bit.ensures.starts,
+      ap (length {A = Option Bool}) values ∙ Rattle.std.proofs.lemmas.List.length-set c.propagate.new.self.trail.values.items (variable c.negative.result) (Some (is_positive c.negative.result)) ∙ len,
+      c.decide.ensures.kept c.args.store.now c.propagate.ensures.kept,
     )
 
 pub returns-in_err-decide-in-Some-open_bit-clause-ready : goal.returns-in_err-decide-in-Some-open_bit-clause-ready
 returns-in_err-decide-in-Some-open_bit-clause-ready c =
-    ready-same c.args.store.now c.args.free c.propagate.new.trail c.decide.new.self c.in_err-decide-in-Some-open_bit.ensures.err c.in_err-decide-in-Some-open_bit.ensures.err_starts (ready-grown c.args.store.now c.args.free c.decisions.trail c.propagate.new.trail c.decisions.invariant.0 c.propagate.ensures.grown)
+    ready-same c.args.store.now c.args.free c.propagate.new.self.trail c.decide.new.self.trail c.in_err-decide-in-Some-open_bit.ensures.err c.in_err-decide-in-Some-open_bit.ensures.err_starts (ready-grown c.args.store.now c.args.free c.decisions.propagator.trail c.propagate.new.self.trail c.decisions.invariant.0 c.propagate.ensures.grown)

@@ -1,0 +1,7 @@
+use Rattle.std.proofs.Common.{◌≡◌, take}
+use Rattle.lrat_checker.specs.Tables.{known_of}
+use Rattle.sat_solver.specs.Occurrences.{valued}
+use Rattle.sat_solver.proofs.counts.count.Given as goal
+
+abbrev pub invariant-loop-l : goal.invariant-loop-l
+invariant-loop-l l = l.counted ≡ valued (known_of l.values) l.value (take l.l-index l.clause)

@@ -1,0 +1,6 @@
+use Rattle.std.proofs.Common.{◌≡◌, ℕ, ◌+◌, length, take, get_or, nat_eq}
+use Rattle.std.specs.Prelude.{count_by}
+use Rattle.sat_solver.proofs.counts.lower.Given as goal
+
+abbrev pub invariant-loop-number : goal.invariant-loop-number
+invariant-loop-number l = (length l.table.items ≡ length l.initial.table.items) × ((n : ℕ) → get_or l.table.items n 0 + count_by (nat_eq n) (take l.number-index l.list) ≡ get_or l.initial.table.items n 0)

@@ -1,0 +1,16 @@
+use Rattle.std.proofs.Common.{◌≡◌, ◌<◌, neg_ℤ, List, ℕ, [], length, get_or, map, ap, ◌∙◌, rules, arith}
+use Rattle.std.specs.Prelude.{FitsSigned}
+use Rattle.std.specs.Int.{w32}
+use Rattle.std.proofs.lemmas.Int.{to_z-of_z}
+use Rattle.std.proofs.lemmas.List.{length-map}
+use Rattle.sat_solver.specs.Occurrences.{place_of}
+use Rattle.sat_solver.proofs.Listed.{list-at}
+use Rattle.sat_solver.proofs.occurrences.Occurrences.against.Goals as goal
+
+pub returns : goal.returns
+returns c =
+    let fits : FitsSigned w32 c.args.l = search rules in
+    let place : c.place_of_negation.result ≡ place_of (neg_ℤ c.args.l) = rw (to_z-of_z w32 c.args.l fits) at c.place_of_negation.ensures in
+    let inside : c.place_of_negation.result < length c.self.inside.lists.items = omega (arith, place, c.requires, ap (length {A = List ℕ}) c.self.view_is, length-map c.self.inside.lists.items (λ v. v.items)) in
+    c.deref.ensures.value ∙ list-at (λ v. v.items) c.self.inside.lists.items c.place_of_negation.result c.index.result.now inside c.index.ensures
+    ∙ ap (λ (p : ℕ). get_or (map (λ v. v.items) c.self.inside.lists.items) p []) place ∙ ap (λ (xs : List (List ℕ)). get_or xs (place_of (neg_ℤ c.args.l)) []) c.self.view_is

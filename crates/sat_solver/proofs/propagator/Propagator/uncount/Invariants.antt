@@ -1,0 +1,16 @@
+use Rattle.std.proofs.Common.{◌≡◌, ◌≤◌, ℤ, List, length, take}
+use Rattle.sat_solver.specs.Trails.{assigned}
+use Rattle.sat_solver.specs.Propagators.{IsKept, IsIndexed, IsSteady}
+use Rattle.sat_solver.proofs.propagator.Propagator.uncount.Given as goal
+
+abbrev pub invariant-places : goal.invariant-places
+invariant-places l = record {
+  from : l.start ≤ l.place;
+  within : l.place ≤ length l.initial.self.trail.literals.items;
+  trail : l.self.trail ≡ l.initial.self.trail;
+  steady : IsSteady l.initial.self l.self;
+  indexed : (clauses : List (List ℤ)) → IsKept clauses l.initial.self → IsIndexed (take l.initial.self.taken clauses) (assigned (take l.place l.initial.self.trail.literals.items)) l.self.occurrences l.self.counts.falses.items l.self.counts.trues.items;
+}
+
+abbrev pub decreases-places : goal.decreases-places
+decreases-places l = l.place
