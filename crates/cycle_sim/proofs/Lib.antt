@@ -1,0 +1,11 @@
+mod PartNumbers
+mod Wired
+mod Laid
+mod CellShapes
+mod Plans
+mod Placed
+mod Growing
+mod Lists
+mod Computed
+mod Cycles
+mod Reading

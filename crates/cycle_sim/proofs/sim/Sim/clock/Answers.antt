@@ -1,0 +1,25 @@
+use Rattle.std.proofs.Common.{◌≡◌, List, length, sym, ◌∙◌, subst}
+use Rattle.std.proofs.lemmas.List.{length-map}
+use Rattle.netlist_core.specs.declared.port.Register.{Register}
+use Rattle.netlist_core.specs.Runs.{q_bits}
+use Rattle.netlist_core.specs.Solutions.{FitPorts}
+use Rattle.cycle_sim.specs.Simulated.{nets_of}
+use Rattle.cycle_sim.proofs.Plans.{fit-length, fit-taken}
+use Rattle.cycle_sim.proofs.sim.Sim.clock.Goals as goal
+
+pub take_all-requires-clause-long : goal.take_all-requires-clause-long
+take_all-requires-clause-long c =
+    let rs : List Register = c.self.inside.netlist.raw.registers in
+    fit-length (q_bits rs) c.self.inside.registers.items c.self.invariant.stored ∙ length-map rs (λ (r : Register). r.q)
+
+pub invariant_of-self : goal.invariant_of-self
+invariant_of-self c =
+    let raw = c.self.inside.netlist.raw in
+    record {
+      sound = c.self.invariant.sound;
+      cells = c.self.invariant.cells;
+      next = c.self.invariant.next;
+      outputs = c.self.invariant.outputs;
+      numbers = c.self.invariant.numbers;
+      stored = subst (FitPorts (q_bits raw.registers)) (sym c.take_all.ensures) (fit-taken (nets_of raw c.as_slice.result.now) 0 raw.registers c.self.invariant.sound.formed.registers);
+    }

@@ -1,0 +1,8 @@
+use Rattle.std.proofs.Common.{◌≡◌, List, take}
+use Rattle.netlist_core.specs.declared.bit.Bit.{Bit}
+use Rattle.cycle_sim.specs.Parts.{all_bits, AllWhole}
+use Rattle.cycle_sim.specs.Places.{ArePlaced}
+use Rattle.cycle_sim.proofs.wiring.wires_of.Given as goal
+
+abbrev pub invariant-loop-bit : goal.invariant-loop-bit
+invariant-loop-bit l = (drivers : List (List Bit)) → ArePlaced drivers l.places l.bits → AllWhole drivers l.parts.items × (all_bits drivers l.parts.items ≡ take l.bit-index l.bits)

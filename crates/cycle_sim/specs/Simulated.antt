@@ -1,0 +1,55 @@
+-- What a simulator holds.
+use Rattle.std.specs.Prelude.{◌≡◌, ℕ, ◌+◌, List, [], ◌∷◌, map, length}
+use Rattle.mcy_base.specs.declared.word.Word.{Word}
+use Rattle.netlist_core.specs.declared.bit.Bit.{Bit}
+use Rattle.netlist_core.specs.declared.cell.Cell.{Cell}
+use Rattle.netlist_core.specs.declared.raw.RawNetlist.{RawNetlist}
+use Rattle.netlist_core.specs.Runs.{Nets, bits_at, q_bits, d_bits, input_ports}
+use Rattle.netlist_core.specs.Settled.{laid_all, all_zero}
+use Rattle.netlist_core.specs.Solutions.{FitPorts, driving}
+use Rattle.netlist_core.specs.Checked.{Plan, IsSound}
+use Rattle.cycle_sim.specs.declared.parts.Wires.{Wires}
+use Rattle.cycle_sim.specs.Parts.{AllWired}
+
+-- A netlist, the numbers at inputs, Q's and Y's, in this order, as they were last settled, and the registers' values now.
+pub record Simulated : Type 0 where
+  pub plan : Plan
+  pub table : List ℕ
+  pub registers : List ℕ
+
+-- the nets that have these numbers at inputs, Q's and Y's
+abbrev pub nets_of : RawNetlist → List ℕ → Nets
+nets_of netlist table = laid_all all_zero (driving netlist) table
+
+-- the values of the nets as they were last settled
+abbrev pub settled_nets : Simulated → Nets
+settled_nets s = nets_of s.plan.raw s.table
+
+-- a word for each port, of its width
+abbrev pub HaveWidths : List (List Bit) → List Word → Type 0
+HaveWidths [] [] = Unit {0}
+HaveWidths (bits ∷ more) (word ∷ words) = (word.width ≡ length bits) × HaveWidths more words
+HaveWidths ports words = ⊥
+
+-- the words' numbers
+abbrev pub numbers_of : List Word → List ℕ
+numbers_of words = map (λ w. w.bits) words
+
+-- the start values
+abbrev pub starts_of : RawNetlist → List ℕ
+starts_of netlist = map (λ r. r.start.bits) netlist.registers
+
+-- the wires of each cell's input ports
+abbrev pub AllCellsWired : List (List Bit) → List (List Wires) → List Cell → Type 0
+AllCellsWired drivers [] [] = Unit {0}
+AllCellsWired drivers (wires ∷ more) (cell ∷ cells) = AllWired drivers wires (input_ports cell.ports) × AllCellsWired drivers more cells
+AllCellsWired drivers wires cells = ⊥
+
+-- where each reader finds its bits, and numbers that fit
+pub record IsSimulated (plan : Plan) (cell_wires : List (List Wires)) (next_wires output_wires : List Wires) (table registers : List ℕ) : Type 0 where
+  pub sound : IsSound plan
+  pub cells : AllCellsWired (driving plan.raw) cell_wires plan.raw.cells
+  pub next : AllWired (driving plan.raw) next_wires (d_bits plan.raw.registers)
+  pub outputs : AllWired (driving plan.raw) output_wires (bits_at plan.raw.outputs)
+  pub numbers : FitPorts (driving plan.raw) table
+  pub stored : FitPorts (q_bits plan.raw.registers) registers

@@ -1,0 +1,13 @@
+//! A simulator of netlists, cycle by cycle.
+#![tactic(auto)]
+
+mod cycle;
+mod laws;
+mod parts;
+mod places;
+mod sim;
+mod state;
+mod wiring;
+
+pub use laws::steps_are_runs;
+pub use sim::Sim;

@@ -1,0 +1,139 @@
+//! A simulator of one netlist.
+//!
+//! `table` has the numbers at inputs, registers' Q and cells' Y, in this order, as they were last settled, and
+//! `registers` those that the registers hold now. They part at a clock: the registers take their D, and the table stays
+//! as it is until the nets settle again. `cells`, `next` and `outputs` say where each reader finds its bits in the table:
+//! the input ports of each cell, each register's D, and each output. All memory is taken by `new`.
+ghost use Rattle.std.specs.Prelude.{◌≡◌, ℕ, ◌≤◌, ◌<◌, ◌↔◌, IsTrue, IfOk, Some, length, slice_index, slice_get};
+ghost use Rattle.netlist_core.specs.declared.port.Port.{Port as Output};
+ghost use Rattle.netlist_core.specs.declared.port.Register.{Register as Stored};
+ghost use Rattle.netlist_core.specs.Runs.{Nets, plain, bits_at, Holds, shown, taken};
+ghost use Rattle.netlist_core.specs.Drivers.{drivers};
+ghost use Rattle.cycle_sim.specs.Simulated.{HaveWidths, numbers_of, starts_of, settled_nets};
+
+use crate::cycle::settle_cells;
+use crate::parts::{Wires, word_at, word_of};
+use crate::places::{driver_count, places_of};
+use crate::state::{have_widths, lay_numbers, lay_words, starts, take_all};
+use crate::wiring::{cell_wires, next_wires, output_wires};
+use mcy_base::{Items, Word};
+use netlist_core::{Netlist, one_run};
+use std::alloc::{AllocError, Global};
+use std::marker::Model;
+
+/// A netlist with the values of its nets and registers.
+#[derive(Drop)]
+pub struct Sim {
+    netlist: Netlist,
+    cells: Vec<Items<Wires>>,
+    next: Vec<Wires>,
+    outputs: Vec<Wires>,
+    table: Vec<u128>,
+    registers: Vec<u128>,
+}
+
+impl Model for Sim {
+    ghost use Rattle.cycle_sim.specs.Simulated.{Simulated, IsSimulated};
+
+    ghost Value = { Simulated };
+
+    ghost view = { λ s. record { plan = s.netlist; table = s.table.items; registers = s.registers.items } };
+
+    ghost invariant = { λ s. IsSimulated s.netlist s.cells.items s.next.items s.outputs.items s.table.items s.registers.items };
+}
+
+impl Sim {
+    /// The simulator of a netlist. Registers hold their start values, and no net has the value 1.
+    pub fn new(alloc: Global, netlist: Netlist) -> Result<Sim, AllocError>
+        ensures plan { IfOk result (λ s. s.plan ≡ netlist) }
+        ensures starts { IfOk result (λ s. s.registers ≡ starts_of netlist.raw) }
+    {
+        let places = places_of(alloc, &netlist)?;
+        let cells = cell_wires(alloc, places.as_slice(), &netlist)?;
+        let next = next_wires(alloc, places.as_slice(), &netlist)?;
+        let outputs = output_wires(alloc, places.as_slice(), &netlist)?;
+        let table = vec![in alloc; 0u128; driver_count(&netlist)]?;
+        let registers = starts(alloc, &netlist)?;
+        Ok(Sim {
+            netlist,
+            cells,
+            next,
+            outputs,
+            table,
+            registers,
+        })
+    }
+
+    /// The netlist.
+    pub fn netlist(&self) -> &Netlist
+        ensures { result.now ≡ self.now.plan }
+    {
+        &self.netlist
+    }
+
+    /// Whether there is a word for each input, of its width.
+    pub fn takes(&self, inputs: &[Word]) -> bool
+        ensures { IsTrue result ↔ HaveWidths (bits_at self.now.plan.raw.inputs) inputs.now }
+    {
+        have_widths(self.netlist.raw().inputs.as_slice(), inputs)
+    }
+
+    /// Computes all nets: those of the one cycle that has these inputs, a word for each, and the registers' values.
+    pub fn settle(&mut self, inputs: &[Word])
+        requires widths { HaveWidths (bits_at self.old.plan.raw.inputs) inputs.now }
+        ensures holds { Holds (plain (settled_nets self.new)) (settled_nets self.new) self.old.plan.raw (numbers_of inputs.now) self.old.registers }
+        ensures alone { (nets : Nets) → Holds (plain nets) nets self.old.plan.raw (numbers_of inputs.now) self.old.registers → (n : ℕ) → 1 ≤ drivers self.old.plan.raw n → nets n ≡ settled_nets self.new n }
+        ensures plan { self.new.plan ≡ self.old.plan }
+        ensures registers { self.new.registers ≡ self.old.registers }
+    {
+        one_run();
+        lay_words(&mut self.table, inputs);
+        lay_numbers(&mut self.table, inputs.len(), self.registers.as_slice());
+        settle_cells(&self.netlist, self.cells.as_slice(), &mut self.table);
+    }
+
+    /// Gives each register what stands at its D. The nets stay as they were last settled.
+    pub fn clock(&mut self)
+        ensures taken { self.new.registers ≡ taken (plain (settled_nets self.old)) 0 self.old.plan.raw.registers }
+        ensures plan { self.new.plan ≡ self.old.plan }
+        ensures table { self.new.table ≡ self.old.table }
+    {
+        take_all(
+            &mut self.registers,
+            self.table.as_slice(),
+            self.next.as_slice(),
+            &self.netlist,
+        );
+    }
+
+    /// Computes all nets as `settle` does, and gives each register what stands at its D.
+    pub fn step(&mut self, inputs: &[Word])
+        requires widths { HaveWidths (bits_at self.old.plan.raw.inputs) inputs.now }
+        ensures holds { Holds (plain (settled_nets self.new)) (settled_nets self.new) self.old.plan.raw (numbers_of inputs.now) self.old.registers }
+        ensures alone { (nets : Nets) → Holds (plain nets) nets self.old.plan.raw (numbers_of inputs.now) self.old.registers → (n : ℕ) → 1 ≤ drivers self.old.plan.raw n → nets n ≡ settled_nets self.new n }
+        ensures taken { self.new.registers ≡ taken (plain (settled_nets self.new)) 0 self.old.plan.raw.registers }
+        ensures plan { self.new.plan ≡ self.old.plan }
+    {
+        self.settle(inputs);
+        self.clock();
+    }
+
+    /// The word at an output, as the nets were last settled.
+    pub fn output(&self, port: u32) -> Word
+        requires { port < length self.now.plan.raw.outputs }
+        ensures width { (p : Output) → slice_get self.now.plan.raw.outputs port ≡ Some p → result.width ≡ length p.bits }
+        ensures bits { result.bits ≡ slice_index (shown (plain (settled_nets self.now)) self.now.plan.raw) port }
+    {
+        word_at(self.table.as_slice(), &self.outputs[port as usize])
+    }
+
+    /// The word that a register holds.
+    pub fn register(&self, number: u32) -> Word
+        requires { number < length self.now.plan.raw.registers }
+        ensures width { (r : Stored) → slice_get self.now.plan.raw.registers number ≡ Some r → result.width ≡ length r.q }
+        ensures bits { result.bits ≡ slice_index self.now.registers number }
+    {
+        let start = self.netlist.raw().registers.as_slice()[number as usize].start;
+        word_of(start.width(), self.registers[number as usize])
+    }
+}
