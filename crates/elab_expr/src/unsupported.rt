@@ -84,7 +84,7 @@ fn division_unsupported(
 
 /// The first place at which an expression holds what is not supported where it is no constant.
 #[cycle(unsupported)]
-pub(crate) fn unsupported_in(expr: &Expr, scope: &Scope) -> Option<Fault>
+pub fn unsupported_in(expr: &Expr, scope: &Scope) -> Option<Fault>
     ensures { result ≡ least (plan (names_of scope.now) expr.now).unsupported }
 {
     match expr {

@@ -32,7 +32,7 @@ bound_of names e = constant_integer (sense names e)
 abbrev pub constant_faults : Names → ℕ → Expr → List ConstError
 constant_faults names width e = map const_error (constant_faults_at (sense names e) (assigned (sense names e) width))
 
-abbrev where_faultless : List ConstError → ℕ → Option ℕ
+abbrev pub where_faultless : List ConstError → ℕ → Option ℕ
 where_faultless [] v = Some v
 where_faultless (x ∷ more) v = None
 

@@ -1,0 +1,7 @@
+pub mod Lists
+pub mod Firsts
+pub mod SideLemmas
+pub mod CaseLemmas
+pub mod StepLemmas
+pub mod TurnLemmas
+pub mod WalkLemmas

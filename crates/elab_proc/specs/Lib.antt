@@ -1,0 +1,4 @@
+pub mod Order
+pub mod Refusals
+pub mod Sizes
+pub mod Turns

@@ -1,0 +1,131 @@
+-- What is refused in the statements of a process, and where.
+use Rattle.std.specs.Prelude.{ℕ, Bool, false, not, ◌&&◌, List, [], ◌∷◌, ◌++◌, map, Option, None, Some, slice_index_or, if◌then◌else◌}
+use Rattle.std.specs.List.{flat_map}
+use Rattle.mcy_base.specs.declared.span.Span.{Span}
+use Rattle.vlog_syntax.specs.declared.expr.Expr.{Expr}
+use Rattle.vlog_syntax.specs.declared.expr.Expr.TheVariants as v
+use Rattle.vlog_syntax.specs.declared.feature.Feature.TheVariants.{NonblockingInComb}
+use Rattle.vlog_syntax.specs.declared.left_side.LeftSide.{LeftSide}
+use Rattle.vlog_syntax.specs.declared.left_side.LeftSide.TheOpen as l
+use Rattle.vlog_syntax.specs.declared.left_side.LeftSide.TheOpen.{LeftSide-F}
+use Rattle.vlog_syntax.specs.declared.left_side.LeftSide.TheFolds.{fold-LeftSide}
+use Rattle.vlog_syntax.specs.declared.stmt.CaseItem.{CaseItem, out-CaseItem}
+use Rattle.vlog_meaning.specs.declared.fault.Cause.TheVariants as cause
+use Rattle.vlog_meaning.specs.declared.fault.ConstError.{ConstError}
+use Rattle.vlog_meaning.specs.declared.fault.ConstError.TheVariants as k
+use Rattle.vlog_meaning.specs.declared.fault.Fault.{Fault}
+use Rattle.vlog_meaning.specs.declared.scope.Decl.{Decl}
+use Rattle.vlog_meaning.specs.declared.scope.Decl.TheVariants.{Signal, Constant}
+use Rattle.vlog_meaning.specs.declared.shapes.Shape.{Shape}
+use Rattle.vlog_meaning.specs.Operators.{IsSized}
+use Rattle.vlog_meaning.specs.Scopes.{Names, decl_shape}
+use Rattle.vlog_meaning.specs.Senses.{sense, assigned, fault, or_else, own_zeros}
+use Rattle.elab_expr.specs.Made.{plan}
+use Rattle.vlog_effects.specs.Expressions.{width_of}
+use Rattle.vlog_effects.specs.LeftSides.{Part, parts_of}
+use Rattle.vlog_effects.specs.Steps.{Assigning, greatest, all_signed, Flaw, Const, Lacks, Turns, Steps, Done, Assign, Choose, Case, Refuse, Arms, Otherwise, Arm}
+use Rattle.elab_proc.specs.declared.refusal.Refusal.{Refusal}
+use Rattle.elab_proc.specs.declared.refusal.Refusal.TheVariants.{Wrong, Unsupported, TwoWriters, LoopTurns}
+
+-- Expressions.
+
+-- what is wrong in an expression, or not supported in it
+abbrev pub wrong : Names → Expr → List Fault
+wrong names x = (sense names x).faults ++ (plan names x).unsupported
+
+-- divisions of constants by 0
+abbrev pub divisions : List Span → List Fault
+divisions spans = map (fault cause.DivideByZero) spans
+
+-- an expression that stands for itself, as a condition does
+abbrev pub own_faults : Names → Expr → List Fault
+own_faults names x = or_else (wrong names x) (divisions (own_zeros (sense names x)))
+
+-- the size to which expressions are brought together (IEEE 1364-2005, 9.5)
+abbrev pub common_size : Names → List Expr → Shape
+common_size names xs = record { width = greatest names xs; is_signed = all_signed names xs }
+
+-- divisions of constants by 0 in expressions that are evaluated at one size
+abbrev pub zeros_at : Names → Shape → Expr → List Span
+zeros_at names size x = (sense names x).zeros size
+
+-- The selector and labels of a case: a division by 0 is looked for where all of them have their sizes.
+abbrev pub case_faults : Names → List Expr → List Fault
+case_faults names xs = or_else (flat_map (wrong names) xs) (divisions (flat_map (zeros_at names (common_size names xs)) xs))
+
+-- the labels of an item
+abbrev pub labels_in : CaseItem → List Expr
+labels_in i = (out-CaseItem i).labels
+
+-- Left sides (IEEE 1364-2005, A.8.5).
+
+abbrev pub form_step : LeftSide-F Expr → Expr
+form_step (l.Name n) = v.Name n
+form_step (l.BitSelect n s i) = v.BitSelect n s i
+form_step (l.PartSelect n s msb lsb) = v.PartSelect n s msb lsb
+form_step (l.IndexedPartSelect n s base width) = v.IndexedPartSelect n s base width
+form_step (l.Concatenation s parts) = v.Concatenation s parts
+
+-- the expression of the same form, with which a left side shares what is wrong in it
+abbrev pub same_form : LeftSide → Expr
+same_form = fold-LeftSide Expr form_step
+
+-- The sides of an assignment: the right one is evaluated at the greater width of both.
+abbrev pub sides_faults : Names → Expr → Expr → List Fault
+sides_faults names left right = or_else (wrong names left ++ wrong names right) (divisions (own_zeros (sense names left) ++ (sense names right).zeros (assigned (sense names right) (width_of names left))))
+
+-- the signal of this number has a writer outside the process
+abbrev pub is_written : List Bool → ℕ → Bool
+is_written written number = slice_index_or written number false
+
+-- a name that is written: a signal without another writer
+abbrev pub name_refusals : List Bool → Span → Option Decl → List Refusal
+name_refusals written span (Some (Signal width low is_signed number)) = if is_written written number then TwoWriters span number ∷ [] else []
+name_refusals written span (Some (Constant value is_signed)) = Wrong (fault cause.Unknown span) ∷ []
+name_refusals written span None = []
+
+abbrev pub part_refusals : Names → List Bool → Part → List Refusal
+part_refusals names written p = name_refusals written p.name.span (names p.name.name)
+
+-- in a combinational process all assignments are blocking
+abbrev pub kind_refusals : (is_combinational is_blocking : Bool) → Span → List Refusal
+kind_refusals is_combinational is_blocking span = if is_combinational && not is_blocking then Unsupported span NonblockingInComb ∷ [] else []
+
+abbrev pub assign_refusals : Bool → List Bool → Assigning → List Refusal
+assign_refusals is_combinational written a = map Wrong (sides_faults a.names (same_form a.left) a.right) ++ (flat_map (part_refusals a.names written) (parts_of a.left) ++ kind_refusals is_combinational a.is_blocking a.place)
+
+-- Steps.
+
+abbrev pub const_refusal : ConstError → Refusal
+const_refusal (k.Unknown span) = Wrong (fault cause.Unknown span)
+const_refusal (k.NotConstant span) = Wrong (fault cause.NotConstant span)
+const_refusal (k.DivideByZero span) = Wrong (fault cause.DivideByZero span)
+const_refusal (k.TooWide span) = Wrong (fault cause.TooWide span)
+
+abbrev pub flaw_refusal : Flaw → Refusal
+flaw_refusal (Const error) = const_refusal error
+flaw_refusal (Lacks span feature) = Unsupported span feature
+flaw_refusal Turns = LoopTurns
+
+-- these, or where there are none those
+abbrev pub unless : List Fault → List Refusal → List Refusal
+unless [] those = those
+unless (f ∷ more) those = map Wrong (f ∷ more)
+
+-- What is refused in steps. The arms of a case are looked at where its selector and labels are not refused, since which of
+-- them are dropped rests on its size.
+abbrev mutual
+  pub step_refusals : Bool → List Bool → Steps → List Refusal
+  step_refusals comb written Done = []
+  step_refusals comb written (Assign a more) = assign_refusals comb written a ++ step_refusals comb written more
+  step_refusals comb written (Choose at c then_part else_part more) = map Wrong (own_faults c.names c.condition) ++ (step_refusals comb written then_part ++ (step_refusals comb written else_part ++ step_refusals comb written more))
+  step_refusals comb written (Case c arms more) = unless (case_faults c.names (c.selector ∷ c.labels)) (arm_refusals comb written arms) ++ step_refusals comb written more
+  step_refusals comb written (Refuse x more) = flaw_refusal x ∷ step_refusals comb written more
+
+  pub arm_refusals : Bool → List Bool → Arms → List Refusal
+  arm_refusals comb written (Otherwise body) = step_refusals comb written body
+  arm_refusals comb written (Arm at labels body others) = step_refusals comb written body ++ arm_refusals comb written others
+
+-- each declared signal has from 1 to 128 bits
+abbrev pub AreSized : Names → Type 0
+AreSized names = (name : List ℕ) → IsSized (decl_shape (names name))
