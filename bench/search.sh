@@ -11,17 +11,10 @@ clauses=${1:-60000}
 room=$(mktemp -d "$root/out-bench.XXXXXX")
 trap 'rm -rf "$room"' EXIT
 
-# The program is the one that runs the cases of the search, built in a copy of the repository.
-mkdir "$room/all"
-cp -r "$root/crates" "$root/crates.txt" "$root/HANDLES" "$room/all/"
-git -C "$room/all" init -q
-program="$room/all/crates/search_cases/out/search_cases"
-(cd "$room/all/crates/search_cases" && rt run </dev/null) >"$room/log" 2>&1 || true
-if [ ! -x "$program" ]; then
-    tail -n 40 "$room/log" >&2
-    echo "the program was not built" >&2
-    exit 1
-fi
+# The program is the one that runs the cases of the search.
+. "$root/bench/build.sh"
+build_program search_cases
+program="$room/program"
 
 # So many clauses, each with ten literals of different bits, by a fixed seed.
 written() {

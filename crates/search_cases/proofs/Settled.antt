@@ -1,10 +1,10 @@
 -- Why a variable is settled.
-use Rattle.std.proofs.Common.{◌≡◌, ◌≢◌, ℕ, zero, suc, ◌+◌, ◌<◌, ◌≤◌, arith, replicate, Bool, true, false, List, length, get_or, set, ℤ, Option, Some, None, refl, sym, ◌∙◌, inl, inr, ◌⊎◌, subst, ap, slice_get}
+use Rattle.std.proofs.Common.{◌≡◌, ℕ, zero, suc, ◌+◌, ◌<◌, ◌≤◌, arith, replicate, Bool, true, false, List, length, get_or, set, ℤ, Option, Some, None, refl, sym, ◌∙◌, inl, inr, subst, ap, slice_get}
 use Rattle.std.specs.Prelude.{All, Contains}
 use Rattle.std.proofs.lemmas.Bool.Decides.{eqb_tells}
 use Rattle.std.proofs.lemmas.Option.{slice_get-get_or, slice_get_within}
 use Rattle.clause_store.specs.Clauses.{variable}
-use Rattle.clause_store.specs.Propagation.{Known, none, with_value, literal, is_some_false, left, is_positive, IsUnit, IsFalsified, IsQuiet}
+use Rattle.clause_store.specs.Propagation.{Known, none, with_value, literal, is_some_false, IsUnit, IsFalsified, IsQuiet}
 use Rattle.clause_encoder.specs.Miters.{Settles}
 use Rattle.lrat_checker.specs.Tables.{known_of}
 use Rattle.lrat_checker.proofs.Within.{literal-same}

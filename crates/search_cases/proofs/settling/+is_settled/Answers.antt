@@ -1,7 +1,6 @@
-use Rattle.std.proofs.Common.{◌≡◌, ◌<◌, ◌-◌, ℕ, Bool, List, Option, None, Some, true, false, length, set, get_or, ap, sym, ◌∙◌, subst, arith}
+use Rattle.std.proofs.Common.{◌≡◌, ◌-◌, ℕ, Bool, List, Option, None, Some, true, false, length, set, ap, sym, ◌∙◌, subst, arith}
 use Rattle.std.proofs.lemmas.Bool.{OnTrue_at, OnTrue_from}
 use Rattle.std.proofs.lemmas.List.{length-set, set-set, set-get_or}
-use Rattle.clause_store.specs.Propagation.{Known}
 use Rattle.lrat_checker.specs.Tables.{known_of}
 use Rattle.search_cases.specs.Settling.{IsSettled}
 use Rattle.search_cases.proofs.Settled.{settled-by_step, settled-by_cases}
