@@ -66,10 +66,6 @@ kept-count clauses p l kept within open_ =
     (place-within l (length p.trail.values.items) (length p.occurrences) within kept.wide)
     (place-within (neg_ℤ l) (length p.trail.values.items) (length p.occurrences) (omega (arith, within, variable-neg l)) kept.wide)
 
--- the literal at a place was open before it, and is true with it
-pub kept-place : (clauses : List (List ℤ)) (p : Propagator) (place : ℕ) → IsKept clauses p → place < length p.trail.literals.items → assigned (take place p.trail.literals.items) (variable (literal_at p.trail.literals.items place)) ≡ None
-kept-place clauses p place kept h = kept.unwound.apart.open_ place h
-
 -- a clause whose counts show it is quiet
 pub kept-shown : (clauses : List (List ℤ)) (p : Propagator) (number : ℕ) (clause : List ℤ) → IsKept clauses p → number ≤ p.taken → numbered clauses number ≡ clause → Rattle.sat_solver.specs.Occurrences.ShowQuiet (length clause) (get_or p.counts.falses.items number 0) (get_or p.counts.trues.items number 0) → IsQuiet (known_of p.trail.values.items) clause
 kept-shown clauses p number clause kept few is shown =

@@ -4,7 +4,7 @@ use Rattle.std.specs.Prelude.{count_by}
 use Rattle.std.proofs.lemmas.Bool.Decides.{eqb_tells}
 use Rattle.std.proofs.lemmas.List.{map-set, get_or-map, length-set, get_or-set_same, get_or-set_other, append-nil, append_assoc, take-append-le, take_all, take-take, length-take-le}
 use Rattle.std.proofs.lemmas.List.{replicate-append-replicate, length-append, length-replicate}
-use Rattle.std.proofs.lemmas.List.Sums.{sum_by_push, sum_by_more, sum_by-take-le}
+use Rattle.std.proofs.lemmas.List.Sums.{sum_by_more, sum_by-take-le}
 use Rattle.clause_store.specs.Clauses.{variable}
 use Rattle.sat_solver.specs.Occurrences.{place_of, is_literal, times, list_of, IsAdded}
 
@@ -17,10 +17,6 @@ pub variable-neg : (l : ℤ) → variable (neg_ℤ l) ≡ variable l
 variable-neg (pos zero) = refl
 variable-neg (pos (suc n)) = refl
 variable-neg (negsuc n) = refl
-
--- how often it stands in a list with one more element
-pub count-push : (n : ℕ) (xs : List ℕ) (m : ℕ) → count_by (nat_eq n) (xs ++ m ∷ []) ≡ count_by (nat_eq n) xs + cond (nat_eq n m) 1 0
-count-push n xs m = sum_by_push (λ (k : ℕ). cond (nat_eq n k) 1 0) xs m
 
 times-more : (l : ℤ) (clause : List ℤ) (i : ℕ) → i < length clause → times l (take (i + 1) clause) ≡ times l (take i clause) + cond (is_literal l (get_or clause i (pos 0))) 1 0
 times-more l clause i h = sum_by_more (λ (k : ℤ). cond (is_literal l k) 1 0) clause i (pos 0) h
@@ -80,9 +76,6 @@ stands-within (x ∷ xs) (suc n) h = omega (arith, stands-within xs n h)
 
 replicate-push : (t n : ℕ) → replicate t n ++ n ∷ [] ≡ replicate (t + 1) n
 replicate-push t n = replicate-append-replicate t 1 n
-
-pub added-none : (n : ℕ) (lists : List (List ℕ)) → IsAdded n [] lists lists
-added-none n lists = record { len = refl; lists = λ l. sym (append-nil (list_of lists l)) }
 
 pub added-more : (n : ℕ) (clause : List ℤ) (i : ℕ) (old now : List (List ℕ)) → i < length clause → place_of (get_or clause i (pos 0)) < length now → IsAdded n (take i clause) old now → IsAdded n (take (i + 1) clause) old (set now (place_of (get_or clause i (pos 0))) (get_or now (place_of (get_or clause i (pos 0))) [] ++ n ∷ []))
 added-more n clause i old now h inside added = record {

@@ -21,9 +21,6 @@ below-with known m open_ v b e = elim (eqb_tells v (variable m)) [
   | inr other ↦ with_true-other known m v other.1 ∙ e
 ]
 
-pub below-trans : (a b c : Known) → IsBelow a b → IsBelow b c → IsBelow a c
-below-trans a b c p q v w e = q v w (p v w e)
-
 -- the values of a part of a trail
 pub below-take : (limit : ℕ) (literals : List ℤ) (n : ℕ) → AreApart limit literals → n ≤ length literals → IsBelow (assigned (take n literals)) (assigned literals)
 below-take limit literals n apart h v b e =

@@ -13,13 +13,14 @@ ghost use Rattle.sat_solver.specs.Needs.{is_needed, NoneNeeded, last_start, IsLe
 
 use crate::trail::Trail;
 use clause_store::{ClauseStore, Lit};
+use smallvec::SmallVec;
 use std::alloc::{AllocError, Global};
 
 /// A lemma with its hints.
 #[derive(Drop)]
 pub struct Learned {
     pub lemma: Vec<Lit>,
-    pub hints: Vec<u32>,
+    pub hints: SmallVec<u32, 64>,
     /// How many levels are kept: up to the second highest level of the lemma's literals.
     pub back: usize,
 }
@@ -41,7 +42,7 @@ pub fn analyze(
     let mut needed = vec![in alloc; false; trail.values.len()]?;
     mark(&mut needed, store.clause(conflict));
     let mut lemma = Vec::new(alloc);
-    let mut hints = Vec::new(alloc);
+    let mut hints = SmallVec::new(alloc);
     hints.push(conflict)?;
     let mut back = 0;
     let mut place = trail.literals.len();

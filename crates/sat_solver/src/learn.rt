@@ -32,7 +32,7 @@ pub fn learn(
     ensures len { length propagator.new.trail.values.items ≡ length propagator.old.trail.values.items }
 {
     let learned = analyze(alloc, checker.store(), &propagator.trail, free, conflict)?;
-    match checker.add(&learned.lemma, &learned.hints) {
+    match checker.add(&learned.lemma, learned.hints.as_slice()) {
         Ok(()) => {
             if learned.back < propagator.trail.starts.len() {
                 propagator.undo(learned.back);

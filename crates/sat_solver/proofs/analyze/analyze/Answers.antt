@@ -1,4 +1,4 @@
-use Rattle.std.proofs.Common.{◌≡◌, ◌<◌, ◌≤◌, ◌-◌, ◌+◌, ◌||◌, ◌∷◌, [], ◌≢◌, ℕ, true, false, pos, neg_ℤ, get_or, length, sym, ◌∙◌, subst, rules, arith}
+use Rattle.std.proofs.Common.{◌≡◌, ◌<◌, ◌≤◌, ◌-◌, ◌+◌, ◌||◌, ◌∷◌, [], ◌≢◌, ℕ, true, false, pos, neg_ℤ, get_or, length, reverse, sym, ap, ◌∙◌, subst, rules, arith}
 use Rattle.std.specs.Prelude.{All, FitsSigned}
 use Rattle.std.specs.Int.{w32}
 use Rattle.std.proofs.lemmas.Int.{to_z-of_z}
@@ -10,6 +10,7 @@ use Rattle.lrat_checker.proofs.Following.{clause-within}
 use Rattle.sat_solver.specs.Trails.{literal_at}
 use Rattle.sat_solver.specs.Needs.{is_needed, IsWalked, NoneNeeded, last_start}
 use Rattle.sat_solver.proofs.Steps.{walked-init, walked-skip, walked-expand, walked-stop, walked-end, clause-read, clause-there, reason-clause}
+use Rattle.smallvec.proofs.SmallVecLemmas.{items-with_items}
 use Rattle.sat_solver.proofs.analyze.analyze.Goals as goal
 use Rattle.sat_solver.proofs.analyze.analyze.Goals.{then-len-eq1, else-len-eq1}
 
@@ -30,7 +31,7 @@ loop-place-init c =
     let start : IsWalked c.args.store.now c.args.free c.args.trail.now.literals.items c.args.trail.now.starts.items c.mark.new.needed.items [] (c.args.conflict ∷ []) 0 (length c.args.trail.now.literals.items) =
     walked-init c.args.store.now c.args.free c.args.trail.now.literals.items c.args.trail.now.starts.items c.in_ok-needed.needed.items c.mark.new.needed.items c.args.conflict c.requires.conflict.clause c.requires.conflict.there (let P : Known → Type 0 = λ k. IsFalsified k c.requires.conflict.clause in subst P c.requires.ready.trail.known c.requires.conflict.falsified) marks in
     let whole : c.len-place.result ≡ length c.args.trail.now.literals.items = omega (arith, c.len-place.ensures, c.args.trail.now.literals.ok.0) in
-    (rw (c.in_ok-push.ensures.items, c.new-hints.ensures.items, c.new-lemma.ensures.items, whole) start, c.mark.ensures.len ∙ count, omega (arith, whole))
+    (rw (c.in_ok-push.ensures.ok, c.new-hints.ensures.items, c.new-lemma.ensures.items, whole) start, c.mark.ensures.len ∙ count, omega (arith, whole))
 
 pub loop-place-preserved-then-not-needs : goal.loop-place-preserved-then-not-needs
 loop-place-preserved-then-not-needs c =
@@ -86,9 +87,11 @@ loop-place-preserved c =
     let found = reason-clause c.args.store.now c.args.free c.args.trail.now.starts.items c.args.trail.now.literals.items (c.loop-place.place - 1) (get_or c.args.trail.now.reasons.items (c.loop-place.place - 1) 0) c.if-stops.ensures.no (c.requires.ready.trail.reasoned.each (c.loop-place.place - 1) inside) in
     let is : found.0 ≡ c.clause-else-stops.result.now = clause-read c.args.store.now (get_or c.args.trail.now.reasons.items (c.loop-place.place - 1) 0) found.0 c.clause-else-stops.result.now found.1 (rw reason at c.clause-else-stops.ensures) in
     let marks : (v : ℕ) → is_needed c.mark-else-stops.new.needed.items v ≡ (is_needed c.loop-place.needed.items v || is_named found.0 v) = rw is c.mark-else-stops.ensures.marks in
-    (rw (c.in_ok-push-3.ensures.items, reason) (walked-expand c.args.store.now (length c.args.trail.now.values.items) c.args.free c.args.trail.now.literals.items c.args.trail.now.starts.items c.loop-place.needed.items c.mark-else-stops.new.needed.items c.loop-place.lemma.items c.loop-place.hints.items c.loop-place.back (c.loop-place.place - 1) (get_or c.args.trail.now.reasons.items (c.loop-place.place - 1) 0) found.0 c.requires.ready.trail.apart inside need found.1 found.2 marks (rw next at c.loop-place.invariant.0)), c.mark-else-stops.ensures.len ∙ c.loop-place.invariant.1, omega (arith, inside))
+    (rw (c.in_ok-push-3.ensures.ok, reason) (walked-expand c.args.store.now (length c.args.trail.now.values.items) c.args.free c.args.trail.now.literals.items c.args.trail.now.starts.items c.loop-place.needed.items c.mark-else-stops.new.needed.items c.loop-place.lemma.items c.loop-place.hints.items c.loop-place.back (c.loop-place.place - 1) (get_or c.args.trail.now.reasons.items (c.loop-place.place - 1) 0) found.0 c.requires.ready.trail.apart inside need found.1 found.2 marks (rw next at c.loop-place.invariant.0)), c.mark-else-stops.ensures.len ∙ c.loop-place.invariant.1, omega (arith, inside))
 
 pub returns : goal.returns
 returns c =
     let end : c.loop-place.place ≡ 0 = omega (arith, c.loop-place-test.false) in
-    rw c.reverse.ensures.items (walked-end c.args.store.now c.args.free c.args.trail.now.literals.items c.args.trail.now.starts.items c.loop-place.needed.items c.loop-place.lemma.items c.loop-place.hints.items c.loop-place.back (rw end at c.loop-place.invariant.0))
+    let len : length c.reverse.new.self ≡ length c.loop-place.hints.items = c.reverse.ensures.len ∙ ap length c.deref_mut.ensures.value in
+    let turned : c.reverse.new.self ≡ reverse c.loop-place.hints.items = c.reverse.ensures.after ∙ ap reverse c.deref_mut.ensures.value in
+    rw (items-with_items c.loop-place.hints c.reverse.new.self len, turned) (walked-end c.args.store.now c.args.free c.args.trail.now.literals.items c.args.trail.now.starts.items c.loop-place.needed.items c.loop-place.lemma.items c.loop-place.hints.items c.loop-place.back (rw end at c.loop-place.invariant.0))

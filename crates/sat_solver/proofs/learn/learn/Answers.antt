@@ -66,7 +66,7 @@ prove-unreachable-requires c =
       new = learned-new c.args.checker.now.clauses c.args.checker.now.lemmas c.args.checker.now.free c.args.propagator.now.trail c.in_ok-learned.learned.lemma.items c.in_ok-learned.learned.hints.items c.in_ok-learned.learned.back c.requires.ready c.store.ensures.legal c.requires.some learned;
       follows = learned.follows;
     } in
-    let memory = c.in-Err.ensures.exact (rw (c.deref.ensures.value, c.deref-2.ensures.value) on) in
+    let memory = c.in-Err.ensures.exact (rw (c.deref.ensures.value, c.as_slice.ensures) on) in
     elim c.match-matches.branch [
       | in-Memory w ↦ (let wrong : true ≡ false = sym w.matches-is ∙ c.if-prove.true in cc)
       | in_default w ↦ w.in_default.not-Memory memory
