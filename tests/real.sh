@@ -108,7 +108,7 @@ refuses() {
     case_is $? "status $status of 'mcy $*' touches '$made', and not: $touched"
 }
 
-usage='mcy: usage: mcy init | run [--stop-after N] | status'
+usage='mcy: usage: mcy init | run [--stop-after N] | list | status'
 finished='Mutations: 9
 Finished: 9
 Test same: PASS 0 FAIL 9 UNKNOWN 0
@@ -116,6 +116,15 @@ Tag CHANGED: 9
 Tag NOCHANGE: 0
 Asserts: 0
 Unexpected: 0'
+listed='1: inv g cell and_0 A 0 g.v:2 [same=FAIL] CHANGED
+2: inv g cell and_0 B 0 g.v:2 [same=FAIL] CHANGED
+3: inv g cell and_0 Y 0 g.v:2 [same=FAIL] CHANGED
+4: inv g cell or_1 A 0 g.v:3 [same=FAIL] CHANGED
+5: inv g cell or_1 B 0 g.v:3 [same=FAIL] CHANGED
+6: inv g cell or_1 Y 0 g.v:3 [same=FAIL] CHANGED
+7: inv g cell xor_2 A 0 g.v:4 [same=FAIL] CHANGED
+8: inv g cell xor_2 B 0 g.v:4 [same=FAIL] CHANGED
+9: inv g cell xor_2 Y 0 g.v:4 [same=FAIL] CHANGED'
 begun='Mutations: 9
 Finished: 1
 Test same: PASS 0 FAIL 1 UNKNOWN 0
@@ -130,12 +139,15 @@ ends 0 "$(printf 'Sites: 9\nMutations: 9')" "" init
 [ "$(ls | tr '\n' ' ')" = "config.mcy g.v mcy.db mcy.db-wal " ]
 case_is $? "the database is mcy.db, and its log mcy.db-wal: $(ls | tr '\n' ' ')"
 ends 1 "$begun" "" run --stop-after 1
+ends 0 "1: inv g cell and_0 A 0 g.v:2 [same=FAIL] CHANGED
+$(sed '1d; s/same=FAIL//; s/CHANGED/!unfinished/' <<<"$listed")" "" list
 ends 0 "$finished" "" run
 ends 0 "$finished" "" status
+ends 0 "$listed" "" list
 refuses 9 "mcy: campaign already begun" "./mcy.db-wal " init
 new_folder
 refuses 2 "$usage" ""
-refuses 2 "$usage" "" list
+refuses 2 "$usage" "" source
 refuses 2 "$usage" "" run --stop-after 0
 refuses 2 "$usage" "" $'st\xe9tus'
 {
@@ -168,6 +180,7 @@ fi
 new_folder
 refuses 8 "mcy: no campaign" "./mcy.db ./mcy.db-wal " status
 refuses 8 "mcy: no campaign" "./mcy.db-wal " status
+refuses 8 "mcy: no campaign" "./mcy.db-wal " list
 ends 0 "$finished" "" run
 cp g.v was.v
 echo "// a line more" >>g.v

@@ -7,7 +7,7 @@ use Rattle.result_book.specs.declared.check.BookError.{BookError}
 use Rattle.result_book.specs.declared.check.BookError.TheVariants.{Stray, Memory as NoMemoryFor}
 use Rattle.result_book.specs.Rows.{IsWellFormed}
 use Rattle.mcy_top.specs.declared.command.Command.{Command}
-use Rattle.mcy_top.specs.declared.command.Command.TheVariants.{Init, Run, Status}
+use Rattle.mcy_top.specs.declared.command.Command.TheVariants.{Init, Run, List as Listing, Status}
 use Rattle.mcy_top.specs.declared.prepared.Prepared.{Prepared}
 use Rattle.mcy_top.specs.declared.thin.ThinModule.{ThinModule}
 use Rattle.mcy_top.specs.declared.outcome.Part.TheVariants.{Project, Source}
@@ -74,6 +74,7 @@ form_meta c book plan form none = let is : meta_of plan.config plan.bytes ≡ []
 taken_as : (command : Command) (c : Prepared) (book : Book) → Takes command c book → IsBlank book ⊎ IsWellFormed c.campaign book
 taken_as Init c book takes = inl takes
 taken_as (Run stop) c book takes = takes
+taken_as Listing c book takes = inr takes
 taken_as Status c book takes = inr takes
 
 -- a blank book is not bad, and neither is the campaign's, nor one that a command finds begun already
@@ -99,6 +100,7 @@ bad_not c book error plan (inr form) bad = form_not_bad c book error plan form b
 none_not : (command : Command) (c : Prepared) (book : Book) → IsPlan c → Takes command c book → ¬ RefusesBook command c book RefusedNone
 none_not Init c book plan takes refuses = refuses.1
 none_not (Run stop) c book plan takes refuses = refuses.1
+none_not Listing c book plan form refuses = form_meta c book plan form (blank_meta book refuses.0)
 none_not Status c book plan form refuses = form_meta c book plan form (blank_meta book refuses.0)
 
 begun_not : (command : Command) (c : Prepared) (book : Book) → Takes command c book → ¬ RefusesBook command c book RefusedBegun

@@ -13,7 +13,7 @@ use Rattle.result_book.specs.Scripts.{is_ended}
 use Rattle.result_book.specs.Rows.{ask_on, IsFinished, IsWellFormed}
 use Rattle.source_report.specs.Texts.{status_text}
 use Rattle.mcy_top.specs.declared.command.Command.{Command}
-use Rattle.mcy_top.specs.declared.command.Command.TheVariants.{Init, Run, Status}
+use Rattle.mcy_top.specs.declared.command.Command.TheVariants.{Init, Run, List as Listing, Status}
 use Rattle.mcy_top.specs.declared.prepared.Prepared.{Prepared}
 use Rattle.mcy_top.specs.declared.work.Ending.{Ending}
 use Rattle.mcy_top.specs.declared.work.Ending.TheVariants.{Written, Refused, NoMemory}
@@ -90,12 +90,38 @@ work_refused holds leaves written n command c loaded RefusedBegun kept why = wor
 work_refused holds leaves written n command c loaded (RefusedBook error) kept why = work_kept holds leaves written written n command c loaded (BookBad error) kept refl why (λ h. absurd h)
 work_refused holds leaves written n command c loaded RefusedMemory kept why = work_kept holds leaves written written n command c loaded Memory kept refl tt (λ h. absurd h)
 
--- the status of a book
-pub work_status : (holds : Book → Type 0) (leaves : Option Book → Type 0) (written written' : Option (List ℕ)) (n : ℕ) (c : Prepared) (loaded : Book) (ending : Ending) → IsPlan c → IsWellFormed c.campaign loaded → Keeps holds leaves loaded
-    → Delivers written written' (status_text c.campaign loaded.journal) ending → Work leaves written written' n n Status c loaded (ended_outcome Done ending)
-work_status holds leaves written written' n c loaded Written plan form kept wrote = work_kept holds leaves written written' n Status c loaded Done kept wrote (form, form, λ h. absurd h) (λ h. form_meta c loaded plan form)
-work_status holds leaves written written' n c loaded Refused plan form kept wrote = work_kept holds leaves written written' n Status c loaded WriteFault kept wrote form (λ h. absurd h)
-work_status holds leaves written written' n c loaded NoMemory plan form kept wrote = work_kept holds leaves written written' n Status c loaded Memory kept wrote tt (λ h. absurd h)
+-- what holds of a command that only reads the book
+reads_takes : (command : Command) (c : Prepared) (book : Book) → OnlyReads command → IsWellFormed c.campaign book → Takes command c book
+reads_takes Init c book reads form = absurd reads
+reads_takes (Run stop) c book reads form = absurd reads
+reads_takes Listing c book reads form = form
+reads_takes Status c book reads form = form
+
+reads_not_runs : (command : Command) → OnlyReads command → ¬ Runs command
+reads_not_runs Init reads runs = runs
+reads_not_runs (Run stop) reads runs = reads
+reads_not_runs Listing reads runs = runs
+reads_not_runs Status reads runs = runs
+
+pub reads_not_init : (command : Command) → OnlyReads command → command ≢ Init
+reads_not_init Init reads is = reads
+reads_not_init (Run stop) reads is = reads
+reads_not_init Listing reads is = cc
+reads_not_init Status reads is = cc
+
+-- the text of a command by the rows of the book alone
+pub text_by_rows : (command : Command) (c : Prepared) (book : Book) → text_of command c book ≡ text_of command c (book_of c book.journal)
+text_by_rows Init c book = refl
+text_by_rows (Run stop) c book = refl
+text_by_rows Listing c book = refl
+text_by_rows Status c book = refl
+
+-- what a command tells that only reads the book
+pub work_told : (holds : Book → Type 0) (leaves : Option Book → Type 0) (written written' : Option (List ℕ)) (n : ℕ) (command : Command) (c : Prepared) (loaded : Book) (ending : Ending) → OnlyReads command → IsPlan c → IsWellFormed c.campaign loaded → Keeps holds leaves loaded
+    → Delivers written written' (text_of command c loaded) ending → Work leaves written written' n n command c loaded (ended_outcome Done ending)
+work_told holds leaves written written' n command c loaded Written reads plan form kept wrote = work_kept holds leaves written written' n command c loaded Done kept wrote (reads_takes command c loaded reads form, form, λ runs. absurd (reads_not_runs command reads runs)) (λ h. form_meta c loaded plan form)
+work_told holds leaves written written' n command c loaded Refused reads plan form kept wrote = work_kept holds leaves written written' n command c loaded WriteFault kept wrote (reads_takes command c loaded reads form) (λ h. absurd h)
+work_told holds leaves written written' n command c loaded NoMemory reads plan form kept wrote = work_kept holds leaves written written' n command c loaded Memory kept wrote tt (λ h. absurd h)
 
 -- the book was begun, and nothing more
 opened_good : (c : Prepared) → IsPlan c → IsGood (opened c)
@@ -356,9 +382,6 @@ run_carried c rows = elim (eqb_tells (length c.campaign.mutations) (count c rows
 -- where no mutation is left the run is done
 pub outcome_done : (c : Prepared) (rows : List Entry) → length c.campaign.mutations ≡ count c rows → Done ≡ run_outcome c rows
 outcome_done c rows all = elim (eqb_tells (length c.campaign.mutations) (count c rows)) [ inl h ↦ rw h.0 refl | inr h ↦ absurd (h.1 all) ]
-
-pub status_not_init : Status ≢ Init
-status_not_init is = cc
 
 pub run_not_init : (stop : Option ℕ) → Run stop ≢ Init
 run_not_init stop is = cc

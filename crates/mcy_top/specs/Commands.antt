@@ -4,7 +4,7 @@ use Rattle.std.specs.Char.{is_ascii_digit}
 use Rattle.std.specs.List.{list_all, starts_with}
 use Rattle.std.specs.Str.Parse.{digits_value}
 use Rattle.mcy_top.specs.declared.command.Command.{Command}
-use Rattle.mcy_top.specs.declared.command.Command.TheVariants.{Init, Run, Status}
+use Rattle.mcy_top.specs.declared.command.Command.TheVariants.{Init, Run, List as Listing, Status}
 
 -- the word is one to ten decimal digits
 abbrev pub is_numeral : List ℕ → Bool
@@ -21,11 +21,12 @@ run_until word =
     then Some (Run (Some (digits_value 10 word)))
     else None
 
--- `init`, `run` or `status`
+-- `init`, `run`, `list` or `status`
 abbrev pub one_word : List ℕ → Option Command
 one_word word =
     if bytes_eq word (codes "init") then Some Init
     else if bytes_eq word (codes "run") then Some (Run None)
+    else if bytes_eq word (codes "list") then Some Listing
     else if bytes_eq word (codes "status") then Some Status
     else None
 
@@ -54,12 +55,14 @@ command_of words = None
 abbrev pub slots_of : Command → ℕ
 slots_of Init = 0
 slots_of (Run stop_after) = 1
+slots_of Listing = 0
 slots_of Status = 0
 
 -- the number of tests after which a command is to stop, if it has one
 abbrev pub stop_of : Command → Option ℕ
 stop_of Init = None
 stop_of (Run stop_after) = stop_after
+stop_of Listing = None
 stop_of Status = None
 
 -- it grew by no more than was asked for, if a number was
@@ -71,10 +74,12 @@ IsWithin (Some stop) before now = now ≤ before + stop
 abbrev pub Runs : Command → Type 0
 Runs Init = ⊥
 Runs (Run stop) = ⊤
+Runs Listing = ⊥
 Runs Status = ⊥
 
 -- the command only reads the book
 abbrev pub OnlyReads : Command → Type 0
 OnlyReads Init = ⊥
 OnlyReads (Run stop) = ⊥
+OnlyReads Listing = ⊤
 OnlyReads Status = ⊤

@@ -53,7 +53,7 @@ book_line NoMemory = told_line (codes "no memory")
 abbrev pub fault_text : Outcome → List ℕ
 fault_text Done = []
 fault_text (Unfinished left) = []
-fault_text Usage = told_line (codes "usage: mcy init | run [--stop-after N] | status")
+fault_text Usage = told_line (codes "usage: mcy init | run [--stop-after N] | list | status")
 fault_text (SourceBad error) = source_line error.fault
 fault_text (Missing name) = file_line name (codes "missing")
 fault_text (TooLarge name) = file_line name (codes "too large")

@@ -1,9 +1,10 @@
 -- The text of each command.
 use Rattle.std.specs.Prelude.{ℕ, List, ◌++◌, length, codes}
 use Rattle.mcy_keeper.specs.declared.book.Book.{Book}
+use Rattle.source_report.specs.Lists.{list_text}
 use Rattle.source_report.specs.Texts.{number_line, status_text}
 use Rattle.mcy_top.specs.declared.command.Command.{Command}
-use Rattle.mcy_top.specs.declared.command.Command.TheVariants.{Init, Run, Status}
+use Rattle.mcy_top.specs.declared.command.Command.TheVariants.{Init, Run, List as Listing, Status}
 use Rattle.mcy_top.specs.declared.prepared.Prepared.{Prepared}
 
 -- the sites that there are, and the mutations that were taken
@@ -14,4 +15,5 @@ init_text c = number_line (codes "Sites") (length c.sites) ++ number_line (codes
 abbrev pub text_of : Command → Prepared → Book → List ℕ
 text_of Init c book = init_text c
 text_of (Run stop) c book = status_text c.campaign book.journal
+text_of Listing c book = list_text c.campaign book.journal
 text_of Status c book = status_text c.campaign book.journal

@@ -1,4 +1,4 @@
-//! The words after the program's name: `init`, `run` or `status`, alone, or `run` with its one option,
+//! The words after the program's name: `init`, `run`, `list` or `status`, alone, or `run` with its one option,
 //! `run --stop-after N` or `run --stop-after=N`.
 ghost use Rattle.std.specs.Prelude.{◌≡◌, map, string_bytes};
 ghost use Rattle.std.specs.Char.{is_ascii_digit};
@@ -23,6 +23,8 @@ pub enum Command {
         /// The most tests that this call runs, from 1 to 1,000,000; without a number, all.
         stop_after: Option<u32>,
     },
+    /// Write the list of the mutations.
+    List,
     /// Write the status.
     Status,
 }
@@ -45,6 +47,7 @@ fn one_word(word: &str) -> Option<Command>
     match word {
         "init" => Some(Command::Init),
         "run" => Some(Command::Run { stop_after: None }),
+        "list" => Some(Command::List),
         "status" => Some(Command::Status),
         _ => None,
     }

@@ -15,7 +15,10 @@ pub fn fault_line(alloc: Global, outcome: &Outcome) -> Result<Bytes, AllocError>
 {
     let line = match outcome {
         Outcome::Done | Outcome::Unfinished(_) => Ok(String::new(alloc)),
-        Outcome::Usage => told(alloc, "usage: mcy init | run [--stop-after N] | status"),
+        Outcome::Usage => told(
+            alloc,
+            "usage: mcy init | run [--stop-after N] | list | status",
+        ),
         Outcome::SourceBad(error) => source_line(alloc, error.fault),
         Outcome::Missing(name) => file_line(alloc, name.as_str(), "missing"),
         Outcome::TooLarge(name) => file_line(alloc, name.as_str(), "too large"),

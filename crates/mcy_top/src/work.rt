@@ -4,8 +4,10 @@ ghost use Rattle.mcy_base.specs.Causes.{Rose};
 ghost use Rattle.mcy_keeper.specs.Books.{blank, IsBlank, Keeps};
 ghost use Rattle.result_book.specs.Rows.{IsWellFormed};
 ghost use Rattle.result_book.specs.States.{IsStateOf};
+ghost use Rattle.source_report.specs.Lists.{list_text};
 ghost use Rattle.source_report.specs.Texts.{status_text};
-ghost use Rattle.mcy_top.specs.Texts.{init_text};
+ghost use Rattle.mcy_top.specs.Commands.{OnlyReads};
+ghost use Rattle.mcy_top.specs.Texts.{init_text, text_of};
 ghost use Rattle.mcy_top.specs.Campaigns.{IsPlan};
 ghost use Rattle.mcy_top.specs.BookRefusals.{told, RefusesBook};
 ghost use Rattle.mcy_top.specs.Endings.{ended_outcome, failed_outcome, run_outcome, Delivers, Ends};
@@ -23,7 +25,7 @@ use mcy_keeper::{Book, KeepError, Keeper};
 use mcy_outside::Sink;
 use result_book::book_laws::refused_books_are_ill_formed;
 use result_book::{BookError, State, check_book};
-use source_report::{add_number, status_text};
+use source_report::{add_number, list_text, status_text};
 use std::alloc::{AllocError, Global};
 use std::sync::ledger::Ledger;
 
@@ -110,6 +112,35 @@ impl Task<'_> {
         match status_text(self.alloc, &self.prepared.campaign, state) {
             Ok(text) => deliver(text.as_slice(), out),
             Err(_) => Ending::NoMemory,
+        }
+    }
+
+    /// Makes the list of the mutations whole, and writes it.
+    fn list<O: Sink>(&self, state: &State, out: &mut O) -> Ending
+        requires plan { IsPlan self.now.prepared.now }
+        requires state { IsStateOf self.now.prepared.now.campaign state.now.rows state.now }
+        ensures wrote { Delivers (O.written out.old) (O.written out.new) (list_text self.now.prepared.now.campaign state.now.rows) result }
+        ensures later { O.faults out.old ≤ O.faults out.new }
+        ensures cause { result ≡ Ending.Refused → Rose (O.faults out.old) (O.faults out.new) }
+    {
+        match list_text(self.alloc, &self.prepared.campaign, state) {
+            Ok(text) => deliver(text.as_slice(), out),
+            Err(_) => Ending::NoMemory,
+        }
+    }
+
+    /// Writes the text of a command that only reads the book.
+    fn tell<O: Sink>(&self, command: Command, state: &State, out: &mut O) -> Ending
+        requires reads { OnlyReads command }
+        requires plan { IsPlan self.now.prepared.now }
+        requires state { IsStateOf self.now.prepared.now.campaign state.now.rows state.now }
+        ensures wrote { Delivers (O.written out.old) (O.written out.new) (text_of command self.now.prepared.now (book_of self.now.prepared.now state.now.rows)) result }
+        ensures later { O.faults out.old ≤ O.faults out.new }
+        ensures cause { result ≡ Ending.Refused → Rose (O.faults out.old) (O.faults out.new) }
+    {
+        match command {
+            Command::List => self.list(state, out),
+            Command::Init | Command::Run { .. } | Command::Status => self.report(state, out),
         }
     }
 
@@ -231,7 +262,7 @@ impl Task<'_> {
         match command {
             Command::Init => self.init(keeper, out),
             Command::Run { stop_after } => { self.begin_and_run(stop_after, keeper, out, steps) }
-            Command::Status => Outcome::NoCampaign,
+            Command::List | Command::Status => Outcome::NoCampaign,
         }
     }
 
@@ -274,16 +305,23 @@ impl Task<'_> {
         }
     }
 
-    /// Writes the status of a begun book.
-    fn status<K: Keeper, O: Sink>(&self, loaded: &Book, keeper: &K, out: &mut O) -> Outcome
+    /// Writes what a command tells of a begun book that only reads it.
+    fn show<K: Keeper, O: Sink>(
+        &self,
+        command: Command,
+        loaded: &Book,
+        keeper: &K,
+        out: &mut O,
+    ) -> Outcome
+        requires reads { OnlyReads command }
         requires plan { IsPlan self.now.prepared.now }
         requires begun { loaded.now.meta ≢ [] }
         requires kept { K.tells keeper.now → Keeps (K.holds keeper.now) (K.leaves keeper.now) loaded.now }
-        ensures work { K.tells keeper.now → (n : ℕ) → Work (K.leaves keeper.now) (O.written out.old) (O.written out.new) n n Command.Status self.now.prepared.now loaded.now result }
+        ensures work { K.tells keeper.now → (n : ℕ) → Work (K.leaves keeper.now) (O.written out.old) (O.written out.new) n n command self.now.prepared.now loaded.now result }
         ensures ends { Ends (O.written out.old) (O.written out.new) (K.faults keeper.now) (K.faults keeper.now) (O.faults out.old) (O.faults out.new) result }
     {
         match self.read_state(loaded) {
-            Ok(state) => self.report(&state, out).outcome(Outcome::Done),
+            Ok(state) => self.tell(command, &state, out).outcome(Outcome::Done),
             Err(refusal) => refusal.into_outcome(),
         }
     }
@@ -308,7 +346,7 @@ impl Task<'_> {
         match command {
             Command::Init => Outcome::AlreadyBegun,
             Command::Run { stop_after } => { self.resume(stop_after, loaded, keeper, out, steps) }
-            Command::Status => self.status(loaded, keeper, out),
+            Command::List | Command::Status => self.show(command, loaded, keeper, out),
         }
     }
 

@@ -1,7 +1,11 @@
--- The lines of the tags, one after another.
-use Rattle.std.proofs.Common.{◌≡◌, ℕ, ◌+◌, ◌<◌, ◌^◌, List, [], ◌++◌, length, get_or, drop, sym, ◌∙◌, ap, append_assoc}
+-- The lines of a text, one after another.
+use Rattle.std.proofs.Common.{◌≡◌, ℕ, suc, ◌+◌, ◌-◌, ◌<◌, ◌^◌, List, [], ◌∷◌, ◌++◌, arith, length, get_or, drop, sym, ◌∙◌, ap, append_assoc}
 use Rattle.std.proofs.lemmas.List.{drop_more}
+use Rattle.mcy_keeper.specs.declared.book.Entry.{Entry}
+use Rattle.result_book.specs.declared.campaign.Campaign.{Campaign}
 use Rattle.result_book.specs.Scripts.{Answer}
+use Rattle.result_book.specs.Rows.{answers_of, groups_from}
+use Rattle.source_report.specs.Lists.{list_line, list_lines}
 use Rattle.source_report.specs.declared.counts.End.TheVariants.{Tag}
 use Rattle.source_report.specs.Texts.{end_count, tag_line, tag_lines}
 
@@ -20,3 +24,22 @@ pub joined : (t u v w x y z a b c d e f : List ℕ) → t ≡ [] → u ≡ t ++ 
 joined t u v w x y z a b c d e f none one two three four five six =
     let all : z ≡ ((((([] ++ a) ++ b) ++ c) ++ d) ++ e) ++ f = cc in
     all ∙ simp append_assoc
+
+-- seven texts, one after another behind a first
+pub joined_behind : (t u v w x y z o a b c d e f g : List ℕ) → u ≡ t ++ a → v ≡ u ++ b → w ≡ v ++ c → x ≡ w ++ d → y ≡ x ++ e → z ≡ y ++ f → o ≡ z ++ g → o ≡ t ++ (a ++ (b ++ (c ++ (d ++ (e ++ (f ++ g))))))
+joined_behind t u v w x y z o a b c d e f g one two three four five six seven =
+    let all : o ≡ ((((((t ++ a) ++ b) ++ c) ++ d) ++ e) ++ f) ++ g = cc in
+    all ∙ simp append_assoc
+
+-- a text with the line of the next mutation, and the lines after it, is the text with all these lines
+pub list_lines-more : (c : Campaign) (number : ℕ) (sites : List (List ℕ)) (site text : List ℕ) (rows : List Entry) → number < length sites → site ≡ get_or sites number site
+    → (text ++ list_line c number site (answers_of number rows)) ++ list_lines c (number + 1) (drop (number + 1) sites) (groups_from (number + 1) (length sites - (number + 1)) rows)
+    ≡ text ++ list_lines c number (drop number sites) (groups_from number (length sites - number) rows)
+list_lines-more c number sites site text rows inside at =
+    let answers : List Answer = answers_of number rows in
+    let rest : List ℕ = list_lines c (number + 1) (drop (number + 1) sites) (groups_from (number + 1) (length sites - (number + 1)) rows) in
+    let left : suc (length sites - (number + 1)) ≡ length sites - number = omega (arith, inside) in
+    append_assoc text (list_line c number site answers) rest
+    ∙ ap (λ s. text ++ (list_line c number s answers ++ rest)) at
+    ∙ ap (λ k. text ++ list_lines c number (get_or sites number site ∷ drop (number + 1) sites) (groups_from number k rows)) left
+    ∙ ap (λ ss. text ++ list_lines c number ss (groups_from number (length sites - number) rows)) (sym (drop_more sites number site inside))

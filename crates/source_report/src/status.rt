@@ -45,7 +45,7 @@ pub fn add_number(text: &mut String, name: &str, number: usize) -> Result<(), Al
 }
 
 /// The name of a word.
-fn word_name(word: TestWord) -> &'static str
+pub(crate) fn word_name(word: TestWord) -> &'static str
     ensures { result.now ≡ texts.word_name word }
 {
     match word {
@@ -109,7 +109,7 @@ fn add_test(
 
 /// The bit of a tag.
 #[tactic(auto, using(std::proofs::lemmas::Nat::one_shl))]
-fn tag_bit(tag: usize) -> u32
+pub(crate) fn tag_bit(tag: usize) -> u32
     requires { tag < 32 }
     ensures { result ≡ 2 ^ tag }
 {
