@@ -1,0 +1,7 @@
+use Rattle.std.proofs.Common.{◌≡◌, drop, map}
+use Rattle.project_file.specs.Projects.{missing_pass}
+use Rattle.project_file.specs.Sections.{seen}
+use Rattle.project_file.proofs.checks.check_passes.Given as goal
+
+abbrev pub invariant-loop-i : goal.invariant-loop-i
+invariant-loop-i l = missing_pass l.i (map seen (drop l.i l.tests)) ≡ missing_pass 0 (map seen l.tests)

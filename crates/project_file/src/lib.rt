@@ -1,0 +1,23 @@
+//! The project file, `config.mcy`: from its bytes to a project, or to its first fault (docs/FORMATS.md).
+//!
+//! A reading goes over the lines twice. First each line is checked behind the lines before it, so that the first bad one is
+//! told. Then the project is made from lines that are known to be good: each value is looked up on the line with its key.
+#![tactic(auto)]
+
+mod checks;
+mod error;
+mod lines;
+mod numbers;
+mod options;
+mod paths;
+mod project;
+mod read;
+mod script;
+mod section;
+mod sections;
+mod test_plan;
+mod words;
+
+pub use error::{ProjectError, What};
+pub use project::{ModeFlags, Project, TestKind, TestPlan, TestPlanList};
+pub use read::read_project;

@@ -1,0 +1,67 @@
+//! Projects.
+use mcy_base::{Bytes, Items, LineList, Text, TextList};
+
+/// For each mode of mutation, whether it is asked for.
+#[derive(Clone, Copy, Debug, PartialEq, Eq)]
+pub struct ModeFlags {
+    pub inv: bool,
+    pub const0: bool,
+    pub const1: bool,
+    pub cnot0: bool,
+    pub cnot1: bool,
+}
+
+/// What a test does with a mutant.
+#[derive(Drop)]
+pub enum TestKind {
+    /// It compares the mutant with the design.
+    Eq,
+    /// It runs a bench: the name of its module and its files, the text by which it passes, and the one by which it fails,
+    /// which is empty where there is none.
+    Sim {
+        bench: Text,
+        files: TextList,
+        pass: Bytes,
+        fail: Bytes,
+    },
+}
+
+/// A test.
+#[derive(Drop)]
+pub struct TestPlan {
+    pub name: Text,
+    pub kind: TestKind,
+    /// The words that are expected: PASS in bit 0, FAIL in bit 1, HANG in bit 2, UNKNOWN in bit 3.
+    pub expect: u32,
+}
+
+/// Tests.
+pub type TestPlanList = Items<TestPlan>;
+
+/// A project.
+#[derive(Drop)]
+pub struct Project {
+    /// How many mutations are taken, from 1 to 10,000.
+    pub size: u32,
+    /// The tags, at most 32. A tag may stand there twice.
+    pub tags: TextList,
+    /// The seed of the selection and of `$random`.
+    pub word_seed: u64,
+    pub modes: ModeFlags,
+    /// Whether lines of the sources are taken evenly.
+    pub even: bool,
+    /// The most lemmas of an equivalence test, from 1 to 100,000.
+    pub conflicts: u32,
+    /// The most cycles of a simulation, from 1 to 1,000,000.
+    pub cycles: u32,
+    /// The files of the design, in the order in which they are named. A file may stand there twice.
+    pub design: TextList,
+    /// The name of the design's top module.
+    pub top: Text,
+    /// The lines of `[logic]` as they stand, with their numbers in the file.
+    pub logic: LineList,
+    /// The lines of `[report]` as they stand, with their numbers in the file.
+    pub report: LineList,
+    /// The tests, at most 16, each of another name.
+    pub tests: TestPlanList,
+}
