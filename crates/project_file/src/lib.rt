@@ -19,5 +19,8 @@ mod test_plan;
 mod words;
 
 pub use error::{ProjectError, What};
+pub use lines::is_blank;
+pub use numbers::is_digit;
 pub use project::{ModeFlags, Project, TestKind, TestPlan, TestPlanList};
 pub use read::read_project;
+pub use words::{is_name_byte, is_name_start};

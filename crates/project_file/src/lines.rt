@@ -14,8 +14,9 @@ pub fn lines(alloc: Global, text: &str) -> Result<Vec<&str>, AllocError>
     text.lines().collect(alloc)
 }
 
+/// A space or a tab.
 #[tactic(auto, unfolding(crate::specs::Lines::is_blank))]
-fn is_blank(byte: u8) -> bool
+pub fn is_blank(byte: u8) -> bool
     ensures { result ≡ is_blank byte }
 {
     byte == b' ' || byte == b'\t'

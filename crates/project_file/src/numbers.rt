@@ -6,8 +6,9 @@ ghost use Rattle.project_file.specs.Numbers.{is_digit, is_number, is_within, val
 /// The least number that no `u64` holds.
 const LIMIT: u128 = 1 << 64;
 
+/// A decimal digit.
 #[tactic(auto, unfolding(crate::specs::Numbers::is_digit))]
-fn is_digit(byte: u8) -> bool
+pub fn is_digit(byte: u8) -> bool
     ensures { result ≡ is_digit byte }
 {
     48 <= byte && byte <= 57

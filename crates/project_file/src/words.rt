@@ -6,15 +6,17 @@ ghost use Rattle.project_file.specs.Words.{is_among, is_name, is_name_byte, is_n
 use mcy_base::{Text, TextList};
 use std::alloc::{AllocError, Global};
 
+/// A letter or `_`.
 #[tactic(auto, unfolding(crate::specs::Words::is_name_start))]
-fn is_name_start(byte: u8) -> bool
+pub fn is_name_start(byte: u8) -> bool
     ensures { result ≡ is_name_start byte }
 {
     (65 <= byte && byte <= 90) || (97 <= byte && byte <= 122) || byte == b'_'
 }
 
+/// A letter, a digit or `_`.
 #[tactic(auto, unfolding(crate::specs::Words::is_name_byte))]
-fn is_name_byte(byte: u8) -> bool
+pub fn is_name_byte(byte: u8) -> bool
     ensures { result ≡ is_name_byte byte }
 {
     is_name_start(byte) || (48 <= byte && byte <= 57)

@@ -1,0 +1,14 @@
+//! The lines of a tag script or a report: which of them say something, how far each is indented, and its tokens
+//! (docs/FORMATS.md, "Scripts").
+//!
+//! Nothing is refused here. A row says that its line cannot be read, so that the first fault of all is told by who reads the rows.
+#![tactic(auto)]
+
+mod class;
+mod keyword;
+mod row;
+mod token;
+
+pub use keyword::Keyword;
+pub use row::{Row, RowList, rows};
+pub use token::{Token, TokenList};
