@@ -1,1 +1,5 @@
+mod ItemLemmas
+mod Labels
+mod Owned
+mod Valued
 mod Whole

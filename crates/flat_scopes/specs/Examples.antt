@@ -1,7 +1,6 @@
 -- Ranges with their bits.
-use Rattle.std.specs.Prelude.{◌≡◌, ◌^◌, ◌-◌, ℤ, pos, negsuc, Result, Ok, Err}
+use Rattle.std.specs.Prelude.{◌≡◌, ℤ, pos, negsuc, Ok, Err}
 use Rattle.mcy_base.specs.declared.span.Span.{Span}
-use Rattle.flat_scopes.specs.declared.range.RangeError.{RangeError}
 use Rattle.flat_scopes.specs.declared.range.RangeError.TheVariants.{TooWide, RangeForm}
 use Rattle.flat_scopes.specs.declared.range.VectorBits.{VectorBits}
 use Rattle.flat_scopes.specs.Ranges.{bits_between}

@@ -1,3 +1,9 @@
 pub mod Ranges
 pub mod Parameters
+pub mod Owns
+pub mod Openings
+pub mod Words
+pub mod Valued
+pub mod Opens
+pub mod Views
 pub mod Examples

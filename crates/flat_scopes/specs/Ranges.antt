@@ -1,5 +1,5 @@
 -- Ranges of declarations (IEEE 1364-2005, 4.3.1).
-use Rattle.std.specs.Prelude.{ℕ, ◌+◌, ◌-◌, ◌^◌, pos, ℤ, ◌-ℤ◌, int_lt, ◌||◌, Option, None, Some, Result, Ok, Err, if◌then◌else◌}
+use Rattle.std.specs.Prelude.{◌+◌, ◌-◌, ◌^◌, pos, ℤ, ◌-ℤ◌, int_lt, ◌||◌, Option, None, Some, Result, Ok, Err, if◌then◌else◌}
 use Rattle.mcy_base.specs.declared.span.Span.{Span}
 use Rattle.vlog_syntax.specs.declared.item.Range.{Range}
 use Rattle.vlog_meaning.specs.declared.fault.Fault.{Fault}

@@ -1,10 +1,23 @@
-//! What declarations say: the bits of a range, and what a parameter is declared as.
+//! Scopes: what declarations say, and what the items of a scope declare and list (IEEE 1364-2005, 4, 12.2, 12.3 and 12.4).
 #![tactic(auto)]
 
+mod declare;
+mod items;
 mod laws;
+mod lent;
+mod modules;
+mod opening;
+mod own;
 mod parameter;
 mod range;
+mod refusal;
+mod signal;
+mod values;
 
 pub use laws::ranges_of_examples;
+pub use lent::Lent;
+pub use opening::{Given, Head, Opening, Step};
 pub use parameter::{ParameterBits, parameter_decl};
 pub use range::{RangeError, VectorBits, range_bits};
+pub use refusal::Refusal;
+pub use signal::{Port, Signal, What};

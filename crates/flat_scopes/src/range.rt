@@ -1,5 +1,5 @@
 //! Ranges of declarations (IEEE 1364-2005, 4.3.1).
-ghost use Rattle.std.specs.Prelude.{◌≡◌, pos, ◌-ℤ◌, int_lt, IsTrue};
+ghost use Rattle.std.specs.Prelude.{◌≡◌, ◌≤◌, pos, ◌-ℤ◌, int_lt, IsTrue, IfOk};
 ghost use Rattle.vlog_meaning.specs.Integers.{bound_integer};
 ghost use Rattle.vlog_meaning.specs.Scopes.{names_of};
 ghost use Rattle.flat_scopes.specs.Ranges.{bits_between as between, bits_of_range};
@@ -40,7 +40,8 @@ fn is_below_0(bound: Bound) -> bool
 
 /// The bits between natural numbers.
 fn natural_bits(span: Span, msb: u128, lsb: u128) -> Result<VectorBits, RangeError>
-    ensures { result ≡ between span (pos msb) (pos lsb) }
+    ensures bits { result ≡ between span (pos msb) (pos lsb) }
+    ensures width { IfOk result (λ bits. (1 ≤ bits.width) × (bits.width ≤ 128)) }
 {
     if msb < lsb {
         return Err(RangeError::RangeForm(span));
@@ -71,7 +72,8 @@ fn is_far_above(msb: Bound, lsb: Bound) -> bool
 
 /// The bits from one bound to another.
 fn bits_between(span: Span, msb: Bound, lsb: Bound) -> Result<VectorBits, RangeError>
-    ensures { result ≡ between span (bound_integer msb) (bound_integer lsb) }
+    ensures bits { result ≡ between span (bound_integer msb) (bound_integer lsb) }
+    ensures width { IfOk result (λ bits. (1 ≤ bits.width) × (bits.width ≤ 128)) }
 {
     if is_below_0(lsb) {
         if is_far_above(msb, lsb) {
@@ -87,7 +89,8 @@ fn bits_between(span: Span, msb: Bound, lsb: Bound) -> Result<VectorBits, RangeE
 
 /// The bits of a range, which is one bit where none is written.
 pub fn range_bits(range: &Option<Range>, scope: &Scope) -> Result<VectorBits, RangeError>
-    ensures { result ≡ bits_of_range (names_of scope.now) range.now }
+    ensures bits { result ≡ bits_of_range (names_of scope.now) range.now }
+    ensures width { IfOk result (λ bits. (1 ≤ bits.width) × (bits.width ≤ 128)) }
 {
     let Some(range) = range else {
         return Ok(VectorBits { width: 1, low: 0 });

@@ -1,0 +1,9 @@
+use Rattle.std.proofs.Common.{drop}
+use Rattle.vlog_meaning.specs.Scopes.{names_of}
+use Rattle.flat_scopes.specs.Openings.{Opened}
+use Rattle.flat_scopes.specs.Opens.{Opens}
+use Rattle.flat_scopes.specs.Views.{opened_of}
+use Rattle.flat_scopes.proofs.opening.Opening.+items.Given as goal
+
+abbrev pub invariant-open_items-loop-item : goal.invariant-open_items-loop-item
+invariant-open_items-loop-item l = (last : Opened) → Opens l.head (names_of l.outside) (opened_of l.self) (drop l.item-index l.items) last → Opens l.head (names_of l.outside) (opened_of l.initial.self) l.items last

@@ -1,0 +1,7 @@
+use Rattle.std.proofs.Common.{◌≡◌, drop}
+use Rattle.flat_scopes.specs.Openings.{genvar_names}
+use Rattle.flat_scopes.specs.Views.{opened_of}
+use Rattle.flat_scopes.proofs.opening.Opening.genvar_names.Given as goal
+
+abbrev pub invariant-loop-name : goal.invariant-loop-name
+invariant-loop-name l = genvar_names (opened_of l.self) (drop l.name-index l.names) ≡ genvar_names (opened_of l.initial.self) l.names

@@ -1,0 +1,7 @@
+use Rattle.std.proofs.Common.{◌≡◌, ◌++◌, drop}
+use Rattle.flat_scopes.specs.Opens.{undeclared}
+use Rattle.flat_scopes.specs.Views.{opened_of}
+use Rattle.flat_scopes.proofs.opening.Opening.undeclared.Given as goal
+
+abbrev pub invariant-loop-name : goal.invariant-loop-name
+invariant-loop-name l = l.steps.items ++ undeclared (opened_of l.self) (drop l.name-index l.names) ≡ undeclared (opened_of l.self) l.names
