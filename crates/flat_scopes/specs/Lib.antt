@@ -7,3 +7,4 @@ pub mod Valued
 pub mod Opens
 pub mod Views
 pub mod Examples
+pub mod ScopeExamples

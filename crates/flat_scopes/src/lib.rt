@@ -14,7 +14,7 @@ mod refusal;
 mod signal;
 mod values;
 
-pub use laws::ranges_of_examples;
+pub use laws::{ranges_of_examples, scopes_of_examples};
 pub use lent::Lent;
 pub use opening::{Given, Head, Opening, Step};
 pub use parameter::{ParameterBits, parameter_decl};
