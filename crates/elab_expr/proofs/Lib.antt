@@ -12,3 +12,5 @@ pub mod Arms
 pub mod Facts
 pub mod Operands
 pub mod Refused
+pub mod Writing
+pub mod Starting

@@ -1,6 +1,7 @@
 -- A netlist that is being built, and its runs.
-use Rattle.std.specs.Prelude.{◌≡◌, ℕ, zero, suc, ◌+◌, ◌<◌, Bool, List, [], ◌∷◌, ◌++◌, slice_get, slice_set, slice_index_or, Option, Some, None, length}
+use Rattle.std.specs.Prelude.{◌≡◌, ℕ, zero, suc, ◌+◌, ◌<◌, Bool, List, [], ◌∷◌, ◌++◌, slice_get, slice_set, slice_index_or, Option, Some, None, length, map}
 use Rattle.mcy_base.specs.declared.span.Span.{Span}
+use Rattle.mcy_base.specs.declared.word.Word.{Word}
 use Rattle.netlist_core.specs.declared.bit.Bit.{Bit}
 use Rattle.netlist_core.specs.declared.bit.Bit.TheVariants.{Fixed, Net}
 use Rattle.netlist_core.specs.declared.cell.Cell.{Cell}
@@ -17,18 +18,19 @@ use Rattle.vlog_meaning.specs.declared.scope.Decl.TheVariants.{Signal, Constant}
 use Rattle.vlog_meaning.specs.Scopes.{Names, Store}
 
 -- The cells so far, the nets that have a bit's value, the registers, the signals as they were declared, the bits that
--- each signal has now, and a number above all nets.
+-- each signal has now, the number that each signal starts with, and a number above all nets.
 pub record Building : Type 0 where
   pub cells : List Cell
   pub joints : List Joint
   pub registers : List Register
   pub declared : List Declared
   pub signals : List (List Bit)
+  pub starts : List ℕ
   pub nets : ℕ
 
 -- a builder with nothing in it
 abbrev pub empty : Building
-empty = record { cells = []; joints = []; registers = []; declared = []; signals = []; nets = 0 }
+empty = record { cells = []; joints = []; registers = []; declared = []; signals = []; starts = []; nets = 0 }
 
 -- new nets, from this number on
 abbrev pub fresh_bits : ℕ → ℕ → List Bit
@@ -41,13 +43,17 @@ fresh_bits from (suc width) = Net from ∷ fresh_bits (from + 1) width
 abbrev pub with_cell : Building → CellKind → Bool → List (List Bit) → ℕ → Span → Building
 with_cell b kind is_signed inputs width span = record b { cells = b.cells ++ record { kind = kind; is_signed = is_signed; ports = inputs ++ fresh_bits b.nets width ∷ []; span = span } ∷ []; nets = b.nets + width }
 
--- the next signal, with new nets as its bits
+-- the next signal, with new nets as its bits, which starts with 0
 abbrev pub with_declared : Building → List ℕ → Span → ℕ → Building
-with_declared b name span width = record b { declared = b.declared ++ record { name = name; span = span; first = b.nets; width = width } ∷ []; signals = b.signals ++ fresh_bits b.nets width ∷ []; nets = b.nets + width }
+with_declared b name span width = record b { declared = b.declared ++ record { name = name; span = span; first = b.nets; width = width } ∷ []; signals = b.signals ++ fresh_bits b.nets width ∷ []; starts = b.starts ++ 0 ∷ []; nets = b.nets + width }
 
 -- other bits of a signal
 abbrev pub with_signal : ℕ → List Bit → Building → Building
 with_signal k bits b = record b { signals = slice_set b.signals k bits }
+
+-- another start value of a signal
+abbrev pub with_start : ℕ → ℕ → Building → Building
+with_start k start b = record b { starts = slice_set b.starts k start }
 
 abbrev pub with_joint : ℕ → Bit → Building → Building
 with_joint net bit b = record b { joints = b.joints ++ record { net = net; bit = bit } ∷ [] }
@@ -63,6 +69,16 @@ own_bits (s ∷ more) = s.width + own_bits more
 -- the bits that a signal has now
 abbrev pub signal : Building → ℕ → List Bit
 signal b k = slice_index_or b.signals k []
+
+-- the number that a signal starts with
+abbrev pub start_bits : Building → ℕ → ℕ
+start_bits b k = slice_index_or b.starts k 0
+
+abbrev pub start_numbers : List Word → List ℕ
+start_numbers words = map (λ w. w.bits) words
+
+abbrev pub word_widths : List Word → List ℕ
+word_widths words = map (λ w. w.width) words
 
 -- a signal as it was declared
 abbrev pub declared_at : Building → ℕ → Declared

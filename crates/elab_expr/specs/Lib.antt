@@ -5,3 +5,4 @@ pub mod Kinds
 pub mod Made
 pub mod Refusals
 pub mod Wiring
+pub mod Written

@@ -1,9 +1,12 @@
 //! A netlist that is being built: its cells so far, the nets that have a bit's value, its registers, its
-//! signals, and the bits that each signal has now.
+//! signals, the bits that each signal has now, and its start value.
 //!
 //! New nets are numbered in order, so `nets` is above all. Invariant: there are at most 65,535 cells, and the
-//! nets are those of the signals, at most 4,194,304, and at most 128 for each cell; each signal has bits.
-ghost use Rattle.std.specs.Prelude.{◌≡◌, ℕ, ◌^◌, ◌+◌, ◌<◌, ◌≤◌, List, [], ◌∷◌, ◌++◌, length, IfOk, IfErr, OnOk, OnErr, vec_len};
+//! nets are those of the signals, at most 4,194,304, and at most 128 for each cell; each signal has bits, which `signal_bits`
+//! counts, and a start value of their width; `writers` tells of each net whether it is joined or a bit of a register, and
+//! to which bit it is joined by the first joint that names it.
+ghost use Rattle.std.specs.Prelude.{◌≡◌, ◌⊎◌, ◌↔◌, ℕ, ◌^◌, ◌+◌, ◌<◌, ◌≤◌, List, [], ◌∷◌, ◌++◌, length, IfOk, IfErr, OnOk, OnErr, MatchOption, IsTrue, vec_len};
+ghost use Rattle.std.specs.List.{Contains};
 ghost use Rattle.elab_expr.specs.declared.error.ElabError.TheVariants.{TooMany};
 ghost use Rattle.mcy_base.specs.declared.kind.Kind.TheVariants.{Cells};
 ghost use Rattle.netlist_core.specs.Numbers.{number};
@@ -11,12 +14,14 @@ ghost use Rattle.netlist_core.specs.Cells.{cell_value};
 ghost use Rattle.netlist_core.specs.Runs.{Nets, values, plain, ports_seen};
 ghost use Rattle.netlist_core.specs.Shapes.{shape_of, widths, HasWidths};
 ghost use Rattle.netlist_core.specs.Checked.{AllWide};
-ghost use Rattle.elab_expr.specs.Building.{RunsIn, Grows, PortsBelow, fresh_bits, empty, with_cell, with_declared, with_signal, with_joint, with_register, own_bits, signal, declared_at};
+ghost use Rattle.elab_expr.specs.Building.{RunsIn, Grows, PortsBelow, fresh_bits, empty, with_cell, with_declared, with_signal, with_joint, with_register, with_start, own_bits, signal, start_bits, declared_at};
+ghost use Rattle.elab_expr.specs.Written.{IsJoined, IsStored, joint_of};
 ghost use Rattle.elab_expr.specs.Refusals.{IsShort, max_cells};
 
 use crate::error::ElabError;
+use crate::writers::{Writer, Writers};
 use mcy_base::{Kind, Span, Text, Word};
-use netlist_core::{Bit, BitList, Cell, CellKind, PortList, Register};
+use netlist_core::{Bit, BitList, Cell, CellKind, PortList, Register, copy_bits};
 use std::alloc::{AllocError, Global};
 use std::marker::Model;
 
@@ -45,18 +50,22 @@ pub struct Builder {
     registers: Vec<Register>,
     declared: Vec<Signal>,
     signals: Vec<BitList>,
+    starts: Vec<Word>,
+    writers: Writers,
     nets: u32,
+    signal_bits: u32,
 }
 
 impl Model for Builder {
-    ghost use Rattle.std.specs.Prelude.{◌≡◌, vec_len, ◌≤◌, ◌+◌, ◌*◌, length};
-    ghost use Rattle.elab_expr.specs.Building.{Building, own_bits};
+    ghost use Rattle.std.specs.Prelude.{◌≡◌, vec_len, ◌≤◌, ◌+◌, ◌*◌, length, map};
+    ghost use Rattle.elab_expr.specs.Building.{Building, own_bits, start_numbers, word_widths};
+    ghost use Rattle.elab_expr.specs.Written.{writers_of, writer_of};
 
     ghost Value = { Building };
 
-    ghost view = { λ b. record { cells = b.cells.items; joints = b.joints.items; registers = b.registers.items; declared = b.declared.items; signals = b.signals.items; nets = b.nets } };
+    ghost view = { λ b. record { cells = b.cells.items; joints = b.joints.items; registers = b.registers.items; declared = b.declared.items; signals = b.signals.items; starts = start_numbers b.starts.items; nets = b.nets } };
 
-    ghost invariant = { λ b. (length b.cells.items ≤ 65535) × (own_bits b.declared.items ≤ 4194304) × (b.nets ≤ own_bits b.declared.items + 128 * length b.cells.items) × (length b.declared.items ≡ length b.signals.items) × (length b.declared.items ≤ own_bits b.declared.items) };
+    ghost invariant = { λ b. (length b.cells.items ≤ 65535) × (own_bits b.declared.items ≤ 4194304) × (b.nets ≤ own_bits b.declared.items + 128 * length b.cells.items) × (length b.declared.items ≡ length b.signals.items) × (length b.declared.items ≤ own_bits b.declared.items) × (word_widths b.starts.items ≡ map length b.signals.items) × (writers_of b.writers ≡ writer_of b.joints.items b.registers.items) × (b.signal_bits ≡ own_bits b.declared.items) };
 }
 
 /// The most cells of a netlist.
@@ -92,6 +101,38 @@ fn push<T: Drop>(items: &mut Vec<T>, item: T) -> Result<(), AllocError>
     Ok(())
 }
 
+/// Adds an item at the end of both lists.
+fn push_both<T: Drop, U: Drop>(
+    firsts: &mut Vec<T>,
+    seconds: &mut Vec<U>,
+    first: T,
+    second: U,
+) -> Result<(), AllocError>
+    ensures firsts { OnOk result (firsts.new.items ≡ firsts.old.items ++ first ∷ []) }
+    ensures seconds { OnOk result (seconds.new.items ≡ seconds.old.items ++ second ∷ []) }
+    ensures first_stays { OnErr result (firsts.new.items ≡ firsts.old.items) }
+    ensures second_stays { OnErr result (seconds.new.items ≡ seconds.old.items) }
+{
+    push(firsts, first)?;
+    match push(seconds, second) {
+        Ok(()) => Ok(()),
+        Err(error) => {
+            firsts.pop();
+            Err(error)
+        }
+    }
+}
+
+/// The number 0 of a width.
+fn zero(width: u8) -> Word
+    requires some { 1 ≤ width }
+    requires narrow { width ≤ 128 }
+    ensures width { result.width ≡ width }
+    ensures zero { result.bits ≡ 0 }
+{
+    Word::new(width, 0).unwrap()
+}
+
 impl Builder {
     /// A builder with nothing in it.
     pub fn new(alloc: Global) -> Builder
@@ -104,12 +145,15 @@ impl Builder {
             registers: Vec::new(alloc),
             declared: Vec::new(alloc),
             signals: Vec::new(alloc),
+            starts: Vec::new(alloc),
+            writers: Writers::new(alloc),
             nets: 0,
+            signal_bits: 0,
         }
     }
 
-    /// Declares the next signal, with new nets as its bits, and gives its number, from 0. Where there is no
-    /// memory for it, the builder stays as it was.
+    /// Declares the next signal, with new nets as its bits and 0 as its start value, and gives its number, from 0.
+    /// Where there is no memory for it, the builder stays as it was.
     pub fn signal(&mut self, name: &str, span: Span, width: u8) -> Result<u32, AllocError>
         requires some { 1 ≤ width }
         requires narrow { width ≤ 128 }
@@ -120,24 +164,39 @@ impl Builder {
     {
         let name = Text::copy(self.alloc, name)?;
         let bits = fresh(self.alloc, self.nets, width)?;
-        let first = self.nets;
-        push(&mut self.signals, bits)?;
         let signal = Signal {
             name,
             span,
-            first,
+            first: self.nets,
             width,
         };
-        match push(&mut self.declared, signal) {
+        push(&mut self.starts, zero(width))?;
+        match push_both(&mut self.declared, &mut self.signals, signal, bits) {
             Ok(()) => {
                 self.nets += u32::from(width);
+                self.signal_bits += u32::from(width);
                 Ok(self.signals.len() as u32 - 1)
             }
             Err(error) => {
-                self.signals.pop();
+                self.starts.pop();
                 Err(error)
             }
         }
+    }
+
+    /// How many signals there are.
+    pub fn signal_count(&self) -> u32
+        ensures signals { result ≡ length self.now.signals }
+        ensures declared { result ≡ length self.now.declared }
+    {
+        self.signals.len() as u32
+    }
+
+    /// How many bits the signals have together, at most 4,194,304.
+    pub fn signal_bits(&self) -> u32
+        ensures { result ≡ own_bits self.now.declared }
+    {
+        self.signal_bits
     }
 
     /// The name that the signal was declared with.
@@ -165,13 +224,55 @@ impl Builder {
         self.signals[number as usize] = bits;
     }
 
+    /// Gives the signal a start value: what its register starts with, or what the bits of it have that nothing writes
+    /// (IEEE 1364-2005, 6.2.1).
+    pub fn set_start(&mut self, number: u32, start: Word)
+        requires known { number < length self.old.signals }
+        requires wide { start.width ≡ length (signal self.old number) }
+        ensures { self.new ≡ with_start number start.bits self.old }
+    {
+        self.starts[number as usize] = start;
+    }
+
+    /// The signal's start value, 0 where none was given.
+    pub fn start(&self, number: u32) -> Word
+        requires { number < length self.now.signals }
+        ensures bits { result.bits ≡ start_bits self.now number }
+        ensures width { result.width ≡ length (signal self.now number) }
+    {
+        self.starts[number as usize]
+    }
+
     /// Says that a net has a bit's value. Where there is no memory for it, the builder stays as it was.
     pub fn join(&mut self, net: u32, bit: Bit) -> Result<(), AllocError>
         ensures adds { OnOk result (self.new ≡ with_joint net bit self.old) }
         ensures unchanged { OnErr result (self.new ≡ self.old) }
     {
+        self.writers.make_room(net)?;
         push(&mut self.joints, Joint { net, bit })?;
+        self.writers.join(net, bit);
         Ok(())
+    }
+
+    /// The bit that a net is joined to, by the first of the joints that name it.
+    pub fn joined(&self, net: u32) -> Option<Bit>
+        ensures is { result ≡ joint_of self.now.joints net }
+        ensures tells { MatchOption result (¬ IsJoined self.now net) (λ bit. Contains self.now.joints (record { net = net; bit = bit })) }
+    {
+        match self.writers.of(net) {
+            Writer::Joined(bit) => Some(bit),
+            _ => None,
+        }
+    }
+
+    /// Whether a net is joined, or a bit of a register's Q.
+    pub fn is_written(&self, net: u32) -> bool
+        ensures { IsTrue result ↔ (IsJoined self.now net ⊎ IsStored self.now net) }
+    {
+        match self.writers.of(net) {
+            Writer::Nothing => false,
+            _ => true,
+        }
     }
 
     /// Adds a register. Where there is no memory for it, the builder stays as it was.
@@ -189,6 +290,8 @@ impl Builder {
         ensures unchanged { OnErr result (self.new ≡ self.old) }
     {
         let name = Text::copy(self.alloc, name)?;
+        let written = copy_bits(self.alloc, &q)?;
+        self.writers.make_room_for(written.as_slice())?;
         let register = Register {
             name,
             span,
@@ -197,6 +300,7 @@ impl Builder {
             start,
         };
         push(&mut self.registers, register)?;
+        self.writers.store(written.as_slice());
         Ok(())
     }
 

@@ -12,6 +12,7 @@ mod nodes;
 mod operators;
 mod unsupported;
 mod wiring;
+mod writers;
 
 pub use builder::{Builder, Joint, Signal};
 pub use error::ElabError;
