@@ -1,0 +1,4 @@
+mod Bits
+mod Reading
+mod Selects
+mod Sets
