@@ -1,4 +1,5 @@
 mod Bits
+mod Placing
 mod Reading
 mod Selects
 mod Sets

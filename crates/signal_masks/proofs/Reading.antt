@@ -1,6 +1,6 @@
 -- What an expression of each kind reads, from what its operands read.
-use Rattle.std.proofs.Common.{◌≡◌, zero, suc, ℕ, ◌<◌, ◌≤◌, ◌==◌, Bool, true, false, ◌&&◌, ◌||◌, nat_lt, nat_le, nat_eq, ℤ, pos, ◌-ℤ◌, List, [], ◌∷◌, map, refl, sym, ap, ◌∙◌, arith, length, get_or, take}
-use Rattle.std.specs.Prelude.{Option, None, Some}
+use Rattle.std.proofs.Common.{◌≡◌, zero, suc, ℕ, ◌<◌, Bool, true, false, ◌||◌, ℤ, pos, ◌-ℤ◌, List, [], ◌∷◌, refl, sym, ap, ◌∙◌, arith, length, get_or, take}
+use Rattle.std.specs.Prelude.{Option}
 use Rattle.mcy_base.specs.declared.span.Span.{Span}
 use Rattle.vlog_syntax.specs.declared.identifier.Identifier.{Identifier}
 use Rattle.vlog_syntax.specs.declared.identifier.Number.{Number}

@@ -1,5 +1,5 @@
 -- The names of selects are signals of 1 to 128 bits, and what reads no signal is a constant.
-use Rattle.std.proofs.Common.{◌≡◌, Bool, true, false, List, [], ◌∷◌, ◌++◌, refl, sym, ap, ◌∙◌}
+use Rattle.std.proofs.Common.{◌≡◌, Bool, false, List, [], ◌∷◌, sym, ap, ◌∙◌}
 use Rattle.std.specs.Prelude.{Option, Some, None}
 use Rattle.std.specs.Option.{is_none}
 use Rattle.mcy_base.specs.declared.span.Span.{Span}

@@ -1,10 +1,12 @@
-//! Sets of bits of signals, and which bits expressions read (IEEE 1364-2005, 5.2).
+//! Sets of bits of signals, which bits expressions read, and which left sides assign (IEEE 1364-2005, 5.2 and 9.2).
 #![tactic(auto)]
 
 mod mask;
 mod masks;
 mod reads;
+mod writes;
 
 pub use mask::Mask;
 pub use masks::Masks;
 pub use reads::reads_of;
+pub use writes::covered_by;

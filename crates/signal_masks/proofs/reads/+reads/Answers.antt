@@ -1,4 +1,4 @@
-use Rattle.std.proofs.Common.{rules, sym, ap, subst, add-one, arith, ◌∙◌}
+use Rattle.std.proofs.Common.{rules, sym, ap, add-one, arith, ◌∙◌}
 use Rattle.vlog_syntax.specs.declared.expr.Expr.TheViews.{the_lemmas}
 use Rattle.vlog_meaning.specs.declared.shapes.Shape.{Shape}
 use Rattle.vlog_meaning.specs.Scopes.{names_of}

@@ -1,4 +1,4 @@
-use Rattle.std.proofs.Common.{◌≡◌, ℕ, ◌||◌, ◌&&◌, not, take}
+use Rattle.std.proofs.Common.{◌≡◌, ℕ, ◌||◌, take}
 use Rattle.signal_masks.specs.Masks.{bits_in}
 use Rattle.signal_masks.proofs.masks.Masks.add_all.Given as goal
 
