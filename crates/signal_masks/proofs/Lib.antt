@@ -1,4 +1,5 @@
 mod Bits
+mod Indexing
 mod Placing
 mod Reading
 mod Selects
