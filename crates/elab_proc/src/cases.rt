@@ -78,7 +78,7 @@ fn size_with_labels(size: Shape, items: &[CaseItem], scope: &Scope) -> Shape
 }
 
 /// The size of a case.
-pub(crate) fn case_size(selector: &Expr, items: &[CaseItem], scope: &Scope) -> Shape
+pub fn case_size(selector: &Expr, items: &[CaseItem], scope: &Scope) -> Shape
     requires { flat_map (wrong (names_of scope.now)) (selector.now ∷ flat_map labels_in items.now) ≡ [] }
     ensures size { result ≡ common_size (names_of scope.now) (selector.now ∷ flat_map labels_in items.now) }
     ensures sized { IsSized result }
@@ -113,7 +113,7 @@ fn labels_zero_in(items: &[CaseItem], scope: &Scope, size: Shape) -> Option<Faul
 }
 
 /// What is wrong first in the selector and the labels of a case.
-pub(crate) fn case_fault(selector: &Expr, items: &[CaseItem], scope: &Scope) -> Option<Fault>
+pub fn case_fault(selector: &Expr, items: &[CaseItem], scope: &Scope) -> Option<Fault>
     ensures { result ≡ least (case_faults (names_of scope.now) (selector.now ∷ flat_map labels_in items.now)) }
 {
     match earlier(wrong_in(selector, scope), labels_wrong_in(items, scope)) {
@@ -171,14 +171,14 @@ fn is_free(kind: CaseKind, width: u8, label: &Expr) -> bool
 }
 
 /// Whether an item has no labels.
-pub(crate) fn is_default(item: &CaseItem) -> bool
+pub fn is_default(item: &CaseItem) -> bool
     ensures { result ≡ is_empty (labels_in item.now) }
 {
     matches!(item.labels.as_slice(), [])
 }
 
 /// Whether one of the labels matches whatever a selector of this width is.
-pub(crate) fn always(kind: CaseKind, width: u8, labels: &[Expr]) -> bool
+pub fn always(kind: CaseKind, width: u8, labels: &[Expr]) -> bool
     requires { width ≤ 128 }
     ensures { (c : Selection) → c.kind ≡ kind → c.width ≡ width → result ≡ always c labels.now }
 {

@@ -66,7 +66,7 @@ fn indexed_part_select(
 
 /// The expression of the same form.
 #[cycle(form)]
-pub(crate) fn same_form(alloc: Global, left: &LeftSide) -> Result<Expr, AllocError>
+pub fn same_form(alloc: Global, left: &LeftSide) -> Result<Expr, AllocError>
     ensures { IfOk result (λ x. x ≡ same_form left.now) }
 {
     match left {

@@ -20,12 +20,12 @@ use vlog_syntax::{Assignment, Expr, Identifier, LeftSide};
 
 /// A loop without its start and its body: its variable, of this width and sign, its condition and its step.
 #[derive(Drop)]
-pub(crate) struct Header<'a> {
-    pub(crate) name: &'a Identifier,
-    pub(crate) width: u8,
-    pub(crate) is_signed: bool,
-    pub(crate) condition: &'a Expr,
-    pub(crate) step: &'a Assignment,
+pub struct Header<'a> {
+    pub name: &'a Identifier,
+    pub width: u8,
+    pub is_signed: bool,
+    pub condition: &'a Expr,
+    pub step: &'a Assignment,
 }
 
 /// What is refused in a turn, and whether another one comes.
@@ -39,7 +39,7 @@ pub(crate) enum Turn {
 
 impl Header<'_> {
     /// The variable in a turn in which it has this value.
-    pub(crate) fn variable(&self, value: Word) -> Decl
+    pub fn variable(&self, value: Word) -> Decl
         ensures { result ≡ Constant value self.now.is_signed }
     {
         Decl::Constant {
@@ -69,7 +69,7 @@ fn wrong(cause: Cause, span: Span) -> Refusal
 }
 
 /// Whether a constant condition is not 0.
-pub(crate) fn holds(condition: &Expr, scope: &Scope) -> Result<bool, ConstError>
+pub fn holds(condition: &Expr, scope: &Scope) -> Result<bool, ConstError>
     ensures refused { refusal result ≡ option_map const_error (least (constant_faults_at (sense (names_of scope.now) condition.now) (assigned (sense (names_of scope.now) condition.now) 1))) }
     ensures holds { IfOk result (λ b. b ≡ not (nat_eq ((sense (names_of scope.now) condition.now).value nothing (assigned (sense (names_of scope.now) condition.now) 1)) 0)) }
 {
@@ -96,7 +96,7 @@ fn step_refusal(header: &Header<'_>, scope: &Scope) -> Option<Refusal>
 }
 
 /// The value of the variable in the next turn, where the turn before it has this scope; or why there is none.
-pub(crate) fn next_word(header: &Header<'_>, scope: &Scope) -> Result<Word, Refusal>
+pub fn next_word(header: &Header<'_>, scope: &Scope) -> Result<Word, Refusal>
     requires some { 1 ≤ header.now.width }
     requires narrow { header.now.width ≤ 128 }
     ensures next { IfOk result (λ word. GoesOn (loop_of header.now) (names_of scope.now) word) }
