@@ -1,0 +1,11 @@
+pub mod Bits
+pub mod Frames
+pub mod Keeping
+pub mod Gates
+pub mod Puts
+pub mod Simulates
+pub mod Changing
+pub mod Joining
+pub mod Merging
+pub mod Muxing
+pub mod Fitting

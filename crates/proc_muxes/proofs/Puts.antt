@@ -1,0 +1,104 @@
+-- A put lays bits at an index.
+use Rattle.std.proofs.Common.{◌≡◌, ℕ, zero, suc, ◌+◌, ◌-◌, ◌<◌, ◌≤◌, pos, Bool, ◌&&◌, List, [], ◌∷◌, length, Some, None, nat_lt, nat_le, set, refl, sym, ◌∙◌, ap, inl, inr, arith, suc-add, add-one}
+use Rattle.std.specs.Prelude.{if◌then◌else◌}
+use Rattle.std.proofs.Math.Seq.{take-length}
+use Rattle.std.proofs.lemmas.List.{length-map, length-set}
+use Rattle.std.proofs.lemmas.Bool.Decides.{leb_tells}
+use Rattle.mcy_base.specs.declared.span.Span.{Span}
+use Rattle.netlist_core.specs.declared.bit.Bit.{Bit}
+use Rattle.netlist_core.specs.declared.cell.CellKind.TheVariants.{Put}
+use Rattle.netlist_core.specs.Numbers.{number}
+use Rattle.netlist_core.specs.Cells.{laid_at}
+use Rattle.netlist_core.specs.Runs.{Nets, bit_value, values}
+use Rattle.vlog_effects.specs.Expressions.{bits_of}
+use Rattle.vlog_effects.specs.LeftSides.{Vector, bit_at, bits_from, written}
+use Rattle.elab_expr.specs.Building.{Building, RunsIn, fresh_bits}
+use Rattle.proc_muxes.specs.Builds.{AddsCell}
+use Rattle.proc_muxes.proofs.Bits.{bits_of-number}
+use Rattle.proc_muxes.proofs.Gates.{cell-values}
+
+-- the bits with others laid over them from a place on
+abbrev lay : List Bool → ℕ → List Bool → List Bool
+lay [] n d = []
+lay (a ∷ more) (suc n) d = a ∷ lay more n d
+lay (a ∷ more) zero [] = a ∷ more
+lay (a ∷ more) zero (x ∷ d) = x ∷ lay more zero d
+
+length-lay : (xs : List Bool) (n : ℕ) (d : List Bool) → length (lay xs n d) ≡ length xs
+length-lay [] n d = refl
+length-lay (a ∷ more) (suc n) d = ap suc (length-lay more n d)
+length-lay (a ∷ more) zero [] = refl
+length-lay (a ∷ more) zero (x ∷ d) = ap suc (length-lay more zero d)
+
+laid-is : (xs : List Bool) (n : ℕ) (d : List Bool) → laid_at xs n d ≡ lay xs n d
+laid-is [] n d = refl
+laid-is (a ∷ more) (suc n) d = rw (suc-add n (length d)) (ap (λ (t : List Bool). a ∷ t) (laid-is more n d))
+laid-is (a ∷ more) zero [] = take-length (a ∷ more)
+laid-is (a ∷ more) zero (x ∷ d) =
+    let s : 0 + suc (length d) ≡ suc (0 + length d) = omega arith in
+    rw s (ap (λ (t : List Bool). x ∷ t) (laid-is more zero d))
+
+-- Writing from a place on is laying.
+
+lay-past : (xs : List Bool) (n : ℕ) (d : List Bool) → length xs ≤ n → lay xs n d ≡ xs
+lay-past [] n d h = refl
+lay-past (a ∷ more) zero d h = absurd (omega arith)
+lay-past (a ∷ more) (suc n) d h = ap (λ (t : List Bool). a ∷ t) (lay-past more n d (omega arith))
+
+lay-step : (xs : List Bool) (n : ℕ) (x : Bool) (d : List Bool) → n < length xs → lay (set xs n x) (suc n) d ≡ lay xs n (x ∷ d)
+lay-step [] n x d h = absurd (omega arith)
+lay-step (a ∷ more) zero x d h = refl
+lay-step (a ∷ more) (suc n) x d h = ap (λ (t : List Bool). a ∷ t) (lay-step more n x d (omega arith))
+
+lay-nothing : (xs : List Bool) (n : ℕ) → lay xs n [] ≡ xs
+lay-nothing [] n = refl
+lay-nothing (a ∷ more) zero = refl
+lay-nothing (a ∷ more) (suc n) = ap (λ (t : List Bool). a ∷ t) (lay-nothing more n)
+
+in-range : (low w n : ℕ) → low ≡ 0 → n < w → (if nat_le low n && nat_lt (n - low) w then Some (n - low) else None) ≡ Some n
+in-range low w n e h = elim (leb_tells low n) [
+  | inl a ↦ elim (leb_tells (suc (n - low)) w) [
+    | inl b ↦ let f : n - low ≡ n = omega arith in rw (a.0, b.0, f) refl
+    | inr b ↦ absurd (let g = b.1 in omega arith)
+  ]
+  | inr a ↦ absurd (let g = a.1 in omega arith)
+]
+
+out-of-range : (low w n : ℕ) → low ≡ 0 → w ≤ n → (if nat_le low n && nat_lt (n - low) w then Some (n - low) else None) ≡ None
+out-of-range low w n e h = elim (leb_tells low n) [
+  | inl a ↦ elim (leb_tells (suc (n - low)) w) [
+    | inl b ↦ absurd (let g = b.1 in omega arith)
+    | inr b ↦ rw (a.0, b.0) refl
+  ]
+  | inr a ↦ absurd (let g = a.1 in omega arith)
+]
+
+written-lays : (v : Vector) (xs : List Bool) (n : ℕ) (d : List Bool) → v.low ≡ 0 → length xs ≡ v.width → written xs (bits_from v (pos n) (length d)) d ≡ lay xs n d
+written-lays v xs n [] low long = sym (lay-nothing xs n)
+written-lays v xs n (x ∷ d) low long = elim (leb_tells (suc n) v.width) [
+  | inl a ↦
+      let h : n < v.width = a.1 in
+      let e : bit_at v (pos n) ≡ Some n = in-range v.low v.width n low h in
+      let f : length (set xs n x) ≡ v.width = length-set xs n x ∙ long in
+      let i : written (set xs n x) (bits_from v (pos (suc n)) (length d)) d ≡ lay (set xs n x) (suc n) d = written-lays v (set xs n x) (suc n) d low f in
+      rw (e, add-one) (i ∙ lay-step xs n x d (rw long h))
+  | inr a ↦
+      let h : v.width ≤ n = omega (arith, a.1) in
+      let e : bit_at v (pos n) ≡ None = out-of-range v.low v.width n low h in
+      let i : written xs (bits_from v (pos (suc n)) (length d)) d ≡ lay xs (suc n) d = written-lays v xs (suc n) d low long in
+      rw (e, add-one) (i ∙ lay-past xs (suc n) d (omega arith) ∙ sym (lay-past xs n (x ∷ d) (omega arith)))
+]
+
+-- the bits of the put's number
+put-bits : (w : ℕ) (xs : List Bool) (n : ℕ) (d : List Bool) → length xs ≡ w → bits_of w (number (laid_at xs n d)) ≡ lay xs n d
+put-bits w xs n d long =
+    let wide : length (lay xs n d) ≡ w = length-lay xs n d ∙ long in
+    ap (λ (t : List Bool). bits_of w (number t)) (laid-is xs n d) ∙ ap (λ (k : ℕ). bits_of k (number (lay xs n d))) (sym wide) ∙ bits_of-number (lay xs n d)
+
+pub put-values : (a b : Building) (xs index bits : List Bit) (v : Vector) (at : Span) (nets : Nets) → AddsCell Put (xs ∷ index ∷ bits ∷ []) v.width at a b → RunsIn b nets → length xs ≡ v.width → v.low ≡ 0 → values nets (fresh_bits a.nets v.width) ≡ written (values nets xs) (bits_from v (pos (number (values nets index))) (length bits)) (values nets bits)
+put-values a b xs index bits v at nets f runs long low =
+    let n : ℕ = number (values nets index) in
+    let wide : length (values nets xs) ≡ v.width = length-map xs (bit_value nets) ∙ long in
+    let lays : written (values nets xs) (bits_from v (pos n) (length (values nets bits))) (values nets bits) ≡ lay (values nets xs) n (values nets bits) = written-lays v (values nets xs) n (values nets bits) low wide in
+    let same : length (values nets bits) ≡ length bits = length-map bits (bit_value nets) in
+    cell-values a b Put (xs ∷ index ∷ bits ∷ []) v.width at nets f runs ∙ put-bits v.width (values nets xs) n (values nets bits) wide ∙ sym lays ∙ rw same refl

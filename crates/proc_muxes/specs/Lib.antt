@@ -1,0 +1,4 @@
+pub mod Builds
+pub mod Shows
+pub mod Working
+pub mod Laws
