@@ -9,8 +9,9 @@ use Rattle.vlog_syntax.specs.declared.operator.BinaryOperator.{BinaryOperator}
 use Rattle.vlog_syntax.specs.declared.operator.BinaryOperator.TheVariants as b
 use Rattle.netlist_core.specs.declared.bit.Bit.{Bit}
 use Rattle.netlist_core.specs.declared.cell.CellKind.{CellKind}
-use Rattle.netlist_core.specs.declared.cell.CellKind.TheVariants.{Not, Neg, And, Or, Xor, Xnor, Add, Sub, Mul, Lt, Le, Gt, Ge, Eq, Ne, Shl, Shr, Sshr, Rand, Ror, Rxor, Rnand, Rnor, Rxnor, Lnot, Land, Lor, Mux, Pick}
+use Rattle.netlist_core.specs.declared.cell.CellKind.TheVariants.{Not, Neg, And, Or, Xor, Xnor, Add, Sub, Mul, Lt, Le, Gt, Ge, Eq, Ne, Shl, Shr, Sshr, Rand, Ror, Rxor, Rnand, Rnor, Rxnor, Lnot, Land, Lor, Mux, Pick, Put}
 use Rattle.netlist_core.specs.Numbers.{number}
+use Rattle.netlist_core.specs.Cells.{laid_at}
 use Rattle.netlist_core.specs.Runs.{Nets, bit_value, values}
 use Rattle.netlist_core.specs.Shapes.{shape_of, HasWidths}
 use Rattle.vlog_meaning.specs.declared.shapes.Shape.{Shape}
@@ -91,6 +92,10 @@ mux_shows old new w s nay yea y span nets ln ly is_y is runs =
 pub pick_shows : (old new : Building) (w : ℕ) (a i y : List Bit) (span : Span) (nets : Nets) → y ≡ fresh_bits old.nets w → new ≡ with_cell old Pick false (a ∷ i ∷ []) w span → RunsIn new nets → number (values nets y) ≡ window (pos (number (values nets i))) w (number (values nets a))
 pick_shows old new w a i y span nets is_y is runs =
     shows old new Pick false (a ∷ i ∷ []) w span y nets is_y is runs ∙ more.pick_cell w (values nets a) (values nets i)
+
+pub put_shows : (old new : Building) (w : ℕ) (a i d y : List Bit) (span : Span) (nets : Nets) → length a ≡ w → y ≡ fresh_bits old.nets w → new ≡ with_cell old Put false (a ∷ i ∷ d ∷ []) w span → RunsIn new nets → number (values nets y) ≡ number (laid_at (values nets a) (number (values nets i)) (values nets d))
+put_shows old new w a i d y span nets la is_y is runs =
+    shows old new Put false (a ∷ i ∷ d ∷ []) w span y nets is_y is runs ∙ more.put_cell w (values nets a) (values nets i) (values nets d) (length_values nets a ∙ la)
 
 pub ror_shows : (old new : Building) (a y : List Bit) (span : Span) (nets : Nets) → y ≡ fresh_bits old.nets 1 → new ≡ with_cell old Ror false (a ∷ []) 1 span → RunsIn new nets → (number (values nets y) == 0) ≡ (number (values nets a) == 0)
 ror_shows old new a y span nets is_y is runs =

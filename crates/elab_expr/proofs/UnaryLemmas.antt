@@ -1,16 +1,16 @@
--- The cell of a unary operator, of a choice, of a select and of a condition.
+-- The cell of a unary operator, of a choice, of a select, of bits that are laid over others and of a condition.
 use Rattle.std.proofs.Common.{◌≡◌, ℕ, zero, suc, ◌+◌, ◌-◌, ◌*◌, ◌/◌, ◌%◌, ◌<◌, ◌≤◌, ◌^◌, Bool, true, false, not, ◌==◌, pos, neg_ℤ, List, [], ◌∷◌, length, refl, sym, ap, ◌∙◌, arith}
-use Rattle.std.specs.Prelude.{Some, if◌then◌else◌}
+use Rattle.std.specs.Prelude.{Some, take, if◌then◌else◌}
 use Rattle.std.proofs.lemmas.Bool.Decides.{nat_tests}
 use Rattle.std.proofs.Math.Nat.{mod-eq_of_lt, pow-suc}
 use Rattle.std.proofs.Math.Pow.{pow_mono}
 use Rattle.vlog_syntax.specs.declared.operator.UnaryOperator.{UnaryOperator}
 use Rattle.vlog_syntax.specs.declared.operator.UnaryOperator.TheVariants as u
 use Rattle.netlist_core.specs.declared.cell.CellKind.{CellKind}
-use Rattle.netlist_core.specs.declared.cell.CellKind.TheVariants.{Not, Neg, Rand, Ror, Rxor, Rnand, Rnor, Rxnor, Lnot, Mux, Pick}
+use Rattle.netlist_core.specs.declared.cell.CellKind.TheVariants.{Not, Neg, Rand, Ror, Rxor, Rnand, Rnor, Rxnor, Lnot, Mux, Pick, Put}
 use Rattle.netlist_core.specs.Numbers.{number}
 use Rattle.netlist_core.specs.Numbers as n
-use Rattle.netlist_core.specs.Cells.{cell_value, all_ones, some_one, odd_ones}
+use Rattle.netlist_core.specs.Cells.{cell_value, all_ones, some_one, odd_ones, laid_at}
 use Rattle.vlog_meaning.specs.declared.shapes.Shape.{Shape}
 use Rattle.vlog_meaning.specs.Integers.{low_bits, window, parity}
 use Rattle.vlog_meaning.specs.Operators.{digit, unary_value, is_reduction}
@@ -106,6 +106,20 @@ mux_cell w s xs ys lx ly =
 
 pub pick_cell : (w : ℕ) (xs ys : List Bool) → cell_value Pick false w (xs ∷ ys ∷ []) ≡ window (pos (number ys)) w (number xs)
 pick_cell w xs ys = ap (λ (m : ℕ). m % 2 ^ w) (number-drop (number ys) xs)
+
+take_short : (n : ℕ) (xs : List Bool) → length (take n xs) ≤ n
+take_short zero xs = omega arith
+take_short (suc n) [] = omega arith
+take_short (suc n) (x ∷ xs) = let e = take_short n xs in omega (arith, e)
+
+pub put_cell : (w : ℕ) (xs ys zs : List Bool) → length xs ≡ w → cell_value Put false w (xs ∷ ys ∷ zs ∷ []) ≡ number (laid_at xs (number ys) zs)
+put_cell w xs ys zs lx =
+    let l : List Bool = laid_at xs (number ys) zs in
+    let short : length l ≤ length xs = take_short (length xs) _ in
+    let few : length l ≤ w = omega (arith, short, lx) in
+    let fits : number l < 2 ^ length l = bits_fit l in
+    let wide : 2 ^ length l ≤ 2 ^ w = pow_mono few in
+    mod-eq_of_lt (omega (arith, fits, wide))
 
 digit_zero : (b : Bool) → (digit b == 0) ≡ not b
 digit_zero true = refl

@@ -13,9 +13,9 @@ use std::alloc::{AllocError, Global};
 use vlog_meaning::{Bound, Scope, Shape, shape_of, signal_in, value_of};
 use vlog_syntax::Expr;
 
-/// Whether the expression reads no signal.
+/// Whether the expression reads no signal, so that it makes no cell.
 #[tactic(auto, using(crate::proofs::Plans::none_read))]
-pub(crate) fn is_constant(expr: &Expr, scope: &Scope) -> bool
+pub fn is_constant(expr: &Expr, scope: &Scope) -> bool
     ensures { result ≡ is_empty (sense (names_of scope.now) expr.now).signals }
 {
     signal_in(expr, scope).is_none()
@@ -38,8 +38,8 @@ pub(crate) fn folded(
     Ok(constant_bits(alloc, value_of(expr, scope, &[], context), context.width)?)
 }
 
-/// The place that a constant index names.
-pub(crate) fn index_of(expr: &Expr, scope: &Scope) -> Bound
+/// The place that a constant index names: its bits at its own width, read as unsigned. It is never negative.
+pub fn index_of(expr: &Expr, scope: &Scope) -> Bound
     requires { IsWhole (names_of scope.now) expr.now }
     ensures value { bound_integer result ≡ pos (own nothing (sense (names_of scope.now) expr.now)) }
     ensures small { IsTrue result.is_negative → result.magnitude ≤ 2 ^ 127 }
@@ -51,8 +51,8 @@ pub(crate) fn index_of(expr: &Expr, scope: &Scope) -> Bound
     }
 }
 
-/// The integer that a constant bound is.
-pub(crate) fn bound_of(expr: &Expr, scope: &Scope) -> Bound
+/// The integer that a constant bound is, by its own sign (IEEE 1364-2005, 4.1.14 and 5.2.1).
+pub fn bound_of(expr: &Expr, scope: &Scope) -> Bound
     requires { IsWhole (names_of scope.now) expr.now }
     ensures value { bound_integer result ≡ constant_integer (sense (names_of scope.now) expr.now) }
     ensures small { IsTrue result.is_negative → result.magnitude ≤ 2 ^ 127 }
@@ -61,8 +61,8 @@ pub(crate) fn bound_of(expr: &Expr, scope: &Scope) -> Bound
     Bound::of(own, value_of(expr, scope, &[], own))
 }
 
-/// The count that a constant is.
-pub(crate) fn count_of(expr: &Expr, scope: &Scope) -> u8
+/// The count that a constant is, where it is at most 128. A negative one counts nothing.
+pub fn count_of(expr: &Expr, scope: &Scope) -> u8
     requires whole { IsWhole (names_of scope.now) expr.now }
     requires few { natural (constant_integer (sense (names_of scope.now) expr.now)) ≤ 128 }
     ensures { result ≡ natural (constant_integer (sense (names_of scope.now) expr.now)) }

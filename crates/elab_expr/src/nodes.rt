@@ -1,8 +1,9 @@
 //! The cells of one operator, from the bits of its operands.
 ghost use Rattle.std.specs.Prelude.{◌≡◌, ◌==◌, ◌+◌, ◌≤◌, ◌&&◌, false, [], ◌∷◌, Some, length, IfOk, IfErr, if◌then◌else◌, pos};
 ghost use Rattle.netlist_core.specs.Numbers.{number};
+ghost use Rattle.netlist_core.specs.Cells.{laid_at};
 ghost use Rattle.netlist_core.specs.Runs.{Nets, values};
-ghost use Rattle.netlist_core.specs.declared.cell.CellKind.TheVariants.{Ror, Mux, Pick};
+ghost use Rattle.netlist_core.specs.declared.cell.CellKind.TheVariants.{Ror, Mux, Pick, Put};
 ghost use Rattle.vlog_meaning.specs.Integers.{window};
 ghost use Rattle.vlog_meaning.specs.Operators.{IsSized, ArePaired, sizing, result_width, is_reduction, unary_value, binary_value};
 ghost use Rattle.elab_expr.specs.Building.{RunsIn, fresh_bits, with_cell};
@@ -177,6 +178,31 @@ pub fn pick_cell(
 {
     let ports = two(builder.alloc(), a, index)?;
     Ok(builder.cell(CellKind::Pick, false, ports, width, span)?)
+}
+
+/// The cell that lays bits over `a` from the bit on whose number `index` is. What is past the end of `a` is dropped.
+pub fn put_cell(
+    builder: &mut Builder,
+    a: BitList,
+    index: BitList,
+    bits: BitList,
+    width: u8,
+    span: Span,
+) -> Result<BitList, ElabError>
+    requires some { 1 ≤ width }
+    requires narrow { width ≤ 128 }
+    requires long { length a ≡ width }
+    requires some_index { 1 ≤ length index }
+    requires narrow_index { length index ≤ 128 }
+    requires some_bits { 1 ≤ length bits }
+    requires narrow_bits { length bits ≤ 128 }
+    ensures y { IfOk result (λ y. y ≡ fresh_bits builder.old.nets width) }
+    ensures adds { IfOk result (λ y. builder.new ≡ with_cell builder.old Put false (a ∷ index ∷ bits ∷ []) width span) }
+    ensures value { IfOk result (λ y. (nets : Nets) → RunsIn builder.new nets → number (values nets y) ≡ number (laid_at (values nets a) (number (values nets index)) (values nets bits))) }
+    ensures short { IfErr result (λ e. IsShort (length builder.old.cells + 1) e) }
+{
+    let ports = three(builder.alloc(), a, index, bits)?;
+    Ok(builder.cell(CellKind::Put, false, ports, width, span)?)
 }
 
 /// The cell that makes one bit of a condition: whether any of its bits is 1.
