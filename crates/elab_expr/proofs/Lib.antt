@@ -14,3 +14,8 @@ pub mod Operands
 pub mod Refused
 pub mod Writing
 pub mod Starting
+pub mod Following
+pub mod Marking
+pub mod Circling
+pub mod Laying
+pub mod Ending

@@ -149,7 +149,7 @@ joint_none (j ∷ more) n e bit h =
       | inr later ↦ joint_none more n none.1 bit later
     ]
 
-has_net_there : (bits : List Bit) (n : ℕ) → has_net bits n ≡ true → Contains bits (Net n)
+pub has_net_there : (bits : List Bit) (n : ℕ) → has_net bits n ≡ true → Contains bits (Net n)
 has_net_there [] n e = absurd (false≢true e)
 has_net_there (Fixed b ∷ more) n e = has_more more (Fixed b) (Net n) (has_net_there more n e)
 has_net_there (Net m ∷ more) n e = elim (or_cases (nat_eq n m) (has_net more n) e) [
@@ -157,7 +157,7 @@ has_net_there (Net m ∷ more) n e = elim (or_cases (nat_eq n m) (has_net more n
   | inr later ↦ has_more more (Net m) (Net n) (has_net_there more n later)
 ]
 
-has_net_told : (bits : List Bit) (n : ℕ) → Contains bits (Net n) → has_net bits n ≡ true
+pub has_net_told : (bits : List Bit) (n : ℕ) → Contains bits (Net n) → has_net bits n ≡ true
 has_net_told [] n h = absurd (has_none (Net n) h)
 has_net_told (Fixed b ∷ more) n h = elim (has_cases more (Fixed b) (Net n) h) [ inl same ↦ absurd cc | inr later ↦ has_net_told more n later ]
 has_net_told (Net m ∷ more) n h = elim (has_cases more (Net m) (Net n) h) [

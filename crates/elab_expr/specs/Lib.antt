@@ -6,3 +6,7 @@ pub mod Made
 pub mod Refusals
 pub mod Wiring
 pub mod Written
+pub mod Finished
+pub mod Stepping
+pub mod Tracing
+pub mod Rounds

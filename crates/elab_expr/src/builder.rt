@@ -11,17 +11,21 @@ ghost use Rattle.elab_expr.specs.declared.error.ElabError.TheVariants.{TooMany};
 ghost use Rattle.mcy_base.specs.declared.kind.Kind.TheVariants.{Cells};
 ghost use Rattle.netlist_core.specs.Numbers.{number};
 ghost use Rattle.netlist_core.specs.Cells.{cell_value};
-ghost use Rattle.netlist_core.specs.Runs.{Nets, values, plain, ports_seen};
+ghost use Rattle.netlist_core.specs.Runs.{Nets, values, plain, ports_seen, bits_at};
 ghost use Rattle.netlist_core.specs.Shapes.{shape_of, widths, HasWidths};
 ghost use Rattle.netlist_core.specs.Checked.{AllWide};
 ghost use Rattle.elab_expr.specs.Building.{RunsIn, Grows, PortsBelow, fresh_bits, empty, with_cell, with_declared, with_signal, with_joint, with_register, with_start, own_bits, signal, start_bits, declared_at};
 ghost use Rattle.elab_expr.specs.Written.{IsJoined, IsStored, joint_of};
+ghost use Rattle.elab_expr.specs.Finished.{Finished, IsStuck, step_of};
 ghost use Rattle.elab_expr.specs.Refusals.{IsShort, max_cells};
 
 use crate::error::ElabError;
+use crate::finishing::{FinishError, led_cells, led_ports, led_registers, steps_of, traced};
 use crate::writers::{Writer, Writers};
 use mcy_base::{Kind, Span, Text, Word};
-use netlist_core::{Bit, BitList, Cell, CellKind, PortList, Register, copy_bits};
+use netlist_core::{
+    Bit, BitList, Cell, CellKind, Port, PortList, Ports, RawNetlist, Register, copy_bits,
+};
 use std::alloc::{AllocError, Global};
 use std::marker::Model;
 
@@ -360,5 +364,41 @@ impl Builder {
         push(&mut self.cells, cell)?;
         self.nets += u32::from(width);
         Ok(shown)
+    }
+
+    /// The netlist of what was built, with these inputs and outputs, in which each net that is read is replaced by the
+    /// bit that it leads to: a joined net leads where its bit does, the nets of inputs, of registers and of cells' Y lead
+    /// to themselves, and any other bit of a signal to that of the signal's start value. Cells and registers keep their
+    /// order.
+    pub fn finish(
+        self,
+        top: Text,
+        clock: Option<Text>,
+        inputs: Vec<Port>,
+        outputs: Vec<Port>,
+    ) -> Result<RawNetlist, FinishError>
+        ensures top { IfOk result (λ netlist. netlist.top ≡ top) }
+        ensures clock { IfOk result (λ netlist. netlist.clock ≡ clock) }
+        ensures finished { IfOk result (Finished self inputs.items outputs.items) }
+        ensures loops { IfErr result (IsStuck (step_of self (bits_at inputs.items))) }
+    {
+        let alloc = self.alloc;
+        let steps = steps_of(
+            alloc,
+            &self.signals,
+            &self.starts,
+            &inputs,
+            &self.registers,
+            &self.joints,
+        )?;
+        let trace = traced(alloc, steps)?;
+        Ok(RawNetlist {
+            top,
+            clock,
+            inputs: Ports::from_vec(inputs),
+            outputs: led_ports(alloc, &trace, &outputs)?,
+            registers: led_registers(alloc, &trace, &self.registers)?,
+            cells: led_cells(alloc, &trace, &self.cells)?,
+        })
     }
 }
