@@ -161,6 +161,18 @@ def designed():
     return rows
 
 
+def worked():
+    """A carry that is lost and kept, and -1 compared as a signed and as an unsigned number."""
+    carry = ("b", "+", name("a"), number(8, False, 1))
+    minus_one = ("u", "-", int32(1))
+    return [
+        (8, carry, {"a": 255}),
+        (9, carry, {"a": 255}),
+        (1, ("b", ">", minus_one, int32(0)), {}),
+        (1, ("b", ">", minus_one, number(1, False, 0)), {}),
+    ]
+
+
 def drawn(rng, depth):
     """An expression of random form."""
     kind = rng.random()
@@ -237,7 +249,7 @@ def all_rows():
     for _ in range(150):
         row = drawn(rng, rng.randint(1, 3))
         rows.append((128 if rng.random() < 0.2 else 64, row, values_for(rng, row)))
-    return rows
+    return rows + worked()
 
 
 def line_of(width, row, values):
