@@ -1,11 +1,11 @@
 //! What statements add to a builder.
-ghost use Rattle.std.specs.Prelude.{◌≡◌, ◌<◌, IfOk, length};
+ghost use Rattle.std.specs.Prelude.{◌≡◌, ◌<◌, ◌≤◌, [], ◌∷◌, IfOk, length};
 ghost use Rattle.elab_expr.specs.Building.{signal};
 
 use anyhow::{Context, Result, bail};
 use elab_expr::Builder;
 use mcy_base::{Span, Text, Word};
-use netlist_core::{Bit, BitList};
+use netlist_core::{Bit, BitList, CellKind, Port, PortList};
 use std::alloc::{AllocError, Global};
 
 /// The place of each part in the source.
@@ -21,7 +21,7 @@ pub(crate) fn number_of(text: &str) -> Result<u32> {
 }
 
 /// A signal by its number.
-pub(crate) fn signal_of(builder: &Builder, text: &str) -> Result<u32>
+fn signal_of(builder: &Builder, text: &str) -> Result<u32>
     ensures signals { IfOk result (λ k. k < length builder.now.signals) }
     ensures declared { IfOk result (λ k. k < length builder.now.declared) }
 {
@@ -91,4 +91,33 @@ pub(crate) fn register(alloc: Global, builder: &mut Builder, words: &str) -> Res
     }
     builder.register(name.as_str(), PLACE, d, q, start)?;
     Ok(())
+}
+
+/// A cell's ports, where there is one input.
+fn one_input(alloc: Global, bits: BitList) -> Result<PortList, AllocError>
+    ensures { IfOk result (λ ports. ports ≡ bits ∷ []) }
+{
+    let mut ports = Vec::new(alloc);
+    ports.push(bits)?;
+    Ok(PortList::from_vec(ports))
+}
+
+/// Adds a cell that inverts a signal.
+pub(crate) fn invert(alloc: Global, builder: &mut Builder, words: &str) -> Result<()> {
+    let number = signal_of(builder, words)?;
+    let width = builder.start(number).width();
+    let inputs = one_input(alloc, bits_of(alloc, builder, number)?)?;
+    match builder.cell(CellKind::Not, false, inputs, width, PLACE) {
+        Ok(_) => Ok(()),
+        Err(_) => bail!("no cell"),
+    }
+}
+
+/// A port with a signal's name and bits.
+pub(crate) fn port_of(alloc: Global, builder: &Builder, words: &str) -> Result<Port> {
+    let number = signal_of(builder, words)?;
+    Ok(Port {
+        name: Text::copy(alloc, builder.name(number))?,
+        bits: bits_of(alloc, builder, number)?,
+    })
 }

@@ -1,8 +1,6 @@
-//! What is printed of builders.
-ghost use Rattle.std.specs.Prelude.{◌<◌, length};
-
+//! What is printed of builders and netlists.
 use elab_expr::Builder;
-use netlist_core::Bit;
+use netlist_core::{Bit, BitList, RawNetlist};
 use std::io;
 
 fn tell_bit<R: Print>(rt: &R, bit: Bit) -> io::Result<()> {
@@ -13,8 +11,19 @@ fn tell_bit<R: Print>(rt: &R, bit: Bit) -> io::Result<()> {
     }
 }
 
+/// Prints bits from bit 0 on, with commas between them and a blank in front.
+fn tell_bits<R: Print>(rt: &R, bits: &BitList) -> io::Result<()> {
+    let mut before = " ";
+    for bit in bits.as_slice() {
+        print!(rt; "{before}")?;
+        tell_bit(rt, *bit)?;
+        before = ",";
+    }
+    Ok(())
+}
+
 /// Prints what a net is written by.
-pub(crate) fn tell_net<R: Print>(rt: &R, builder: &Builder, net: u32) -> io::Result<()> {
+pub(crate) fn tell_asked<R: Print>(rt: &R, builder: &Builder, net: u32) -> io::Result<()> {
     print!(rt; "{net} is ")?;
     match (builder.joined(net), builder.is_written(net)) {
         (Some(bit), true) => {
@@ -28,15 +37,34 @@ pub(crate) fn tell_net<R: Print>(rt: &R, builder: &Builder, net: u32) -> io::Res
     }
 }
 
-/// Prints a signal: its name, its bits from bit 0 on, and its start value.
-pub(crate) fn tell_signal<R: Print>(rt: &R, builder: &Builder, number: u32) -> io::Result<()>
-    requires signals { number < length builder.now.signals }
-    requires declared { number < length builder.now.declared }
-{
-    print!(rt; "{} has", builder.name(number))?;
-    for bit in builder.bits(number) {
-        print!(rt; " ")?;
-        tell_bit(rt, *bit)?;
+/// Prints a netlist: its inputs, outputs, registers and cells.
+pub(crate) fn tell_netlist<R: Print>(rt: &R, netlist: &RawNetlist) -> io::Result<()> {
+    for port in netlist.inputs.as_slice() {
+        print!(rt; "input {}", port.name.as_str())?;
+        tell_bits(rt, &port.bits)?;
+        println!(rt;)?;
     }
-    println!(rt; " and starts with {}", builder.start(number).bits())
+    for port in netlist.outputs.as_slice() {
+        print!(rt; "output {}", port.name.as_str())?;
+        tell_bits(rt, &port.bits)?;
+        println!(rt;)?;
+    }
+    for register in netlist.registers.as_slice() {
+        print!(rt;
+            "register {} {}",
+            register.name.as_str(),
+            register.start.bits()
+        )?;
+        tell_bits(rt, &register.d)?;
+        tell_bits(rt, &register.q)?;
+        println!(rt;)?;
+    }
+    for cell in netlist.cells.as_slice() {
+        print!(rt; "not")?;
+        for port in cell.ports.as_slice() {
+            tell_bits(rt, port)?;
+        }
+        println!(rt;)?;
+    }
+    println!(rt; "end")
 }
