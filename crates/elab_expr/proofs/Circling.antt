@@ -1,15 +1,14 @@
 -- Going round loops.
-use Rattle.std.proofs.Common.{◌≡◌, ◌≢◌, ℕ, zero, suc, ◌+◌, ◌<◌, ◌≤◌, min, Bool, true, false, List, [], ◌∷◌, length, get_or, set, replicate, ◌⊎◌, inl, inr, refl, sym, ◌∙◌, ap, subst, if◌then◌else◌, arith}
-use Rattle.std.specs.List.{Contains}
+use Rattle.std.proofs.Common.{◌≡◌, ℕ, zero, suc, ◌+◌, ◌<◌, ◌≤◌, min, Bool, true, false, List, [], ◌∷◌, length, set, replicate, ◌⊎◌, inl, inr, sym, ◌∙◌, ap, subst, if◌then◌else◌, arith}
 use Rattle.std.proofs.lemmas.Bool.{false≢true}
 use Rattle.std.proofs.lemmas.Bool.Decides.{eqb_tells}
-use Rattle.std.proofs.lemmas.List.{length-set, get_or-set_same, get_or-set_other, length-replicate}
+use Rattle.std.proofs.lemmas.List.{get_or-set_same, get_or-set_other}
 use Rattle.elab_expr.specs.declared.steps.Step.{Step}
-use Rattle.elab_expr.specs.declared.steps.Step.TheVariants.{Stays, Constant, On}
-use Rattle.elab_expr.specs.Finished.{Follows, direct, further, IsOnLoop}
+use Rattle.elab_expr.specs.declared.steps.Step.TheVariants.{Stays, On}
+use Rattle.elab_expr.specs.Finished.{Follows, IsOnLoop}
 use Rattle.elab_expr.specs.Stepping.{next_in}
 use Rattle.elab_expr.specs.Rounds.{seen_in, IsRound, IsClosed}
-use Rattle.elab_expr.proofs.Following.{loop_next, loop_goes, closed_follows, past_end}
+use Rattle.elab_expr.proofs.Following.{loop_goes, closed_follows, past_end}
 
 -- how many nets were not gone through
 abbrev pub unseen : List Bool → ℕ
@@ -65,13 +64,6 @@ module _ (next : ℕ → Step) where
 
   pub least_loop : (a b : ℕ) → IsOnLoop next a → IsOnLoop next b → IsOnLoop next (min a b)
   least_loop = least_two (IsOnLoop next)
-
-  -- it starts, and it ends at a net that was gone through
-  pub round_begins : (seen : List Bool) (least net : ℕ) → IsClosed next seen least → IsRound next seen least (λ k. net ≡ k)
-  round_begins seen least net h = record { least = h.least; closed = λ n m is go. elim (h.closed n m is go) [ inl bad ↦ absurd bad | inr was ↦ inr was ] }
-
-  pub round_ends : (seen : List Bool) (least net : ℕ) → seen_in seen net ≡ true → IsRound next seen least (λ k. net ≡ k) → IsClosed next seen least
-  round_ends seen least net at h = record { least = h.least; closed = λ n m is go. elim (h.closed n m is go) [ inl same ↦ inr (subst (λ (i : ℕ). seen_in seen i ≡ true) same at) | inr was ↦ inr was ] }
 
   -- a loop that was gone through from one of its nets
   pub round_below : (seen : List Bool) (least c n : ℕ) → IsClosed next seen least → seen_in seen c ≡ true → (n ≡ c) ⊎ Follows next c n → IsOnLoop next n → least ≤ n

@@ -1,13 +1,12 @@
 -- Where all nets lead, once each is known.
-use Rattle.std.proofs.Common.{◌≡◌, ◌≢◌, ℕ, ◌<◌, ◌≤◌, ◌↔◌, List, [], ◌∷◌, length, ◌⊎◌, inl, inr, refl, sym, ◌∙◌, ap, subst, arith}
+use Rattle.std.proofs.Common.{◌≡◌, ◌≢◌, ℕ, ◌≤◌, ◌↔◌, [], ◌⊎◌, inl, inr, refl, subst, arith}
 use Rattle.std.specs.List.{Contains}
 use Rattle.netlist_core.specs.Checked.{IsFirst}
 use Rattle.netlist_core.specs.declared.bit.Bit.{Bit}
-use Rattle.elab_expr.specs.declared.steps.Step.{Step}
 use Rattle.elab_expr.specs.declared.tracing.Mark.{Mark}
 use Rattle.elab_expr.specs.declared.tracing.Mark.TheVariants.{Unknown, Open, Ends, Loops}
 use Rattle.elab_expr.specs.Finished.{LeadsTo, Follows, IsOnLoop}
-use Rattle.elab_expr.specs.Tracing.{Known, next_of, mark_of, LeadsInto, IsTraced, IsDone, end_by, end_in}
+use Rattle.elab_expr.specs.Tracing.{Known, next_of, mark_of, LeadsInto, IsDone, end_by, end_in}
 use Rattle.elab_expr.proofs.Marking.{none_there}
 use Rattle.elab_expr.proofs.Following.{leads_once, leads_no_loop, loop_back}
 

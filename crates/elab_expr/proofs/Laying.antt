@@ -1,5 +1,5 @@
 -- The table of steps is what the definition says.
-use Rattle.std.proofs.Common.{◌≡◌, ◌≢◌, ℕ, zero, suc, ◌/◌, ◌%◌, ◌<◌, Bool, true, false, ◌||◌, List, [], ◌∷◌, ◌++◌, length, map, nat_eq, get_or, set, Option, Some, None, ◌⊎◌, inl, inr, refl, sym, ◌∙◌, ap, subst, if◌then◌else◌, arith}
+use Rattle.std.proofs.Common.{◌≡◌, ℕ, zero, suc, ◌/◌, ◌%◌, ◌<◌, Bool, true, false, ◌||◌, List, [], ◌∷◌, ◌++◌, length, nat_eq, set, Option, Some, None, inl, inr, refl, ◌∙◌, ap, if◌then◌else◌}
 use Rattle.std.proofs.lemmas.Bool.Decides.{eqb_tells}
 use Rattle.std.proofs.lemmas.List.{get_or-set_same, get_or-set_other}
 use Rattle.netlist_core.specs.declared.bit.Bit.{Bit}
@@ -10,7 +10,7 @@ use Rattle.netlist_core.specs.declared.port.Register.{Register}
 use Rattle.netlist_core.specs.Runs.{bits_at, q_bits}
 use Rattle.elab_expr.specs.declared.builder.Joint.{Joint}
 use Rattle.elab_expr.specs.declared.steps.Step.{Step}
-use Rattle.elab_expr.specs.declared.steps.Step.TheVariants.{Stays, Constant, On}
+use Rattle.elab_expr.specs.declared.steps.Step.TheVariants.{Stays, Constant}
 use Rattle.elab_expr.specs.Building.{Building, start_numbers}
 use Rattle.elab_expr.specs.Written.{joint_of, has_net, is_stored}
 use Rattle.elab_expr.specs.Finished.{some_has, later, start_among, start_of, stepped, step_of}

@@ -1,20 +1,17 @@
 -- What is known of the nets while they are followed.
-use Rattle.std.proofs.Common.{◌≡◌, ◌≢◌, ℕ, zero, suc, ◌+◌, ◌<◌, ◌≤◌, List, [], ◌∷◌, ◌++◌, length, get_or, set, replicate, Option, Some, None, ◌⊎◌, inl, inr, refl, sym, ◌∙◌, ap, subst, arith}
+use Rattle.std.proofs.Common.{◌≡◌, ◌≢◌, ℕ, zero, suc, ◌+◌, ◌<◌, ◌≤◌, List, [], ◌∷◌, ◌++◌, length, get_or, set, replicate, ◌⊎◌, inl, inr, refl, sym, ◌∙◌, ap, subst, arith}
 use Rattle.std.specs.List.{Contains}
-use Rattle.std.specs.Option.{MatchOption}
 use Rattle.std.proofs.lemmas.Bool.Decides.{eqb_tells}
 use Rattle.std.proofs.lemmas.List.{length-set, get_or-set_same, get_or-set_other, length-replicate}
 use Rattle.std.proofs.lemmas.List.Elements.{Contains-append_left, Contains-push, Contains-push_cases}
 use Rattle.netlist_core.specs.declared.bit.Bit.{Bit}
 use Rattle.netlist_core.specs.declared.bit.Bit.TheVariants.{Net}
-use Rattle.elab_expr.specs.declared.steps.Step.{Step}
 use Rattle.elab_expr.specs.declared.steps.Step.TheVariants as step
 use Rattle.elab_expr.specs.declared.tracing.Mark.{Mark}
 use Rattle.elab_expr.specs.declared.tracing.Mark.TheVariants.{Unknown, Open, Ends, Loops}
-use Rattle.elab_expr.specs.Finished.{LeadsTo, stays, goes, Follows, direct, further, IsOnLoop}
-use Rattle.elab_expr.specs.Stepping.{next_in}
+use Rattle.elab_expr.specs.Finished.{LeadsTo, stays, Follows, direct, IsOnLoop}
 use Rattle.elab_expr.specs.Tracing.{Known, next_of, mark_in, mark_of, one_unknown, unknowns, LeadsInto, Comes, Fits, IsTraced, IsDone, Keeps}
-use Rattle.elab_expr.proofs.Following.{trans, leads_from, loop_back, past_end}
+use Rattle.elab_expr.proofs.Following.{trans, leads_from, past_end}
 
 -- a mark that was set
 set_cases : (marks : List Mark) (n : ℕ) (x : Mark) (k : ℕ) → n < length marks → ((k ≡ n) × (mark_in (set marks n x) k ≡ x)) ⊎ ((k ≢ n) × (mark_in (set marks n x) k ≡ mark_in marks k))
@@ -65,9 +62,6 @@ keeps_marked t net x path here not = record {
   loops = refl;
   known = λ n was e. elim (set_cases t.marks net x n here) [ inl s ↦ not (sym s.1 ∙ e) | inr s ↦ was (sym s.1 ∙ e) ];
 }
-
-pub marked_known : (t : Known) (net : ℕ) (x : Mark) (path : List ℕ) → net < length t.marks → x ≢ Unknown → mark_of (marked t net x path) net ≢ Unknown
-marked_known t net x path here not e = not (sym (get_or-set_same t.marks net x (Ends (Net net)) here) ∙ e)
 
 -- a net that isn't known has a mark of its own
 pub unknown_inside : (marks : List Mark) (n : ℕ) → mark_in marks n ≡ Unknown → n < length marks
@@ -129,33 +123,6 @@ keeps_same t = record { steps = refl; loops = refl; known = λ n h. h }
 pub keeps_both : (t u v : Known) → Keeps t u → Keeps u v → Keeps t v
 keeps_both t u v a b = record { steps = b.steps ∙ a.steps; loops = b.loops ∙ a.loops; known = λ n h. b.known n (a.known n h) }
 
--- the way where nothing is open begins anywhere
-pub traced_begins : (t : Known) (Q : ℕ → Type 0) → IsDone t → IsTraced t Q
-traced_begins t Q d = record {
-  room = d.traced.room;
-  ended = d.traced.ended;
-  looped = d.traced.looped;
-  opened = d.traced.opened;
-  way = λ n c. absurd (d.traced.way n c);
-  inside = d.traced.inside;
-  loops = d.traced.loops;
-}
-
--- where the way is empty nothing is open
-pub traced_done : (t : Known) (P : ℕ → Type 0) → t.path ≡ [] → IsTraced t P → IsDone t
-traced_done t P empty h = record {
-  empty = empty;
-  traced = record {
-    room = h.room;
-    ended = h.ended;
-    looped = h.looped;
-    opened = h.opened;
-    way = λ n c. (let less : c.0 < length t.path = c.1 in let none : length t.path ≡ 0 = ap length empty in absurd (omega arith));
-    inside = h.inside;
-    loops = h.loops;
-  };
-}
-
 -- the net that was met tells where all on the way lead
 pub way_ends : (t : Known) (net : ℕ) (bit : Bit) → IsTraced t (Comes t net) → mark_of t net ≡ Ends bit → IsTraced t (Fits t (Ends bit))
 way_ends t net bit h e = record { room = h.room; ended = h.ended; looped = h.looped; opened = h.opened; inside = h.inside; loops = h.loops; way = λ n c. leads_from (next_of t) n net bit (h.way n c) (h.ended net bit e) }
@@ -182,11 +149,6 @@ way_found t net h e =
       inside = h.inside;
       loops = λ c is. elim (Contains-push_cases t.loops net c is) [ inl old ↦ h.loops c old | inr same ↦ subst (λ (x : ℕ). IsOnLoop (next_of t) x) same loop ];
     }
-
--- what a pop says where it gives nothing
-pub popped_none : (o : Option ℕ) (A : Type 0) (B : ℕ → Type 0) → ((x : ℕ) → o ≡ Some x → ⊥) → MatchOption o A B → A
-popped_none None A B not h = h
-popped_none (Some x) A B not h = absurd (not x refl)
 
 pub popped_way : (t : Known) (P : ℕ → Type 0) (net : ℕ) (rest : List ℕ) → t.path ≡ rest ++ net ∷ [] → IsTraced t P → P net
 popped_way t P net rest is h = h.way net (subst (λ (l : List ℕ). Contains l net) (sym is) (Contains-push rest net))

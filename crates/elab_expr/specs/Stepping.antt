@@ -1,5 +1,5 @@
 -- How the steps of nets are laid into a table, net by net.
-use Rattle.std.specs.Prelude.{ℕ, ◌/◌, ◌%◌, List, [], ◌∷◌, Option, None, Some, nat_eq, slice_index_or, if◌then◌else◌}
+use Rattle.std.specs.Prelude.{ℕ, ◌/◌, ◌%◌, List, [], ◌∷◌, nat_eq, slice_index_or, if◌then◌else◌}
 use Rattle.netlist_core.specs.declared.bit.Bit.{Bit}
 use Rattle.netlist_core.specs.declared.bit.Bit.TheVariants.{Fixed, Net}
 use Rattle.elab_expr.specs.declared.builder.Joint.{Joint}

@@ -1,4 +1,4 @@
-use Rattle.std.proofs.Common.{◌≡◌, map, take}
+use Rattle.std.proofs.Common.{◌≡◌, take}
 use Rattle.elab_expr.specs.Finished.{all_led}
 use Rattle.elab_expr.specs.Tracing.{known_of, end_in}
 use Rattle.elab_expr.proofs.finishing.led_bits.Given as goal

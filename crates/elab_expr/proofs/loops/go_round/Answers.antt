@@ -1,4 +1,4 @@
-use Rattle.std.proofs.Common.{◌≡◌, ◌+◌, ◌<◌, ℕ, min, Bool, true, false, List, length, set, ◌⊎◌, inl, inr, sym, ◌∙◌, ap, subst, arith}
+use Rattle.std.proofs.Common.{◌≡◌, ℕ, true, false, set, inl, inr, sym, ◌∙◌, subst, arith}
 use Rattle.elab_expr.specs.declared.steps.Step.TheVariants.{On}
 use Rattle.elab_expr.specs.Finished.{IsOnLoop}
 use Rattle.elab_expr.specs.Stepping.{next_in}

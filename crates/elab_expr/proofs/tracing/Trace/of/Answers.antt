@@ -1,6 +1,6 @@
-use Rattle.std.proofs.Common.{◌≡◌, ◌<◌, ℕ, List, [], length, replicate, refl, sym, ◌∙◌, ap, arith}
+use Rattle.std.proofs.Common.{◌≡◌, ℕ, length, replicate, refl, ◌∙◌, ap, arith}
 use Rattle.elab_expr.specs.declared.tracing.Mark.TheVariants.{Unknown}
-use Rattle.elab_expr.specs.Tracing.{Known, known_of}
+use Rattle.elab_expr.specs.Tracing.{Known}
 use Rattle.elab_expr.proofs.Marking.{traced_none}
 use Rattle.elab_expr.proofs.tracing.Trace.of.Goals as goal
 

@@ -1,7 +1,6 @@
-use Rattle.std.proofs.Common.{◌≡◌, ◌<◌, ℕ, [], length, arith}
-use Rattle.std.proofs.lemmas.List.{nil_from_length}
+use Rattle.std.proofs.Common.{◌<◌, length, arith}
 use Rattle.elab_expr.specs.Tracing.{Known, known_of, Fits}
-use Rattle.elab_expr.proofs.Marking.{marked, keeps_same, keeps_both, keeps_marked, fits_known, popped_here, popped_way, traced_pop, traced_done, popped_none}
+use Rattle.elab_expr.proofs.Marking.{marked, keeps_same, keeps_both, keeps_marked, fits_known, popped_here, popped_way, traced_pop}
 use Rattle.elab_expr.proofs.tracing.Trace.settle.Goals as goal
 
 pub loop-net-init : goal.loop-net-init

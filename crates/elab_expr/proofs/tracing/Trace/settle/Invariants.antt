@@ -1,4 +1,3 @@
-use Rattle.std.proofs.Common.{◌≡◌}
 use Rattle.elab_expr.specs.Tracing.{known_of, Keeps, IsTraced, Fits}
 use Rattle.elab_expr.proofs.tracing.Trace.settle.Given as goal
 
