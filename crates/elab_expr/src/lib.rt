@@ -25,6 +25,7 @@ pub use expression::build_expr;
 pub use finishing::FinishError;
 pub use kinds::{binary_kind, unary_kind};
 pub use nodes::{binary_cell, mux_cell, pick_cell, put_cell, ror_cell, unary_cell};
+pub use steps::Step;
 pub use unsupported::unsupported_in;
 pub use wiring::{
     constant_bits, copied_bits, extended_bits, joined_bits, repeated_bits, window_bits,

@@ -15,7 +15,7 @@ use std::marker::Model;
 
 /// Where a net leads next.
 #[derive(Clone, Copy, Debug, PartialEq, Eq)]
-pub(crate) enum Step {
+pub enum Step {
     /// It is itself in the netlist.
     Stays,
     /// It is a constant.
