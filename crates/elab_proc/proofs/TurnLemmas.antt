@@ -190,7 +190,7 @@ module _ (comb : Bool) (w : List Bool) (loop : Loop) (body : InNames) where
   abbrev pub turns_left : Names → ℕ → Word → List Refusal
   turns_left names n word = step_refusals comb w (turns n loop body names word.bits)
 
-  turn_by_turn : (names here : Names) (word : Word) (k : ℕ) → k < max_turns → word.width ≡ loop.width → here ≡ with_name names loop.name.name (Some (Constant word loop.is_signed)) → turns (max_turns - k) loop body names word.bits ≡ turn_steps loop body here (λ v. turns (max_turns - (k + 1)) loop body names v)
+  pub turn_by_turn : (names here : Names) (word : Word) (k : ℕ) → k < max_turns → word.width ≡ loop.width → here ≡ with_name names loop.name.name (Some (Constant word loop.is_signed)) → turns (max_turns - k) loop body names word.bits ≡ turn_steps loop body here (λ v. turns (max_turns - (k + 1)) loop body names v)
   turn_by_turn names here word k h e is =
       let m : max_turns - k - 1 ≡ max_turns - (k + 1) = omega arith in
       turns_first (max_turns - k) loop body names word (omega arith) e ∙

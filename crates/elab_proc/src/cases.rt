@@ -140,7 +140,7 @@ fn ignored(kind: CaseKind, number: &Number) -> u128
 }
 
 /// The bits of a label that are no matter.
-fn dont_care(kind: CaseKind, label: &Expr) -> u128
+pub fn dont_care(kind: CaseKind, label: &Expr) -> u128
     ensures { result ≡ dont_care kind label.now }
 {
     match label {
@@ -151,7 +151,7 @@ fn dont_care(kind: CaseKind, label: &Expr) -> u128
 }
 
 /// The greatest number of this width.
-fn ones(width: u8) -> u128
+pub fn ones(width: u8) -> u128
     requires { width ≤ 128 }
     ensures { result ≡ 2 ^ width - 1 }
 {

@@ -8,8 +8,8 @@ mod sides;
 mod statement;
 mod turns;
 
-pub use cases::{always, case_fault, case_size, is_default};
+pub use cases::{always, case_fault, case_size, dont_care, is_default, ones};
 pub use left_side::same_form;
-pub use refusal::Refusal;
-pub use statement::{ProcessRules, statement_refusal};
+pub use refusal::{Refusal, earlier};
+pub use statement::{MAX_TURNS, ProcessRules, statement_refusal};
 pub use turns::{Header, holds, next_word};

@@ -99,7 +99,7 @@ fn sooner(f: Option<Refusal>, g: Option<Refusal>) -> Option<Refusal>
 }
 
 /// The earlier of two: where they stand first in two lists, the one that stands first in both.
-pub(crate) fn earlier(f: Option<Refusal>, g: Option<Refusal>) -> Option<Refusal>
+pub fn earlier(f: Option<Refusal>, g: Option<Refusal>) -> Option<Refusal>
     ensures { (xs ys : List Reason) → IsFirst xs f → IsFirst ys g → IsFirst (xs ++ ys) result }
 {
     sooner(f, g)

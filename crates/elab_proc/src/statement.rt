@@ -37,7 +37,7 @@ pub struct ProcessRules<'a> {
 }
 
 /// The most turns of one loop.
-const MAX_TURNS: u32 = 4096;
+pub const MAX_TURNS: u32 = 4096;
 
 /// A fault as a refusal.
 fn wrong(fault: Option<Fault>) -> Option<Refusal>

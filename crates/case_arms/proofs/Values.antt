@@ -1,0 +1,86 @@
+-- The values that labels name, one label more at a time.
+use Rattle.std.proofs.Common.{◌≡◌, zero, suc, ℕ, ◌<◌, ◌≤◌, ◌^◌, Bool, true, false, ◌&&◌, ◌||◌, nat_eq, nat_le, map, List, [], ◌∷◌, ◌++◌, refl, sym, ap, ◌∙◌, arith, length, get_or, take}
+use Rattle.std.specs.List.{flat_map, list_any}
+use Rattle.std.proofs.lemmas.Bool.Decides.{nat_tests}
+use Rattle.std.proofs.lemmas.List.Folds.{list_any-append}
+use Rattle.vlog_syntax.specs.declared.expr.Expr.{Expr}
+use Rattle.vlog_syntax.specs.declared.stmt.CaseItem.{CaseItem}
+use Rattle.vlog_syntax.specs.declared.stmt.CaseKind.{CaseKind}
+use Rattle.vlog_meaning.specs.declared.shapes.Shape.{Shape}
+use Rattle.vlog_meaning.specs.Integers.{extended}
+use Rattle.vlog_meaning.specs.Scopes.{Names, nothing}
+use Rattle.vlog_meaning.specs.Senses.{sense}
+use Rattle.vlog_effects.specs.Expressions.{width_of, value, is_constant}
+use Rattle.vlog_effects.specs.Laws.{item_steps}
+use Rattle.vlog_effects.specs.Steps.{Selection, dont_care, is_named, all_named, names_all, greatest, all_signed, labels_of, selection_of}
+use Rattle.elab_proc.specs.Refusals.{labels_in, common_size}
+use Rattle.elab_proc.proofs.StepLemmas.{labels_same}
+use Rattle.case_arms.specs.Naming.{IsOf, has, has_all}
+
+abbrev named : Selection → ℕ → Expr → Bool
+named c v x = is_constant c.names x && (nat_eq (dont_care c.kind x) 0 && nat_eq (value c.names nothing c.width c.is_signed x) v)
+
+pub or_end : (b : Bool) → (b || false) ≡ b
+or_end true = refl
+or_end false = refl
+
+or_again : (a b c : Bool) → (a || (b || c)) ≡ ((a || b) || c)
+or_again true b c = refl
+or_again false b c = refl
+
+and_again : (a b c : Bool) → (a && (b && c)) ≡ ((a && b) && c)
+and_again true b c = refl
+and_again false b c = refl
+
+named_both : (c : Selection) (v : ℕ) (xs ys : List Expr) → is_named c v (xs ++ ys) ≡ (is_named c v xs || is_named c v ys)
+named_both c v [] ys = refl
+named_both c v (x ∷ xs) ys = ap (λ (b : Bool). named c v x || b) (named_both c v xs ys) ∙ or_again (named c v x) (is_named c v xs) (is_named c v ys)
+
+named_take : (c : Selection) (v : ℕ) (xs : List Expr) (k : ℕ) (x : Expr) → x ≡ get_or xs k x → k < length xs → is_named c v (take (suc k) xs) ≡ (is_named c v (take k xs) || named c v x)
+named_take c v [] k x at h = absurd (omega arith)
+named_take c v (y ∷ ys) zero x at h = or_end (named c v y) ∙ ap (named c v) (sym at)
+named_take c v (y ∷ ys) (suc k) x at h = ap (λ (b : Bool). named c v y || b) (named_take c v ys k x at (omega arith)) ∙ or_again (named c v y) (is_named c v (take k ys)) (named c v x)
+
+test_is : (c : Selection) (names : Names) (kind : CaseKind) (size : Shape) (x : Expr) → IsOf c names kind size → (is_constant c.names x && nat_eq (dont_care c.kind x) 0) ≡ (is_constant names x && nat_eq (dont_care kind x) 0)
+test_is c names kind size x of = ap (λ (n : Names). is_constant n x && nat_eq (dont_care c.kind x) 0) of.names_are ∙ ap (λ (k : CaseKind). is_constant names x && nat_eq (dont_care k x) 0) of.kind_is
+
+value_is : (c : Selection) (names : Names) (kind : CaseKind) (size : Shape) (x : Expr) → IsOf c names kind size → value c.names nothing c.width c.is_signed x ≡ (sense names x).value nothing size
+value_is c names kind size x of =
+    ap (λ (n : Names). value n nothing c.width c.is_signed x) of.names_are ∙ ap (λ (w : ℕ). value names nothing w c.is_signed x) of.width_is ∙ ap (λ (s : Bool). value names nothing size.width s x) of.sign_is
+
+-- a label that names no value
+pub named_skip : (c : Selection) (names : Names) (kind : CaseKind) (size : Shape) (v : ℕ) (xs : List Expr) (k : ℕ) (x : Expr) (b before old : Bool) → x ≡ get_or xs k x → k < length xs → IsOf c names kind size → b ≡ (is_constant names x && nat_eq (dont_care kind x) 0) → b ≡ false → before ≡ (old || is_named c v (take k xs)) → before ≡ (old || is_named c v (take (suc k) xs))
+named_skip c names kind size v xs k x b before old at h of is none e =
+    let no : named c v x ≡ false = and_again (is_constant c.names x) (nat_eq (dont_care c.kind x) 0) (nat_eq (value c.names nothing c.width c.is_signed x) v) ∙ ap (λ (t : Bool). t && nat_eq (value c.names nothing c.width c.is_signed x) v) (test_is c names kind size x of ∙ sym is ∙ none) in
+    e ∙ ap (λ (t : Bool). old || t) (sym (named_take c v xs k x at h ∙ ap (λ (t : Bool). is_named c v (take k xs) || t) no ∙ or_end (is_named c v (take k xs))))
+
+-- a label that names one
+pub named_more : (c : Selection) (names : Names) (kind : CaseKind) (size : Shape) (v r : ℕ) (values : List ℕ) (xs : List Expr) (k : ℕ) (x : Expr) (b old : Bool) → x ≡ get_or xs k x → k < length xs → IsOf c names kind size → b ≡ (is_constant names x && nat_eq (dont_care kind x) 0) → b ≡ true → r ≡ (sense names x).value nothing size → has values v ≡ (old || is_named c v (take k xs)) → has (values ++ r ∷ []) v ≡ (old || is_named c v (take (suc k) xs))
+named_more c names kind size v r values xs k x b old at h of is some value_of e =
+    let here : named c v x ≡ nat_eq r v = and_again (is_constant c.names x) (nat_eq (dont_care c.kind x) 0) (nat_eq (value c.names nothing c.width c.is_signed x) v) ∙ ap (λ (t : Bool). t && nat_eq (value c.names nothing c.width c.is_signed x) v) (test_is c names kind size x of ∙ sym is ∙ some) ∙ ap (λ (n : ℕ). nat_eq n v) (value_is c names kind size x of ∙ sym value_of) in
+    list_any-append (λ (n : ℕ). nat_eq n v) values (r ∷ []) ∙ ap (λ (t : Bool). has values v || t) (or_end (nat_eq r v) ∙ sym here) ∙ ap (λ (t : Bool). t || named c v x) e ∙ sym (or_again old (is_named c v (take k xs)) (named c v x)) ∙ ap (λ (t : Bool). old || t) (sym (named_take c v xs k x at h))
+
+-- the labels of one item more
+pub named_item : (c : Selection) (v : ℕ) (before ls all : List Expr) (old now after : Bool) → all ≡ before ++ ls → now ≡ (old || is_named c v before) → after ≡ (now || is_named c v ls) → after ≡ (old || is_named c v all)
+named_item c v before ls all old now after is e f = f ∙ ap (λ (b : Bool). b || is_named c v ls) e ∙ sym (or_again old (is_named c v before) (is_named c v ls)) ∙ ap (λ (b : Bool). old || b) (sym (named_both c v before ls) ∙ ap (is_named c v) (sym is))
+
+-- all values below a bound
+pub all_same : (c : Selection) (values : List ℕ) (labels : List Expr) (own size : ℕ) (sign : Bool) (n : ℕ) → c.width ≡ size → c.is_signed ≡ sign → ((v : ℕ) → has values v ≡ is_named c v labels) → has_all values (record { width = own; is_signed = sign }) size n ≡ all_named c own n labels
+all_same c values labels own size sign zero w s e = refl
+all_same c values labels own size sign (suc n) w s e =
+    let here : extended (record { width = own; is_signed = sign }) size n ≡ extended (record { width = own; is_signed = c.is_signed }) c.width n = ap (λ (m : ℕ). extended (record { width = own; is_signed = sign }) m n) (sym w) ∙ ap (λ (b : Bool). extended (record { width = own; is_signed = b }) c.width n) (sym s) in
+    ap (λ (b : Bool). has values (extended (record { width = own; is_signed = sign }) size n) && b) (all_same c values labels own size sign n w s e) ∙
+    ap (λ (b : Bool). b && all_named c own n labels) (e (extended (record { width = own; is_signed = sign }) size n) ∙ ap (λ (v : ℕ). is_named c v labels) here)
+
+-- whether the labels of a case name every value
+pub names_are : (names : Names) (kind : CaseKind) (selector : Expr) (is : List CaseItem) (own size : Shape) (values none : List ℕ) (r : Bool) → own ≡ (sense names selector).shape → own.width ≤ 8 → size ≡ common_size names (selector ∷ flat_map labels_in is) → none ≡ [] → ((c : Selection) → IsOf c names kind size → (v : ℕ) → has values v ≡ (has none v || is_named c v (flat_map labels_in is))) → r ≡ has_all values (record { width = own.width; is_signed = size.is_signed }) size.width (2 ^ own.width) → r ≡ names_all (selection_of names kind selector (map item_steps is))
+names_are names kind selector is own size values none r own_is few size_is empty each r_is =
+    let c : Selection = selection_of names kind selector (map item_steps is) in
+    let labels : labels_of (map item_steps is) ≡ flat_map labels_in is = labels_same false [] is in
+    let w : c.width ≡ size.width = ap (λ (l : List Expr). greatest names (selector ∷ l)) labels ∙ sym (ap (λ (s : Shape). s.width) size_is) in
+    let s : c.is_signed ≡ size.is_signed = ap (λ (l : List Expr). all_signed names (selector ∷ l)) labels ∙ sym (ap (λ (t : Shape). t.is_signed) size_is) in
+    let of : IsOf c names kind size = record { names_are = refl; kind_is = refl; width_is = w; sign_is = s } in
+    let width : own.width ≡ width_of names selector = ap (λ (t : Shape). t.width) own_is in
+    let test : nat_le own.width 8 ≡ true = grind (arith, nat_tests) in
+    r_is ∙ all_same c values c.labels own.width size.width size.is_signed (2 ^ own.width) w s (λ v. each c of v ∙ ap (λ (l : List ℕ). has l v || is_named c v (flat_map labels_in is)) empty ∙ ap (is_named c v) (sym labels)) ∙
+    ap (λ (n : ℕ). all_named c n (2 ^ n) c.labels) width ∙ ap (λ (b : Bool). b && all_named c (width_of names selector) (2 ^ width_of names selector) c.labels) (sym (ap (λ (n : ℕ). nat_le n 8) (sym width) ∙ test))
