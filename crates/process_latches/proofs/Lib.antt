@@ -1,0 +1,5 @@
+pub mod Adding
+pub mod Fitting
+pub mod Parts
+pub mod Assigned
+pub mod Reading

@@ -1,0 +1,9 @@
+use Rattle.std.proofs.Common.{map, take}
+use Rattle.vlog_meaning.specs.Scopes.{names_of}
+use Rattle.vlog_effects.specs.LeftSides.{parts_of, concatenated}
+use Rattle.process_latches.specs.Marking.{PartsAdded}
+use Rattle.process_latches.specs.Sound.{sound_part}
+use Rattle.process_latches.proofs.left.+parts.Given as goal
+
+abbrev pub invariant-mark_lefts-loop-left : goal.invariant-mark_lefts-loop-left
+invariant-mark_lefts-loop-left l = PartsAdded (names_of l.scope) l.fn.manner (map (sound_part (names_of l.scope)) (concatenated (map parts_of (take l.left-index l.lefts)))) l.fn.marks l.marks

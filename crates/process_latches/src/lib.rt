@@ -1,0 +1,9 @@
+//! What assignments of a process assign and read, of which latches and second kinds of assignments are told (IEEE 1364-2005, 9.2).
+#![tactic(auto)]
+
+mod assignments;
+mod left;
+mod marks;
+
+pub use assignments::mark_assignment;
+pub use marks::{Marks, Write};
