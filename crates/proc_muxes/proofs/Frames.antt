@@ -49,7 +49,7 @@ signal-grown a b g n = ap (λ (x : Building). signal x n) g.is
 -- Cells that are added.
 
 pub adds-same : (a : Building) → Adds a a
-adds-same a = record { more = []; cells = sym (append-nil a.cells); joints = refl; registers = refl; declared = refl; count = refl; added = refl }
+adds-same a = record { more = []; cells = sym (append-nil a.cells); joints = refl; registers = refl; starts = refl; declared = refl; count = refl; added = refl }
 
 pub adds-grown : (a b : Building) → Grows a b → Adds a b
 adds-grown a b g = record {
@@ -57,6 +57,7 @@ adds-grown a b g = record {
   cells = ap (λ (x : Building). x.cells) g.is;
   joints = ap (λ (x : Building). x.joints) g.is;
   registers = ap (λ (x : Building). x.registers) g.is;
+  starts = ap (λ (x : Building). x.starts) g.is;
   declared = ap (λ (x : Building). x.declared) g.is;
   count = ap (λ (x : Building). length x.signals) g.is;
   added = g.added;
@@ -68,13 +69,14 @@ adds-again a b c g h = record {
   cells = h.cells ∙ ap (λ (cells : List Cell). cells ++ h.more) g.cells ∙ append_assoc a.cells g.more h.more;
   joints = h.joints ∙ g.joints;
   registers = h.registers ∙ g.registers;
+  starts = h.starts ∙ g.starts;
   declared = h.declared ∙ g.declared;
   count = h.count ∙ g.count;
   added = added_append a.nets b.nets c.nets g.more h.more g.added h.added;
 }
 
 pub adds-set : (a : Building) (k : ℕ) (bits : List Bit) → Adds a (with_signal k bits a)
-adds-set a k bits = record { more = []; cells = sym (append-nil a.cells); joints = refl; registers = refl; declared = refl; count = length-set a.signals k bits; added = refl }
+adds-set a k bits = record { more = []; cells = sym (append-nil a.cells); joints = refl; registers = refl; starts = refl; declared = refl; count = length-set a.signals k bits; added = refl }
 
 pub nets-added : (a b : Building) → Adds a b → a.nets ≤ b.nets
 nets-added a b g = nets_le a.nets b.nets g.more g.added
@@ -221,7 +223,7 @@ keeps-turned ts us a b k = record {
 -- what the second has, with the bits of the first
 pub keeps-restored : (ts : List Target) (a b : Work) → Keeps ts a b → Keeps [] a (restored a b)
 keeps-restored ts a b k = record {
-  adds = record { more = k.adds.more; cells = k.adds.cells; joints = k.adds.joints; registers = k.adds.registers; declared = k.adds.declared; count = refl; added = k.adds.added };
+  adds = record { more = k.adds.more; cells = k.adds.cells; joints = k.adds.joints; registers = k.adds.registers; starts = k.adds.starts; declared = k.adds.declared; count = refl; added = k.adds.added };
   seen_wide = λ n. refl;
   later_wide = λ n. refl;
   below = λ h. record {

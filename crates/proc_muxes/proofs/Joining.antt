@@ -167,6 +167,19 @@ or-nothing : (b : Bool) → (b || false) ≡ b
 or-nothing true = refl
 or-nothing false = refl
 
+-- changes that are joined one after the other are those of the targets without repetition
+join-seen : (a : Work) (cs : List Change) (seen ts : List Target) → ((kind : Bool) (n : ℕ) → is_changed kind cs n ≡ stands kind seen n) → joined cs (changes_of a ts) ≡ cs ++ changes_of a (distinct_after seen ts)
+join-seen a cs seen [] is = sym (append-nil cs)
+join-seen a cs seen (x ∷ more) is =
+    go (stands x.is_blocking seen x.number) refl (join-seen a cs seen more is)
+    (join-seen a (cs ++ change_of a x ∷ []) (x ∷ seen) more (λ kind n. is_changed-push kind cs (change_of a x) n ∙ rw (number-order kind x.is_blocking, is kind n) refl)) where
+      go : (b : Bool) → stands x.is_blocking seen x.number ≡ b → joined cs (changes_of a more) ≡ cs ++ changes_of a (distinct_after seen more) → joined (cs ++ change_of a x ∷ []) (changes_of a more) ≡ (cs ++ change_of a x ∷ []) ++ changes_of a (distinct_after (x ∷ seen) more) → joined cs (changes_of a (x ∷ more)) ≡ cs ++ changes_of a (if b then distinct_after seen more else x ∷ distinct_after (x ∷ seen) more)
+      go true e f g = rw (is x.is_blocking x.number, e) f
+      go false e f g = rw (is x.is_blocking x.number, e) (g ∙ append_assoc cs (change_of a x ∷ []) (changes_of a (distinct_after (x ∷ seen) more)))
+
+pub join-all : (a : Work) (ts : List Target) → joined [] (changes_of a ts) ≡ changes_of a (distinct ts)
+join-all a ts = join-seen a [] [] ts (λ kind n. refl)
+
 -- the changes of two parts, one after the other, where the first leaves other variables as they were
 pub changes-both : (ps qs : List Target) (a m : Work) → ((kind : Bool) (n : ℕ) → stands kind ps n ≡ false → held m kind n ≡ held a kind n) → joined (changes_of a (distinct ps)) (changes_of m (distinct qs)) ≡ changes_of a (distinct ps) ++ changes_of a (distinct_after (seen_after [] ps) qs)
 changes-both ps qs a m still =

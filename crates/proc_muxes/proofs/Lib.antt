@@ -9,3 +9,7 @@ pub mod Joining
 pub mod Merging
 pub mod Muxing
 pub mod Fitting
+pub mod Putting
+pub mod Placing
+pub mod Piecing
+pub mod Assigning

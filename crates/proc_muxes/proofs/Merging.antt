@@ -141,7 +141,7 @@ chosen-is ps qs t y k =
         first true f = f
         first false f = refl
 
-changes-same : (a t : Work) (xs : List Target) → ((kind : Bool) (n : ℕ) → held t kind n ≡ held a kind n) → changes_of t xs ≡ changes_of a xs
+pub changes-same : (a t : Work) (xs : List Target) → ((kind : Bool) (n : ℕ) → held t kind n ≡ held a kind n) → changes_of t xs ≡ changes_of a xs
 changes-same a t [] e = refl
 changes-same a t (x ∷ xs) e = ap (λ (bits : List Bit). record { number = x.number; is_blocking = x.is_blocking; before = bits } ∷ changes_of t xs) (e x.is_blocking x.number) ∙ ap (λ (l : List Change). change_of a x ∷ l) (changes-same a t xs e)
 

@@ -1,4 +1,7 @@
 pub mod Builds
 pub mod Shows
 pub mod Working
+pub mod Pieces
+pub mod Clear
+pub mod Counts
 pub mod Laws

@@ -32,6 +32,7 @@ pub record Adds (old new : Building) : Type 0 where
   pub cells : new.cells ≡ old.cells ++ more
   pub joints : new.joints ≡ old.joints
   pub registers : new.registers ≡ old.registers
+  pub starts : new.starts ≡ old.starts
   pub declared : new.declared ≡ old.declared
   pub count : length new.signals ≡ length old.signals
   pub added : AreAdded old.nets more new.nets

@@ -1,17 +1,19 @@
 -- What the code has while it builds statements.
 use Rattle.std.specs.Prelude.{◌≡◌, ℕ, ◌<◌, ◌≤◌, Bool, false, ◌&&◌, ◌||◌, List, [], ◌∷◌, ◌++◌, map, drop, length, nat_eq, nat_lt, ◌+◌, slice_index_or, if◌then◌else◌}
+use Rattle.mcy_base.specs.declared.span.Span.{Span}
 use Rattle.netlist_core.specs.declared.bit.Bit.{Bit}
+use Rattle.netlist_core.specs.declared.cell.CellKind.TheVariants.{Put}
 use Rattle.vlog_syntax.specs.declared.expr.Expr.{Expr}
 use Rattle.vlog_meaning.specs.Scopes.{Names}
 use Rattle.vlog_meaning.specs.Senses.{sense}
 use Rattle.vlog_effects.specs.Effects.{bit_same}
 use Rattle.vlog_effects.specs.Steps.{Steps}
 use Rattle.vlog_effects.specs.Latches.{Target, targets}
-use Rattle.elab_expr.specs.Building.{Building, AllBelow}
+use Rattle.elab_expr.specs.Building.{fresh_bits, Building, AllBelow}
 use Rattle.elab_expr.specs.Made.{made}
 use Rattle.proc_muxes.specs.declared.change.Change.{Change}
 use Rattle.proc_muxes.specs.declared.choice.Choice.{Choice}
-use Rattle.proc_muxes.specs.Builds.{Work, held, with_held, distinct, Builds}
+use Rattle.proc_muxes.specs.Builds.{AddsCell, Work, held, with_held, distinct, Builds}
 
 -- the bits that wait for variables, by their numbers
 abbrev pub pending_of : List (List Bit) → ℕ → List Bit
@@ -76,6 +78,16 @@ AllChoicesFit a (x ∷ more) = FitsChoice a x × AllChoicesFit a more
 abbrev pub AreWide : Work → List Target → Type 0
 AreWide a [] = Unit {0}
 AreWide a (x ∷ more) = (1 ≤ length (held a x.is_blocking x.number)) × (length (held a x.is_blocking x.number) ≤ 128) × AreWide a more
+
+-- the bits of a port: from 1 to 128, which stand below this net
+abbrev pub AreBits : ℕ → List Bit → Type 0
+AreBits nets bits = (1 ≤ length bits) × (length bits ≤ 128) × AllBelow nets bits
+
+-- bits were laid over those of a variable by a `put`, at an index
+abbrev pub PutsAt : Span → Bool → ℕ → List Bit → List Bit → Work → Work → Type 0
+PutsAt at is_blocking n index bits a b =
+    let width = length (held a is_blocking n) in
+    (mid : Building) × AddsCell Put (held a is_blocking n ∷ index ∷ bits ∷ []) width at a.building mid × (b ≡ with_held is_blocking n (fresh_bits a.building.nets width) (record a { building = mid }))
 
 -- changed variables have what they had before
 abbrev pub given_back : List Change → Work → Work

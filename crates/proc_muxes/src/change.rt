@@ -73,6 +73,13 @@ impl Changes {
         &self.items[first..]
     }
 
+    /// Whether the variable has a change by assignments of this kind.
+    pub(crate) fn has(&self, number: u32, is_blocking: bool) -> bool
+        ensures { result ≡ is_changed is_blocking self.now number }
+    {
+        is_changed(self.items.as_slice(), number, is_blocking)
+    }
+
     /// The change of a further variable.
     pub fn push(&mut self, change: Change) -> Result<(), AllocError>
         ensures { OnOk result (self.new ≡ self.old ++ change ∷ []) }

@@ -2,12 +2,16 @@
 //! 1364-2005, 9.2 to 9.5.
 #![tactic(auto)]
 
+mod assignment;
 mod change;
 mod choice;
 mod condition;
 mod laws;
+mod piece;
+mod put;
 mod variables;
 
+pub use assignment::build_assignment;
 pub use change::{Change, Changes};
 pub use choice::{Choice, choose, set_aside};
 pub use condition::build_test;

@@ -1,0 +1,278 @@
+-- The pieces of a left side, with the cells of its indices.
+use Rattle.std.proofs.Common.{◌≡◌, ℕ, zero, suc, ◌+◌, ◌<◌, ◌≤◌, ◌^◌, ℤ, pos, ◌+ℤ◌, ◌-ℤ◌, Bool, true, false, List, [], ◌∷◌, ◌++◌, map, take, length, get_or, Option, Some, None, refl, sym, ◌∙◌, ap, subst, arith, append-nil, append_assoc}
+use Rattle.std.specs.Prelude.{IsTrue, if◌then◌else◌}
+use Rattle.std.proofs.lemmas.List.{map-append}
+use Rattle.mcy_base.specs.declared.span.Span.{Span}
+use Rattle.mcy_base.specs.declared.word.Word.{Word}
+use Rattle.netlist_core.specs.declared.bit.Bit.{Bit}
+use Rattle.vlog_syntax.specs.declared.expr.Expr.{Expr}
+use Rattle.vlog_syntax.specs.declared.identifier.Identifier.{Identifier}
+use Rattle.vlog_syntax.specs.declared.left_side.LeftSide.{LeftSide}
+use Rattle.vlog_meaning.specs.declared.bound.Bound.{Bound}
+use Rattle.vlog_meaning.specs.declared.scope.Decl.{Decl}
+use Rattle.vlog_meaning.specs.declared.scope.Decl.TheVariants.{Signal, Constant}
+use Rattle.vlog_meaning.specs.Integers.{natural, bound_integer}
+use Rattle.vlog_meaning.specs.Scopes.{Names, nothing}
+use Rattle.vlog_meaning.specs.Senses.{sense, own, constant_integer}
+use Rattle.vlog_effects.specs.Expressions.{is_constant}
+use Rattle.vlog_effects.specs.LeftSides.{Whole, Bit as BitOf, Range, Indexed, Part, Vector, vector_of, part_vector, part_width, width_by, parts_of, parts_width, select_base, select_width, concatenated}
+use Rattle.elab_expr.specs.Building.{Building, Grows, AllBelow, HasSignals}
+use Rattle.elab_expr.specs.Evaluates.{Evaluates}
+use Rattle.elab_expr.specs.Expressions.{refusals}
+use Rattle.elab_expr.specs.Made.{made}
+use Rattle.elab_expr.specs.Refusals.{IsShort}
+use Rattle.elab_expr.specs.declared.error.ElabError.{ElabError}
+use Rattle.elab_expr.proofs.Growing.{count, more_short, signals_kept}
+use Rattle.elab_expr.proofs.Parts.{below_later, grown_nets}
+use Rattle.proc_muxes.specs.declared.piece.Piece.{Piece}
+use Rattle.proc_muxes.specs.declared.piece.Place.{Place}
+use Rattle.proc_muxes.specs.declared.piece.Place.TheVariants.{From, At}
+use Rattle.proc_muxes.specs.Builds.{Index, variable_index, BuildsIndex, BuildsIndices}
+use Rattle.proc_muxes.specs.Clear.{CanWrite, CanWriteAll}
+use Rattle.proc_muxes.specs.Counts.{index_cells, indices_cells}
+use Rattle.proc_muxes.specs.Pieces.{vector_at, IsPlace, index_bits, indices_of, IsPiece, ArePieces, CanBePlaced, IsFitPiece, AreFitPieces, index_at, IsPlaced, MakesPiece, MakesPieces}
+use Rattle.proc_muxes.proofs.Keeping.{grows-index, grows-indices}
+
+-- An index.
+
+index-none : (names : Names) (span : Span) (i : Expr) → is_constant names i ≡ true → index_at names span i ≡ None
+index-none names span i e = rw e refl
+
+index-some : (names : Names) (span : Span) (i : Expr) → is_constant names i ≡ false → index_at names span i ≡ Some (record { place = span; expr = i })
+index-some names span i e = rw e refl
+
+pub placed-constant : (names : Names) (span : Span) (i : Expr) (a : Building) (base : Bound) → is_constant names i ≡ true → bound_integer base ≡ pos (own nothing (sense names i)) → (IsTrue base.is_negative → base.magnitude ≤ 2 ^ 127) → IsPlaced names span i a a (From base)
+placed-constant names span i a base e is small =
+    let none : None ≡ index_at names span i = sym (index-none names span i e) in
+    record {
+      is = subst (λ (o : Option Index). IsPlace o (pos (own nothing (sense names i))) (From base)) none (sym is);
+      fit = λ low h. small;
+      built = subst (λ (o : Option Index). BuildsIndex names o a a []) none (refl, refl);
+    }
+
+pub placed-variable : (names : Names) (span : Span) (i : Expr) (a b : Building) (bits : List Bit) → is_constant names i ≡ false → 1 ≤ (sense names i).shape.width → (sense names i).shape.width ≤ 128 → Evaluates names i (sense names i).shape a b bits → IsPlaced names span i a b (At bits span)
+placed-variable names span i a b bits e some narrow f =
+    let j : Index = record { place = span; expr = i } in
+    let is : Some j ≡ index_at names span i = sym (index-some names span i e) in
+    record {
+      is = subst (λ (o : Option Index). IsPlace o (pos (own nothing (sense names i))) (At bits span)) is refl;
+      fit = λ low h. (h j (sym is), (subst (λ (n : ℕ). 1 ≤ n) (sym f.long) some, subst (λ (n : ℕ). n ≤ 128) (sym f.long) narrow, f.below));
+      built = subst (λ (o : Option Index). BuildsIndex names o a b bits) is f;
+    }
+
+pub index-counted : (names : Names) (i : Option Index) (a b : Building) (bits : List Bit) → BuildsIndex names i a b bits → length b.cells ≡ length a.cells + index_cells names i
+index-counted names None a b bits f = ap (λ (m : Building). length m.cells) f.0 ∙ omega arith
+index-counted names (Some i) a b bits f = count a b bits _ _ (made names i.expr (sense names i.expr).shape) f
+
+-- the cells of an index that is no constant are those of its expression
+pub index-short : (names : Names) (span : Span) (i : Expr) (n : ℕ) (e : ElabError) → is_constant names i ≡ false → IsShort (n + length (made names i (sense names i).shape)) e → IsShort (n + index_cells names (index_at names span i)) e
+index-short names span i n e f h = subst (λ (o : Option Index). IsShort (n + index_cells names o) e) (sym (index-some names span i f)) h
+
+-- One part.
+
+same-vector : (o : Option Vector) (v w : Vector) → o ≡ Some v → o ≡ Some w → v ≡ w
+same-vector o v w e f = let g : Some v ≡ Some w = sym e ∙ f in cc
+
+pub makes : (names : Names) (p : Part) (a b : Building) (x : Piece) → CanWrite names p → part_vector names p ≡ Some (vector_at x) → select_width names (vector_at x) p.select ≡ x.size → IsPlace (variable_index names p.select) (select_base names nothing (vector_at x) p.select) x.place → ((low : ℕ) → ((index : Index) → variable_index names p.select ≡ Some index → low ≡ 0) → CanBePlaced b.nets low x.place) → BuildsIndex names (variable_index names p.select) a b (index_bits x.place) → MakesPiece names p a b x
+makes names p a b x can vector size place fit built =
+    let same : can.0 ≡ vector_at x = same-vector (part_vector names p) can.0 (vector_at x) can.1.vector vector in
+    record {
+      piece = record { vector = vector; size = size; place = place };
+      fit = record {
+        some = subst (λ (k : ℕ). 1 ≤ k) size (subst (λ (v : Vector). 1 ≤ select_width names v p.select) same can.1.some);
+        narrow = subst (λ (k : ℕ). k ≤ 128) size (subst (λ (v : Vector). select_width names v p.select ≤ 128) same can.1.narrow);
+        place = fit x.low (λ index h. sym (ap (λ (v : Vector). v.low) same) ∙ can.1.low index h);
+      };
+      built = built;
+    }
+
+-- the same of a piece that is given by its parts
+pub makes-at : (names : Names) (p : Part) (a b : Building) (x : Piece) (number width low size : ℕ) (place : Place) → x ≡ record { number = number; width = width; low = low; size = size; place = place } → CanWrite names p → part_vector names p ≡ Some (record { number = number; width = width; low = low }) → select_width names (record { number = number; width = width; low = low }) p.select ≡ size → IsPlace (variable_index names p.select) (select_base names nothing (record { number = number; width = width; low = low }) p.select) place → ((low : ℕ) → ((index : Index) → variable_index names p.select ≡ Some index → low ≡ 0) → CanBePlaced b.nets low place) → BuildsIndex names (variable_index names p.select) a b (index_bits place) → MakesPiece names p a b x
+makes-at names p a b x number width low size place is can vector sized placed fit built =
+    let y : Piece = record { number = number; width = width; low = low; size = size; place = place } in
+    subst (λ (z : Piece). MakesPiece names p a b z) (sym is) (makes names p a b y can vector sized placed fit built)
+
+-- Several parts.
+
+pub indices-counted : (names : Names) (ps : List Part) (a b : Building) (indices : List (List Bit)) → BuildsIndices names ps a b indices → length b.cells ≡ length a.cells + indices_cells names ps
+indices-counted names [] a b indices f = ap (λ (m : Building). length m.cells) f.0 ∙ omega arith
+indices-counted names (p ∷ ps) a b indices f =
+    let here = index-counted names (variable_index names p.select) a f.0 f.1 f.3 in
+    let later = indices-counted names ps f.0 b f.2 f.4 in
+    omega (arith, here, later)
+
+indices-append : (names : Names) (ps qs : List Part) (a m b : Building) (is js : List (List Bit)) → BuildsIndices names ps a m is → BuildsIndices names qs m b js → BuildsIndices names (ps ++ qs) a b (is ++ js)
+indices-append names [] qs a m b is js f g =
+    subst (λ (l : List (List Bit)). BuildsIndices names qs a b (l ++ js)) (sym f.1) (subst (λ (n : Building). BuildsIndices names qs n b js) f.0 g)
+indices-append names (p ∷ ps) qs a m b is js f g =
+    (f.0, f.1, f.2 ++ js, f.3, indices-append names ps qs f.0 m b f.2 js f.4 g, ap (λ (l : List (List Bit)). l ++ js) f.5)
+
+pieces-append : (names : Names) (ps qs : List Part) (xs ys : List Piece) → ArePieces names ps xs → ArePieces names qs ys → ArePieces names (ps ++ qs) (xs ++ ys)
+pieces-append names [] qs [] ys f g = g
+pieces-append names [] qs (x ∷ xs) ys f g = absurd f
+pieces-append names (p ∷ ps) qs [] ys f g = absurd f
+pieces-append names (p ∷ ps) qs (x ∷ xs) ys f g = (f.0, pieces-append names ps qs xs ys f.1 g)
+
+place-later : (n m low : ℕ) (place : Place) → n ≤ m → CanBePlaced n low place → CanBePlaced m low place
+place-later n m low (From bound) le h = h
+place-later n m low (At index span) le h = (h.0, (h.1.0, h.1.1, below_later n m index le h.1.2))
+
+pub piece-later : (n m : ℕ) (x : Piece) → n ≤ m → IsFitPiece n x → IsFitPiece m x
+piece-later n m x le h = record { some = h.some; narrow = h.narrow; place = place-later n m x.low x.place le h.place }
+
+pub pieces-later : (n m : ℕ) (xs : List Piece) → n ≤ m → AreFitPieces n xs → AreFitPieces m xs
+pieces-later n m [] le h = tt
+pieces-later n m (x ∷ xs) le h = (piece-later n m x le h.0, pieces-later n m xs le h.1)
+
+fit-append : (n : ℕ) (xs ys : List Piece) → AreFitPieces n xs → AreFitPieces n ys → AreFitPieces n (xs ++ ys)
+fit-append n [] ys h k = k
+fit-append n (x ∷ xs) ys h k = (h.0, fit-append n xs ys h.1 k)
+
+pub makes-none : (names : Names) (a : Building) (xs : List Piece) → MakesPieces names [] a a xs xs
+makes-none names a xs = record { more = []; joined = sym (append-nil xs); are = tt; fit = tt; built = (refl, refl) }
+
+pub makes-one : (names : Names) (ps : List Part) (p : Part) (a b : Building) (x : Piece) (xs ys : List Piece) → ps ≡ p ∷ [] → MakesPiece names p a b x → ys ≡ xs ++ x ∷ [] → MakesPieces names ps a b xs ys
+makes-one names ps p a b x xs ys is f e =
+    subst (λ (l : List Part). MakesPieces names l a b xs ys) (sym is)
+    (record { more = x ∷ []; joined = e; are = (f.piece, tt); fit = (f.fit, tt); built = (b, index_bits x.place, [], f.built, (refl, refl), refl) })
+
+pub makes-more : (names : Names) (ps qs : List Part) (a m b : Building) (xs ys zs : List Piece) → MakesPieces names ps a m xs ys → MakesPieces names qs m b ys zs → MakesPieces names (ps ++ qs) a b xs zs
+makes-more names ps qs a m b xs ys zs f g = record {
+  more = f.more ++ g.more;
+  joined = g.joined ∙ ap (λ (l : List Piece). l ++ g.more) f.joined ∙ append_assoc xs f.more g.more;
+  are = pieces-append names ps qs f.more g.more f.are g.are;
+  fit = fit-append b.nets f.more g.more (pieces-later m.nets b.nets f.more (grown_nets m b (grows-indices names qs m b (indices_of g.more) g.built)) f.fit) g.fit;
+  built = subst (λ (l : List (List Bit)). BuildsIndices names (ps ++ qs) a b l) (sym (map-append (λ (x : Piece). index_bits x.place) f.more g.more)) (indices-append names ps qs a m b (indices_of f.more) (indices_of g.more) f.built g.built);
+}
+
+pub makes-grows : (names : Names) (ps : List Part) (a b : Building) (xs ys : List Piece) → MakesPieces names ps a b xs ys → Grows a b
+makes-grows names ps a b xs ys f = grows-indices names ps a b (indices_of f.more) f.built
+
+pub makes-signals : (names : Names) (ps : List Part) (a b : Building) (xs ys : List Piece) → MakesPieces names ps a b xs ys → HasSignals names a → HasSignals names b
+makes-signals names ps a b xs ys f h = signals_kept names a b (makes-grows names ps a b xs ys f) h
+
+pub makes-counted : (names : Names) (ps : List Part) (a b : Building) (xs ys : List Piece) → MakesPieces names ps a b xs ys → length b.cells ≡ length a.cells + indices_cells names ps
+makes-counted names ps a b xs ys f = indices-counted names ps a b (indices_of f.more) f.built
+
+-- Several left sides.
+
+parts-next : (xs : List LeftSide) (k : ℕ) (x : LeftSide) → x ≡ get_or xs k x → k < length xs → concatenated (map parts_of (take (suc k) xs)) ≡ concatenated (map parts_of (take k xs)) ++ parts_of x
+parts-next [] k x is h = absurd (omega arith)
+parts-next (y ∷ ys) zero x is h = append-nil (parts_of y) ∙ ap (λ (z : LeftSide). parts_of z) (sym is)
+parts-next (y ∷ ys) (suc k) x is h =
+    ap (λ (l : List Part). parts_of y ++ l) (parts-next ys k x is (omega arith)) ∙ sym (append_assoc (parts_of y) (concatenated (map parts_of (take k ys))) (parts_of x))
+
+pub makes-next : (names : Names) (parts : List LeftSide) (k : ℕ) (x : LeftSide) (a m b : Building) (xs ys zs : List Piece) → x ≡ get_or parts k x → k < length parts → MakesPieces names (concatenated (map parts_of (take k parts))) a m xs ys → MakesPieces names (parts_of x) m b ys zs → MakesPieces names (concatenated (map parts_of (take (suc k) parts))) a b xs zs
+makes-next names parts k x a m b xs ys zs is h f g =
+    subst (λ (l : List Part). MakesPieces names l a b xs zs) (sym (parts-next parts k x is h)) (makes-more names (concatenated (map parts_of (take k parts))) (parts_of x) a m b xs ys zs f g)
+
+can-right : (names : Names) (ps qs : List Part) → CanWriteAll names (ps ++ qs) → CanWriteAll names qs
+can-right names [] qs h = h
+can-right names (p ∷ ps) qs h = can-right names ps qs h.1
+
+can-left : (names : Names) (ps qs : List Part) → CanWriteAll names (ps ++ qs) → CanWriteAll names ps
+can-left names [] qs h = tt
+can-left names (p ∷ ps) qs h = (h.0, can-left names ps qs h.1)
+
+pub can-element : (names : Names) (parts : List LeftSide) (k : ℕ) (x : LeftSide) → x ≡ get_or parts k x → k < length parts → CanWriteAll names (concatenated (map parts_of parts)) → CanWriteAll names (parts_of x)
+can-element names [] k x is h can = absurd (omega arith)
+can-element names (y ∷ ys) zero x is h can = subst (λ (z : LeftSide). CanWriteAll names (parts_of z)) (sym is) (can-left names (parts_of y) (concatenated (map parts_of ys)) can)
+can-element names (y ∷ ys) (suc k) x is h can = can-element names ys k x is (omega arith) (can-right names (parts_of y) (concatenated (map parts_of ys)) can)
+
+pub can-one : (names : Names) (ps : List Part) (p : Part) → ps ≡ p ∷ [] → CanWriteAll names ps → CanWrite names p
+can-one names ps p is can = (subst (λ (l : List Part). CanWriteAll names l) is can).0
+
+cells-append : (names : Names) (ps qs : List Part) → indices_cells names (ps ++ qs) ≡ indices_cells names ps + indices_cells names qs
+cells-append names [] qs = omega arith
+cells-append names (p ∷ ps) qs = let e = cells-append names ps qs in omega (arith, e)
+
+width-append : (names : Names) (ps qs : List Part) → parts_width names (ps ++ qs) ≡ parts_width names ps + parts_width names qs
+width-append names [] qs = omega arith
+width-append names (p ∷ ps) qs = let e = width-append names ps qs in omega (arith, e)
+
+-- so many parts have no more than all
+cells-within : (names : Names) (parts : List LeftSide) (k : ℕ) → indices_cells names (concatenated (map parts_of (take k parts))) ≤ indices_cells names (concatenated (map parts_of parts))
+cells-within names [] zero = omega arith
+cells-within names [] (suc k) = omega arith
+cells-within names (y ∷ ys) zero = omega arith
+cells-within names (y ∷ ys) (suc k) =
+    let e = cells-within names ys k in
+    let f = cells-append names (parts_of y) (concatenated (map parts_of (take k ys))) in
+    let g = cells-append names (parts_of y) (concatenated (map parts_of ys)) in
+    omega (arith, e, f, g)
+
+width-within : (names : Names) (parts : List LeftSide) (k : ℕ) → parts_width names (concatenated (map parts_of (take k parts))) ≤ parts_width names (concatenated (map parts_of parts))
+width-within names [] zero = omega arith
+width-within names [] (suc k) = omega arith
+width-within names (y ∷ ys) zero = omega arith
+width-within names (y ∷ ys) (suc k) =
+    let e = width-within names ys k in
+    let f = width-append names (parts_of y) (concatenated (map parts_of (take k ys))) in
+    let g = width-append names (parts_of y) (concatenated (map parts_of ys)) in
+    omega (arith, e, f, g)
+
+pub width-next : (names : Names) (parts : List LeftSide) (k : ℕ) (x : LeftSide) → x ≡ get_or parts k x → k < length parts → parts_width names (concatenated (map parts_of (take (suc k) parts))) ≡ parts_width names (concatenated (map parts_of (take k parts))) + parts_width names (parts_of x)
+width-next names parts k x is h = ap (parts_width names) (parts-next parts k x is h) ∙ width-append names (concatenated (map parts_of (take k parts))) (parts_of x)
+
+-- one part more has no more bits than all
+pub width-fits : (names : Names) (parts : List LeftSide) (k : ℕ) (x : LeftSide) (n : ℕ) → x ≡ get_or parts k x → k < length parts → parts_width names (concatenated (map parts_of parts)) ≤ n → parts_width names (concatenated (map parts_of (take k parts))) + parts_width names (parts_of x) ≤ n
+width-fits names parts k x n is h all =
+    let e = width-next names parts k x is h in
+    let f = width-within names parts (suc k) in
+    omega (arith, e, f, all)
+
+-- an error in one part
+pub element-short : (names : Names) (parts : List LeftSide) (k : ℕ) (x : LeftSide) (a m : Building) (xs ys : List Piece) (e : ElabError) → x ≡ get_or parts k x → k < length parts → MakesPieces names (concatenated (map parts_of (take k parts))) a m xs ys → IsShort (length m.cells + indices_cells names (parts_of x)) e → IsShort (length a.cells + indices_cells names (concatenated (map parts_of parts))) e
+element-short names parts k x a m xs ys e is h f short =
+    let n = makes-counted names (concatenated (map parts_of (take k parts))) a m xs ys f in
+    let next = ap (indices_cells names) (parts-next parts k x is h) ∙ cells-append names (concatenated (map parts_of (take k parts))) (parts_of x) in
+    let within = cells-within names parts (suc k) in
+    more_short (length m.cells + indices_cells names (parts_of x)) (length a.cells + indices_cells names (concatenated (map parts_of parts))) e (omega (arith, n, next, within)) short
+
+-- the width of one part
+pub width-one : (names : Names) (ps : List Part) (p : Part) (v : Vector) (n : ℕ) → ps ≡ p ∷ [] → part_vector names p ≡ Some v → select_width names v p.select ≡ n → n ≡ parts_width names ps
+width-one names ps p v n is vector size =
+    let one : part_width names p ≡ n = ap (λ (o : Option Vector). width_by names p.select o) vector ∙ size in
+    let all : parts_width names ps ≡ part_width names p + 0 = ap (parts_width names) is in
+    omega (arith, one, all)
+
+pub short-one : (names : Names) (ps : List Part) (p : Part) (n : ℕ) (e : ElabError) → ps ≡ p ∷ [] → IsShort (n + index_cells names (variable_index names p.select)) e → IsShort (n + indices_cells names ps) e
+short-one names ps p n e is h =
+    let all : indices_cells names ps ≡ index_cells names (variable_index names p.select) + 0 = ap (indices_cells names) is in
+    more_short (n + index_cells names (variable_index names p.select)) (n + indices_cells names ps) e (omega (arith, all)) h
+
+-- What the code of one part asks and gives.
+
+pub vector-signal : (o : Option Decl) (width low number : ℕ) (is_signed : Bool) → o ≡ Some (Signal width low is_signed number) → vector_of o ≡ Some (record { number = number; width = width; low = low })
+vector-signal o width low number is_signed e = ap vector_of e
+
+pub no-constant : (o : Option Decl) (value : Word) (is_signed : Bool) → o ≡ Some (Constant value is_signed) → (v : Vector) × (vector_of o ≡ Some v) → ⊥
+no-constant o value is_signed e h = let g : None ≡ Some h.0 = sym (ap vector_of e) ∙ h.1 in cc
+
+pub not-none : (o : Option Decl) → o ≡ None → (v : Vector) × (vector_of o ≡ Some v) → ⊥
+not-none o e h = let g : None ≡ Some h.0 = sym (ap vector_of e) ∙ h.1 in cc
+
+pub clear-bit : (names : Names) (n : Identifier) (span : Span) (i : Expr) → CanWrite names (record { name = n; select = BitOf span i }) → is_constant names i ≡ false → refusals names i (sense names i).shape ≡ []
+clear-bit names n span i can e = can.1.index (record { place = span; expr = i }) (rw e refl)
+
+pub clear-indexed : (names : Names) (n : Identifier) (span : Span) (base count : Expr) → CanWrite names (record { name = n; select = Indexed span base count }) → is_constant names base ≡ false → refusals names base (sense names base).shape ≡ []
+clear-indexed names n span base count can e = can.1.index (record { place = span; expr = base }) (rw e refl)
+
+-- the width of a select of a part that can be written
+pub size-some : (names : Names) (p : Part) (size : ℕ) → CanWrite names p → ((v : Vector) → select_width names v p.select ≡ size) → 1 ≤ size
+size-some names p size can e = subst (λ (k : ℕ). 1 ≤ k) (e can.0) can.1.some
+
+pub size-narrow : (names : Names) (p : Part) (size : ℕ) → CanWrite names p → ((v : Vector) → select_width names v p.select ≡ size) → size ≤ 128
+size-narrow names p size can e = subst (λ (k : ℕ). k ≤ 128) (e can.0) can.1.narrow
+
+pub makes-whole : (names : Names) (n : Identifier) (b : Building) (x : Piece) (number width low : ℕ) (base : Bound) → CanWrite names (record { name = n; select = Whole }) → vector_of (names n.name) ≡ Some (record { number = number; width = width; low = low }) → pos low ≡ bound_integer base → (IsTrue base.is_negative → base.magnitude ≤ 2 ^ 127) → x ≡ record { number = number; width = width; low = low; size = width; place = From base } → MakesPiece names (record { name = n; select = Whole }) b b x
+makes-whole names n b x number width low base can vector is small e = makes-at names (record { name = n; select = Whole }) b b x number width low width (From base) e can vector refl is (λ m h. small) (refl, refl)
+
+pub makes-range : (names : Names) (n : Identifier) (span : Span) (msb lsb : Expr) (b : Building) (x : Piece) (number width low size : ℕ) (base : Bound) → CanWrite names (record { name = n; select = Range span msb lsb }) → vector_of (names n.name) ≡ Some (record { number = number; width = width; low = low }) → bound_integer base ≡ constant_integer (sense names lsb) → (IsTrue base.is_negative → base.magnitude ≤ 2 ^ 127) → size ≡ natural (constant_integer (sense names msb) -ℤ constant_integer (sense names lsb) +ℤ pos 1) → x ≡ record { number = number; width = width; low = low; size = size; place = From base } → MakesPiece names (record { name = n; select = Range span msb lsb }) b b x
+makes-range names n span msb lsb b x number width low size base can vector is small sized e = makes-at names (record { name = n; select = Range span msb lsb }) b b x number width low size (From base) e can vector (sym sized) (sym is) (λ m h. small) (refl, refl)
+
+pub makes-bit : (names : Names) (n : Identifier) (span : Span) (i : Expr) (a b : Building) (x : Piece) (number width low : ℕ) (place : Place) → CanWrite names (record { name = n; select = BitOf span i }) → vector_of (names n.name) ≡ Some (record { number = number; width = width; low = low }) → IsPlaced names span i a b place → x ≡ record { number = number; width = width; low = low; size = 1; place = place } → MakesPiece names (record { name = n; select = BitOf span i }) a b x
+makes-bit names n span i a b x number width low place can vector f e = makes-at names (record { name = n; select = BitOf span i }) a b x number width low 1 place e can vector refl f.is f.fit f.built
+
+pub makes-indexed : (names : Names) (n : Identifier) (span : Span) (base count : Expr) (a b : Building) (x : Piece) (number width low size : ℕ) (place : Place) → CanWrite names (record { name = n; select = Indexed span base count }) → vector_of (names n.name) ≡ Some (record { number = number; width = width; low = low }) → IsPlaced names span base a b place → size ≡ natural (constant_integer (sense names count)) → x ≡ record { number = number; width = width; low = low; size = size; place = place } → MakesPiece names (record { name = n; select = Indexed span base count }) a b x
+makes-indexed names n span base count a b x number width low size place can vector f sized e = makes-at names (record { name = n; select = Indexed span base count }) a b x number width low size place e can vector (sym sized) f.is f.fit f.built

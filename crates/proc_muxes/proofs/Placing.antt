@@ -1,0 +1,96 @@
+-- The places of bits that are written from a declared number on, and the writes one after the other.
+use Rattle.std.proofs.Common.{◌≡◌, ℕ, zero, suc, ◌+◌, ◌-◌, ◌<◌, ◌≤◌, ◌^◌, min, Bool, true, false, ◌&&◌, ℤ, pos, negsuc, neg_ℤ, ◌+ℤ◌, List, [], ◌∷◌, drop, length, get_or, set, Option, Some, None, nat_le, nat_lt, refl, sym, ◌∙◌, ap, inl, inr, arith}
+use Rattle.std.specs.Prelude.{if◌then◌else◌}
+use Rattle.std.proofs.Math.Seq.{drop-cons}
+use Rattle.std.proofs.lemmas.Int.{ints}
+use Rattle.std.proofs.lemmas.List.{length-set}
+use Rattle.std.proofs.lemmas.Bool.Decides.{leb_tells}
+use Rattle.netlist_core.specs.declared.bit.Bit.{Bit}
+use Rattle.vlog_meaning.specs.declared.bound.Bound.{Bound}
+use Rattle.vlog_meaning.specs.Integers.{bound_integer}
+use Rattle.vlog_effects.specs.LeftSides.{Vector, bit_at, bits_from, written}
+
+pub place-below : (v : Vector) (n low : ℕ) → v.low ≡ low → n < low → bit_at v (pos n) ≡ None
+place-below v n low e h = elim (leb_tells v.low n) [
+  | inl a ↦ absurd (let g = a.1 in omega arith)
+  | inr a ↦ rw a.0 refl
+]
+
+pub place-past : (v : Vector) (n low width : ℕ) → v.low ≡ low → v.width ≡ width → low + width ≤ n → bit_at v (pos n) ≡ None
+place-past v n low width e f h = elim (leb_tells v.low n) [
+  | inl a ↦ elim (leb_tells (suc (n - v.low)) v.width) [
+    | inl b ↦ absurd (let g = b.1 in omega arith)
+    | inr b ↦ rw (a.0, b.0) refl
+  ]
+  | inr a ↦ rw a.0 refl
+]
+
+pub place-in : (v : Vector) (n low width place : ℕ) → v.low ≡ low → v.width ≡ width → low ≤ n → place ≡ n - low → place < width → bit_at v (pos n) ≡ Some place
+place-in v n low width place e f h is k = elim (leb_tells v.low n) [
+  | inl a ↦ elim (leb_tells (suc (n - v.low)) v.width) [
+    | inl b ↦ let g : n - v.low ≡ place = omega arith in rw (a.0, b.0, g) refl
+    | inr b ↦ absurd (let g = b.1 in omega arith)
+  ]
+  | inr a ↦ absurd (let g = a.1 in omega arith)
+]
+
+-- a number that is counted up to the type's end
+pub place-saturated : (v : Vector) (p : Bound) (low width k at top : ℕ) → p.is_negative ≡ false → v.low ≡ low → v.width ≡ width → low + width ≤ top → at ≡ min (p.magnitude + k) top → bit_at v (pos at) ≡ bit_at v (bound_integer p +ℤ pos k)
+place-saturated v p low width k at top e is_low is_width small is =
+    let z : bound_integer p +ℤ pos k ≡ pos (p.magnitude + k) = rw e (omega (arith, ints)) in
+    elim (leb_tells (p.magnitude + k) top) [
+      | inl a ↦ let g = a.1 in let same : at ≡ p.magnitude + k = omega arith in ap (λ (n : ℕ). bit_at v (pos n)) same ∙ ap (λ (y : ℤ). bit_at v y) (sym z)
+      | inr a ↦
+          let g = a.1 in
+          place-past v at low width is_low is_width (omega arith) ∙ sym (place-past v (p.magnitude + k) low width is_low is_width (omega arith)) ∙ ap (λ (y : ℤ). bit_at v y) (sym z)
+    ]
+
+-- a negative number has no place
+pub place-negative : (v : Vector) (p : Bound) (k : ℕ) → p.is_negative ≡ true → k < p.magnitude → bit_at v (bound_integer p +ℤ pos k) ≡ None
+place-negative v p k e h =
+    let z : bound_integer p +ℤ pos k ≡ negsuc (p.magnitude - k - 1) = rw e (omega (arith, ints)) in
+    ap (λ (y : ℤ). bit_at v y) z
+
+pub place-after : (v : Vector) (p : Bound) (k n : ℕ) → p.is_negative ≡ true → p.magnitude ≤ k → n ≡ k - p.magnitude → bit_at v (pos n) ≡ bit_at v (bound_integer p +ℤ pos k)
+place-after v p k n e h is =
+    let z : bound_integer p +ℤ pos k ≡ pos n = rw e (omega (arith, ints)) in
+    ap (λ (y : ℤ). bit_at v y) (sym z)
+
+-- One bit after the other.
+
+-- a bit that is written at a place, where there is one
+abbrev pub write_at : List Bit → Option ℕ → Bit → List Bit
+write_at xs None b = xs
+write_at xs (Some i) b = set xs i b
+
+one-write : (xs : List Bit) (o : Option ℕ) (ps : List (Option ℕ)) (b : Bit) (bs : List Bit) → written xs (o ∷ ps) (b ∷ bs) ≡ written (write_at xs o b) ps bs
+one-write xs None ps b bs = refl
+one-write xs (Some i) ps b bs = refl
+
+pub written-next : (v : Vector) (xs bs : List Bit) (z : ℤ) (k : ℕ) (b : Bit) (o : Option ℕ) → k < length bs → b ≡ get_or bs k b → o ≡ bit_at v (z +ℤ pos k) → written xs (bits_from v (z +ℤ pos k) (length bs - k)) (drop k bs) ≡ written (write_at xs o b) (bits_from v (z +ℤ pos (k + 1)) (length bs - (k + 1))) (drop (k + 1) bs)
+written-next v xs bs z k b o h is at =
+    let n : ℕ = length bs - (k + 1) in
+    let count : length bs - k ≡ suc n = omega arith in
+    let next : z +ℤ pos k +ℤ pos 1 ≡ z +ℤ pos (k + 1) = omega (arith, ints) in
+    let one : suc k ≡ k + 1 = omega arith in
+    let front : drop k bs ≡ b ∷ drop (k + 1) bs = drop-cons bs k b h ∙ ap (λ (y : Bit). y ∷ drop (suc k) bs) (sym is) ∙ ap (λ (m : ℕ). b ∷ drop m bs) one in
+    ap (λ (m : ℕ). written xs (bits_from v (z +ℤ pos k) m) (drop k bs)) count
+    ∙ ap (λ (t : List Bit). written xs (bits_from v (z +ℤ pos k) (suc n)) t) front
+    ∙ one-write xs (bit_at v (z +ℤ pos k)) (bits_from v (z +ℤ pos k +ℤ pos 1) n) b (drop (k + 1) bs)
+    ∙ ap (λ (p : Option ℕ). written (write_at xs p b) (bits_from v (z +ℤ pos k +ℤ pos 1) n) (drop (k + 1) bs)) (sym at)
+    ∙ ap (λ (y : ℤ). written (write_at xs o b) (bits_from v y n) (drop (k + 1) bs)) next
+
+any-default : (xs : List Bit) (k : ℕ) (d e : Bit) → k < length xs → get_or xs k d ≡ get_or xs k e
+any-default [] k d e h = absurd (omega arith)
+any-default (x ∷ xs) zero d e h = refl
+any-default (x ∷ xs) (suc k) d e h = any-default xs k d e (omega arith)
+
+pub written-more : (v : Vector) (xs ys old bs : List Bit) (z : ℤ) (k : ℕ) (d : Bit) (o : Option ℕ) → k < length bs → o ≡ bit_at v (z +ℤ pos k) → ys ≡ write_at xs o (get_or bs k d) → written xs (bits_from v (z +ℤ pos k) (length bs - k)) (drop k bs) ≡ written old (bits_from v z (length bs)) bs → written ys (bits_from v (z +ℤ pos (k + 1)) (length bs - (k + 1))) (drop (k + 1) bs) ≡ written old (bits_from v z (length bs)) bs
+written-more v xs ys old bs z k d o h at e same =
+    ap (λ (l : List Bit). written l (bits_from v (z +ℤ pos (k + 1)) (length bs - (k + 1))) (drop (k + 1) bs)) e
+    ∙ sym (written-next v xs bs z k (get_or bs k d) o h (any-default bs k d (get_or bs k d) h) at)
+    ∙ same
+
+pub write-long : (xs ys : List Bit) (o : Option ℕ) (b : Bit) → ys ≡ write_at xs o b → length ys ≡ length xs
+write-long xs ys None b e = ap (λ (l : List Bit). length l) e
+write-long xs ys (Some i) b e = ap (λ (l : List Bit). length l) e ∙ length-set xs i b

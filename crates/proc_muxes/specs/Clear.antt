@@ -1,0 +1,50 @@
+-- Assignments in which nothing is refused, and variables that have bits for them.
+use Rattle.std.specs.Prelude.{◌≡◌, ℕ, ◌<◌, ◌≤◌, Bool, List, [], ◌∷◌, length, Option, Some, None}
+use Rattle.vlog_syntax.specs.declared.expr.Expr.{Expr}
+use Rattle.vlog_meaning.specs.Scopes.{Names}
+use Rattle.vlog_meaning.specs.Senses.{sense, assigned, IsWhole}
+use Rattle.vlog_effects.specs.LeftSides.{Select, Whole, Bit as BitOf, Range, Indexed, Part, Vector, parts_of, part_vector, parts_width, select_width}
+use Rattle.vlog_effects.specs.Steps.{Assigning}
+use Rattle.vlog_effects.specs.Latches.{Target}
+use Rattle.elab_expr.specs.Expressions.{refusals}
+use Rattle.proc_muxes.specs.Builds.{Work, held, Index, variable_index}
+
+-- the expressions of a select have shapes
+abbrev pub IsWholeSelect : Names → Select → Type 0
+IsWholeSelect names Whole = Unit {0}
+IsWholeSelect names (BitOf at i) = IsWhole names i
+IsWholeSelect names (Range at msb lsb) = IsWhole names msb × IsWhole names lsb
+IsWholeSelect names (Indexed at base count) = IsWhole names base × IsWhole names count
+
+-- a part that can be written: a variable index needs a vector whose lowest bit is number 0, and nothing is refused in it
+pub record IsClearPart (names : Names) (p : Part) (v : Vector) : Type 0 where
+  pub vector : part_vector names p ≡ Some v
+  pub some : 1 ≤ select_width names v p.select
+  pub narrow : select_width names v p.select ≤ 128
+  pub whole : IsWholeSelect names p.select
+  pub low : (i : Index) → variable_index names p.select ≡ Some i → v.low ≡ 0
+  pub index : (i : Index) → variable_index names p.select ≡ Some i → refusals names i.expr (sense names i.expr).shape ≡ []
+
+abbrev pub CanWrite : Names → Part → Type 0
+CanWrite names p = (v : Vector) × IsClearPart names p v
+
+abbrev pub CanWriteAll : Names → List Part → Type 0
+CanWriteAll names [] = Unit {0}
+CanWriteAll names (p ∷ ps) = CanWrite names p × CanWriteAll names ps
+
+-- an assignment in which nothing is refused
+pub record CanAssign (s : Assigning) : Type 0 where
+  pub parts : CanWriteAll s.names (parts_of s.left)
+  pub narrow : parts_width s.names (parts_of s.left) ≤ 128
+  pub right : refusals s.names s.right (assigned (sense s.names s.right) (parts_width s.names (parts_of s.left))) ≡ []
+
+-- a target has its bits, from 1 to 128
+pub record IsHeld (a : Work) (x : Target) : Type 0 where
+  pub known : x.number < length a.building.signals
+  pub long : length (held a x.is_blocking x.number) ≡ x.width
+  pub some : 1 ≤ x.width
+  pub narrow : x.width ≤ 128
+
+abbrev pub AreHeld : Work → List Target → Type 0
+AreHeld a [] = Unit {0}
+AreHeld a (x ∷ more) = IsHeld a x × AreHeld a more

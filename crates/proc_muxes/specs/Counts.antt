@@ -1,0 +1,44 @@
+-- How many cells an assignment makes.
+use Rattle.std.specs.Prelude.{ℕ, ◌+◌, List, [], ◌∷◌, length, Option, Some, None}
+use Rattle.vlog_meaning.specs.Scopes.{Names}
+use Rattle.vlog_meaning.specs.Senses.{sense, assigned}
+use Rattle.vlog_effects.specs.LeftSides.{Part, parts_of, parts_width}
+use Rattle.vlog_effects.specs.Steps.{Assigning}
+use Rattle.elab_expr.specs.Made.{made}
+use Rattle.proc_muxes.specs.declared.piece.Piece.{Piece}
+use Rattle.proc_muxes.specs.declared.piece.Place.{Place}
+use Rattle.proc_muxes.specs.declared.piece.Place.TheVariants.{From, At}
+use Rattle.proc_muxes.specs.Builds.{Index, variable_index}
+
+-- the cells of an index
+abbrev pub index_cells : Names → Option Index → ℕ
+index_cells names None = 0
+index_cells names (Some i) = length (made names i.expr (sense names i.expr).shape)
+
+abbrev pub indices_cells : Names → List Part → ℕ
+indices_cells names [] = 0
+indices_cells names (p ∷ ps) = index_cells names (variable_index names p.select) + indices_cells names ps
+
+-- a part with a variable index makes one `put`
+abbrev pub put_cells : Option Index → ℕ
+put_cells None = 0
+put_cells (Some i) = 1
+
+abbrev pub puts_cells : Names → List Part → ℕ
+puts_cells names [] = 0
+puts_cells names (p ∷ ps) = put_cells (variable_index names p.select) + puts_cells names ps
+
+-- the same of pieces
+abbrev pub place_cells : Place → ℕ
+place_cells (From bound) = 0
+place_cells (At index span) = 1
+
+abbrev pub pieces_cells : List Piece → ℕ
+pieces_cells [] = 0
+pieces_cells (x ∷ xs) = place_cells x.place + pieces_cells xs
+
+-- the right side's, those of the indices, and the puts
+abbrev pub assign_cells : Assigning → ℕ
+assign_cells s =
+    let ps = parts_of s.left in
+    length (made s.names s.right (assigned (sense s.names s.right) (parts_width s.names ps))) + (indices_cells s.names ps + puts_cells s.names ps)
