@@ -1,5 +1,5 @@
 -- The pieces of a left side are written from the last one on, and what an assignment has changed.
-use Rattle.std.proofs.Common.{◌≡◌, ℕ, zero, suc, ◌+◌, ◌-◌, ◌<◌, ◌≤◌, max, ℤ, Bool, true, false, List, [], ◌∷◌, ◌++◌, map, take, drop, length, get_or, Option, Some, None, refl, sym, ◌∙◌, ap, subst, arith, append-nil}
+use Rattle.std.proofs.Common.{◌≡◌, ℕ, suc, ◌+◌, ◌-◌, ◌<◌, ◌≤◌, max, ℤ, Bool, true, false, List, [], ◌∷◌, ◌++◌, take, drop, length, get_or, Option, Some, None, refl, sym, ◌∙◌, ap, subst, arith, append-nil}
 use Rattle.std.specs.Prelude.{if◌then◌else◌}
 use Rattle.std.proofs.Math.Seq.{take-length}
 use Rattle.std.proofs.lemmas.List.{length-take-le, length-drop}
@@ -11,7 +11,7 @@ use Rattle.vlog_meaning.specs.declared.bound.Bound.{Bound}
 use Rattle.vlog_meaning.specs.Integers.{bound_integer}
 use Rattle.vlog_meaning.specs.Scopes.{Names, nothing}
 use Rattle.vlog_meaning.specs.Senses.{sense, assigned}
-use Rattle.vlog_effects.specs.LeftSides.{Part, Vector, part_vector, part_width, width_by, parts_of, parts_width, places, select_base, select_width, bits_from, written}
+use Rattle.vlog_effects.specs.LeftSides.{Part, Vector, part_vector, part_width, width_by, parts_of, parts_width, select_base, bits_from, written}
 use Rattle.vlog_effects.specs.Steps.{Assigning, Done, Assign}
 use Rattle.vlog_effects.specs.Latches.{Target, part_targets, parts_targets}
 use Rattle.elab_expr.specs.Building.{Building, Grows, AllBelow}
@@ -26,13 +26,13 @@ use Rattle.proc_muxes.specs.declared.piece.Piece.{Piece}
 use Rattle.proc_muxes.specs.declared.piece.Place.{Place}
 use Rattle.proc_muxes.specs.declared.piece.Place.TheVariants.{From, At}
 use Rattle.proc_muxes.specs.Builds.{Work, held, with_held, Index, variable_index, PutsBits, PutsPart, PutsParts, BuildsIndices, distinct}
-use Rattle.proc_muxes.specs.Clear.{IsHeld, AreHeld}
+use Rattle.proc_muxes.specs.Clear.{AreHeld}
 use Rattle.proc_muxes.specs.Counts.{put_cells, puts_cells, place_cells, pieces_cells, indices_cells, assign_cells}
 use Rattle.proc_muxes.specs.Pieces.{vector_at, IsPlace, index_bits, indices_of, IsPiece, ArePieces, CanBePlaced, IsFitPiece, AreFitPieces, IsHeldPiece, AreHeldPieces, sizes, piece_target, piece_targets, MakesPieces}
-use Rattle.proc_muxes.specs.Shows.{Keeps, StandsBelow}
+use Rattle.proc_muxes.specs.Shows.{Keeps}
 use Rattle.proc_muxes.specs.Working.{AreBits, PutsAt, change_of, changes_of, is_changed, joined, Built}
 use Rattle.proc_muxes.proofs.Bits.{length-written, below-written, below-take, below-drop}
-use Rattle.proc_muxes.proofs.Frames.{keeps-grown, keeps-again, keeps-turned, keeps-widths, keeps-held, stands-held, held-grown, nets-added}
+use Rattle.proc_muxes.proofs.Frames.{keeps-grown, keeps-again, keeps-turned, keeps-widths, keeps-held, stands-held, held-grown}
 use Rattle.proc_muxes.proofs.Keeping.{keeps-cell, grows-indices}
 use Rattle.proc_muxes.proofs.Joining.{join-all}
 use Rattle.proc_muxes.proofs.Merging.{changes-same}

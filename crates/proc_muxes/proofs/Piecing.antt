@@ -1,6 +1,6 @@
 -- The pieces of a left side, with the cells of its indices.
-use Rattle.std.proofs.Common.{◌≡◌, ℕ, zero, suc, ◌+◌, ◌<◌, ◌≤◌, ◌^◌, ℤ, pos, ◌+ℤ◌, ◌-ℤ◌, Bool, true, false, List, [], ◌∷◌, ◌++◌, map, take, length, get_or, Option, Some, None, refl, sym, ◌∙◌, ap, subst, arith, append-nil, append_assoc}
-use Rattle.std.specs.Prelude.{IsTrue, if◌then◌else◌}
+use Rattle.std.proofs.Common.{◌≡◌, ℕ, zero, suc, ◌+◌, ◌<◌, ◌≤◌, ◌^◌, pos, ◌+ℤ◌, ◌-ℤ◌, Bool, true, false, List, [], ◌∷◌, ◌++◌, map, take, length, get_or, Option, Some, None, refl, sym, ◌∙◌, ap, subst, arith, append-nil, append_assoc}
+use Rattle.std.specs.Prelude.{IsTrue}
 use Rattle.std.proofs.lemmas.List.{map-append}
 use Rattle.mcy_base.specs.declared.span.Span.{Span}
 use Rattle.mcy_base.specs.declared.word.Word.{Word}
@@ -16,7 +16,7 @@ use Rattle.vlog_meaning.specs.Scopes.{Names, nothing}
 use Rattle.vlog_meaning.specs.Senses.{sense, own, constant_integer}
 use Rattle.vlog_effects.specs.Expressions.{is_constant}
 use Rattle.vlog_effects.specs.LeftSides.{Whole, Bit as BitOf, Range, Indexed, Part, Vector, vector_of, part_vector, part_width, width_by, parts_of, parts_width, select_base, select_width, concatenated}
-use Rattle.elab_expr.specs.Building.{Building, Grows, AllBelow, HasSignals}
+use Rattle.elab_expr.specs.Building.{Building, Grows, HasSignals}
 use Rattle.elab_expr.specs.Evaluates.{Evaluates}
 use Rattle.elab_expr.specs.Expressions.{refusals}
 use Rattle.elab_expr.specs.Made.{made}
@@ -30,8 +30,8 @@ use Rattle.proc_muxes.specs.declared.piece.Place.TheVariants.{From, At}
 use Rattle.proc_muxes.specs.Builds.{Index, variable_index, BuildsIndex, BuildsIndices}
 use Rattle.proc_muxes.specs.Clear.{CanWrite, CanWriteAll}
 use Rattle.proc_muxes.specs.Counts.{index_cells, indices_cells}
-use Rattle.proc_muxes.specs.Pieces.{vector_at, IsPlace, index_bits, indices_of, IsPiece, ArePieces, CanBePlaced, IsFitPiece, AreFitPieces, index_at, IsPlaced, MakesPiece, MakesPieces}
-use Rattle.proc_muxes.proofs.Keeping.{grows-index, grows-indices}
+use Rattle.proc_muxes.specs.Pieces.{vector_at, IsPlace, index_bits, indices_of, ArePieces, CanBePlaced, IsFitPiece, AreFitPieces, index_at, IsPlaced, MakesPiece, MakesPieces}
+use Rattle.proc_muxes.proofs.Keeping.{grows-indices}
 
 -- An index.
 

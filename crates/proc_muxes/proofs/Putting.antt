@@ -3,7 +3,7 @@ use Rattle.std.proofs.Common.{◌≡◌, ℕ, ℤ, Some, ◌≤◌, Bool, true, 
 use Rattle.mcy_base.specs.declared.span.Span.{Span}
 use Rattle.netlist_core.specs.declared.bit.Bit.{Bit}
 use Rattle.netlist_core.specs.declared.cell.CellKind.TheVariants.{Put}
-use Rattle.elab_expr.specs.Building.{Building, Grows, AllBelow, fresh_bits, with_cell}
+use Rattle.elab_expr.specs.Building.{Building, Grows, fresh_bits, with_cell}
 use Rattle.elab_expr.proofs.Parts.{grown_by, length_fresh}
 use Rattle.vlog_meaning.specs.Scopes.{Names}
 use Rattle.vlog_effects.specs.LeftSides.{Select, Vector, bits_from, written}

@@ -1,6 +1,5 @@
 -- Assignments in which nothing is refused, and variables that have bits for them.
-use Rattle.std.specs.Prelude.{◌≡◌, ℕ, ◌<◌, ◌≤◌, Bool, List, [], ◌∷◌, length, Option, Some, None}
-use Rattle.vlog_syntax.specs.declared.expr.Expr.{Expr}
+use Rattle.std.specs.Prelude.{◌≡◌, ◌<◌, ◌≤◌, List, [], ◌∷◌, length, Some}
 use Rattle.vlog_meaning.specs.Scopes.{Names}
 use Rattle.vlog_meaning.specs.Senses.{sense, assigned, IsWhole}
 use Rattle.vlog_effects.specs.LeftSides.{Select, Whole, Bit as BitOf, Range, Indexed, Part, Vector, parts_of, part_vector, parts_width, select_width}

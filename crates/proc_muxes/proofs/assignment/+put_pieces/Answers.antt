@@ -1,4 +1,4 @@
-use Rattle.std.proofs.Common.{◌≡◌, ◌-◌, ◌∷◌, List, length, take, drop, refl, subst, rules}
+use Rattle.std.proofs.Common.{◌-◌, List, length, take, drop, refl, subst, rules}
 use Rattle.std.proofs.lemmas.Result.{on_ok_weaker}
 use Rattle.proc_muxes.specs.declared.piece.Piece.{Piece}
 use Rattle.proc_muxes.specs.Pieces.{AreHeldPieces, AreFitPieces}
