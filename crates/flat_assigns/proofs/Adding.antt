@@ -28,7 +28,7 @@ own_between old mid ready grows = let extends = cells_extend old mid ready.stand
 pub signals_between : (old mid : Building) → Grows old mid → mid.signals ≡ old.signals
 signals_between old mid grows = ap (λ (x : Building). x.signals) grows.is
 
-built : (old mid new : Building) (left : List (Option Place)) (value : Store → ℕ) (bits : List Bit) (width : ℕ) (added : List Made) → IsReady old → Builds old mid bits width value added → IsJoinedTo mid new left bits → IsBuilt old new (Assign left value) added
+pub built : (old mid new : Building) (left : List (Option Place)) (value : Store → ℕ) (bits : List Bit) (width : ℕ) (added : List Made) → IsReady old → Builds old mid bits width value added → IsJoinedTo mid new left bits → IsBuilt old new (Assign left value) added
 built old mid new left value bits width added ready made joined =
     let extends = cells_extend old mid ready.stands made.grows in
     let own = own_stays old mid ready.own extends.0.signals extends.0.nets in
@@ -41,6 +41,7 @@ built old mid new left value bits width added ready made joined =
       made = made.cells;
       registers = ap (λ (x : Building). x.registers) joined.2 ∙ ap (λ (x : Building). x.registers) made.grows.is;
       declared = ap (λ (x : Building). x.declared) joined.2 ∙ ap (λ (x : Building). x.declared) made.grows.is;
+      starts = ap (λ (x : Building). x.starts) joined.2 ∙ ap (λ (x : Building). x.starts) made.grows.is;
     }
 
 whole_joined : (old mid new : Building) (bits shown : List Bit) (port w : ℕ) → shown ≡ bits → w ≡ length (signal old port) → IsJoinedTo mid new (places_from port 0 w) shown → IsJoinedTo mid new (whole old port) bits
@@ -56,6 +57,15 @@ input_built names right old mid new bits shown c port w ready made shape same wi
     let s : Shape = right_shape names right (length (signal old port)) in
     let here = subst (λ (x : Shape). Evaluates names right x old mid bits) shape made in
     built old mid new (whole old port) (right_value names right (length (signal old port))) bits s.width (right_cells names right (length (signal old port))) ready here (whole_joined old mid new bits shown port w same wide joined)
+
+-- an expression whose bits are joined to places
+pub parts_built : (names : Names) (right : Expr) (old mid new : Building) (left : List (Option Place)) (bits shown : List Bit) (c : Shape) (width : ℕ) → IsReady old → Evaluates names right c old mid bits → c ≡ right_shape names right width → shown ≡ bits → IsJoinedTo mid new left shown
+    → IsBuilt old new (Assign left (right_value names right width)) (right_cells names right width)
+parts_built names right old mid new left bits shown c width ready made shape same joined =
+    let s : Shape = right_shape names right width in
+    let here = subst (λ (x : Shape). Evaluates names right x old mid bits) shape made in
+    let P : List Bit → Type 0 = λ l. IsJoinedTo mid new left l in
+    built old mid new left (right_value names right width) bits s.width (right_cells names right width) ready here (subst P same joined)
 
 -- nothing
 nothing_added : (b : Building) (bits : List Bit) (width value : ℕ) → length bits ≡ width → ((n : ℕ) → AllBelow n bits) → ((nets : Nets) → number (values nets bits) ≡ value) → Builds b b bits width (λ store. value) []

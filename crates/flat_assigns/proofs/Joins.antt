@@ -1,6 +1,7 @@
 -- Joints of a port, one bit after the other.
 use Rattle.std.proofs.Common.{◌≡◌, ℕ, zero, suc, ◌+◌, ◌<◌, List, [], ◌∷◌, ◌++◌, length, drop, get_or, Bool, Option, Some, None, refl, sym, ap, ◌∙◌, subst, append_assoc, arith, drop-cons}
 use Rattle.std.specs.Prelude.{slice_get}
+use Rattle.std.proofs.lemmas.List.{append-nil}
 use Rattle.std.proofs.lemmas.Option.{get_or_from_slice_get}
 use Rattle.netlist_core.specs.declared.bit.Bit.{Bit}
 use Rattle.netlist_core.specs.declared.bit.Bit.TheVariants.{Fixed, Net}
@@ -25,14 +26,28 @@ with_all : (b : Building) (js ks : List Joint) → with_joints (with_joints b js
 with_all b js ks = ap (λ (l : List Joint). let x : Building = record b { joints = l } in x) (append_assoc b.joints js ks)
 
 -- other places, to the bits behind
-joined_then : (a b c : Building) (left more : List (Option Place)) (bits : List Bit) → IsJoinedTo a b left bits → IsJoinedTo b c more (drop (length left) bits) → IsJoinedTo a c (left ++ more) bits
+pub joined_then : (a b c : Building) (left more : List (Option Place)) (bits : List Bit) → IsJoinedTo a b left bits → IsJoinedTo b c more (drop (length left) bits) → IsJoinedTo a c (left ++ more) bits
 joined_then a b c left more bits h r =
     let second = subst (λ (x : Building). AreJoints x more (drop (length left) bits) r.0) h.2 r.1 in
     (h.0 ++ r.0, joints_then a left more bits h.0 r.0 h.1 second, r.2 ∙ ap (λ (x : Building). with_joints x r.0) h.2 ∙ with_all a h.0 r.0)
 
+with_none : (b : Building) → b ≡ with_joints b []
+with_none b = ap (λ (l : List Joint). let x : Building = record b { joints = l } in x) (sym (append-nil b.joints))
+
+-- nothing is joined
+pub joined_none : (b : Building) (bits : List Bit) → IsJoinedTo b b [] bits
+joined_none b bits = ([], tt, with_none b)
+
+-- a bit outside the range
+pub joined_outside : (b : Building) (bit : Bit) (more : List Bit) → IsJoinedTo b b (None ∷ []) (bit ∷ more)
+joined_outside b bit more = ([], tt, with_none b)
+
 -- a bit
-joined_one : (old new : Building) (p : Place) (n : ℕ) (bit : Bit) (more : List Bit) → IsBit old p.signal p.bit n → new ≡ with_joint n bit old → IsJoinedTo old new (Some p ∷ []) (bit ∷ more)
+pub joined_one : (old new : Building) (p : Place) (n : ℕ) (bit : Bit) (more : List Bit) → IsBit old p.signal p.bit n → new ≡ with_joint n bit old → IsJoinedTo old new (Some p ∷ []) (bit ∷ more)
 joined_one old new p n bit more at is = (record { net = n; bit = bit } ∷ [], (at, refl, tt), is)
+
+pub signals_joined : (old new : Building) (left : List (Option Place)) (bits : List Bit) → IsJoinedTo old new left bits → new.signals ≡ old.signals
+signals_joined old new left bits h = ap (λ (x : Building). x.signals) h.2
 
 pub own_joined : (old new : Building) (left : List (Option Place)) (bits : List Bit) → HasOwnNets old → IsJoinedTo old new left bits → HasOwnNets new
 own_joined old new left bits own h = let e : new.nets ≡ old.nets = ap (λ (x : Building). x.nets) h.2 in own_stays old new own (ap (λ (x : Building). x.signals) h.2) (omega (arith, e))

@@ -1,13 +1,17 @@
--- What the calls that build connections leave.
-use Rattle.std.specs.Prelude.{◌≡◌, List, ◌++◌, map, Option}
+-- What the calls that build assignments and connections leave.
+use Rattle.std.specs.Prelude.{◌≡◌, ◌<◌, ℕ, List, ◌++◌, map, Option}
+use Rattle.mcy_base.specs.declared.kind.Kind.TheVariants.{Cells}
 use Rattle.netlist_core.specs.declared.bit.Bit.{Bit}
 use Rattle.netlist_core.specs.declared.cell.Cell.{Cell}
 use Rattle.elab_expr.specs.declared.builder.Joint.{Joint}
 use Rattle.elab_expr.specs.Building.{Building}
 use Rattle.elab_expr.specs.Made.{Made, made_of}
+use Rattle.elab_expr.specs.Refusals.{max_cells}
 use Rattle.flat_runs.specs.Meanings.{Place, Meaning}
 use Rattle.flat_runs.specs.Adding.{HasOwnNets, AddsItem}
 use Rattle.flat_runs.specs.Parts.{StandsBelow, AreJoints, with_joints}
+use Rattle.flat_assigns.specs.declared.refusal.AssignError.{AssignError}
+use Rattle.flat_assigns.specs.declared.refusal.AssignError.TheVariants.{TooMany, Memory}
 
 -- What holds of a builder from item to item: signals have nets of their own, and all stands below the next net.
 pub record IsReady (b : Building) : Type 0 where
@@ -23,7 +27,14 @@ pub record IsBuilt (old new : Building) (m : Meaning) (added : List Made) : Type
   pub made : map made_of more ≡ added
   pub registers : new.registers ≡ old.registers
   pub declared : new.declared ≡ old.declared
+  pub starts : new.starts ≡ old.starts
 
 -- The places were joined to bits, from the lowest on.
 abbrev pub IsJoinedTo : (old new : Building) → List (Option Place) → List Bit → Type 0
 IsJoinedTo old new left bits = (joints : List Joint) × AreJoints old left bits joints × (new ≡ with_joints old joints)
+
+-- why there is no room: there would be so many cells, or there is no memory
+abbrev pub IsLimit : ℕ → AssignError → Type 0
+IsLimit cells (TooMany Cells) = max_cells < cells
+IsLimit cells Memory = Unit {0}
+IsLimit cells other = ⊥

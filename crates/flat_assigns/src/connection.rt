@@ -3,7 +3,7 @@ ghost use Rattle.std.specs.Prelude.{◌≡◌, ◌+◌, ◌<◌, ◌≤◌, [], 
 ghost use Rattle.vlog_meaning.specs.declared.fault.Fault.{Fault as Wrong};
 ghost use Rattle.vlog_meaning.specs.Answers.{least};
 ghost use Rattle.vlog_meaning.specs.Scopes.{names_of};
-ghost use Rattle.vlog_meaning.specs.Senses.{IsWhole};
+ghost use Rattle.vlog_meaning.specs.Senses.{sense, IsWhole, IsContext};
 ghost use Rattle.elab_expr.specs.Building.{HasSignals, signal};
 ghost use Rattle.elab_expr.specs.Expressions.{elab_error};
 ghost use Rattle.elab_expr.specs.Refusals.{IsShort};
@@ -19,13 +19,14 @@ use vlog_meaning::{Scope, Shape, fault_in, shape_of};
 use vlog_syntax::Expr;
 
 /// The width and sign at which a right side is evaluated where so many bits are written.
-fn right_shape(right: &Expr, scope: &Scope, width: u8) -> Shape
+pub(crate) fn right_shape(right: &Expr, scope: &Scope, width: u8) -> Shape
     requires whole { IsWhole (names_of scope.now) right.now }
     requires narrow { width ≤ 128 }
     ensures shape { result ≡ right_shape (names_of scope.now) right.now width }
     ensures some { 1 ≤ result.width }
     ensures narrow { result.width ≤ 128 }
     ensures wide { width ≤ result.width }
+    ensures context { IsContext (sense (names_of scope.now) right.now).shape result }
 {
     let own = shape_of(right, scope);
     Shape {

@@ -1,7 +1,14 @@
-//! The connections of instances become cells and joints: they are continuous assignments (IEEE 1364-2005, 12.3.9).
+//! Continuous assignments and the connections of instances become cells and joints (IEEE 1364-2005, 6.1 and 12.3.9).
 #![tactic(auto)]
 
+mod assign;
 mod connection;
 mod joining;
+mod refusal;
+mod scan;
+mod second;
+mod slice;
 
+pub use assign::build_assign;
 pub use connection::{build_input, tie_input};
+pub use refusal::{AssignError, Refusal};

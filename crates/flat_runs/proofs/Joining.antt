@@ -12,7 +12,8 @@ use Rattle.vlog_meaning.specs.Scopes.{Store}
 use Rattle.elab_expr.specs.declared.builder.Joint.{Joint}
 use Rattle.elab_expr.specs.Building.{Building, RunsIn, AllBelow, PortsBelow, signal, store}
 use Rattle.flat_runs.specs.Meanings.{Place, LeftIs}
-use Rattle.flat_runs.specs.Adding.{HasOwnNets, IsBit, IsJoined, IsStored, IsWritten, Extended, Extends}
+use Rattle.elab_expr.specs.Written.{IsJoined, IsStored}
+use Rattle.flat_runs.specs.Adding.{HasOwnNets, IsBit, IsWritten, Extended, Extends}
 use Rattle.flat_runs.specs.Parts.{with_joints, AreJoints, AreJointsBelow, whole, AllJoin}
 use Rattle.flat_runs.specs.Laws.{AssignsAdd, JointsStandBelow, VariablesStandBelow}
 use Rattle.flat_runs.proofs.Lists.{contains_first, contains_more, contains_none, contains_cases, get_contains, contains_get}

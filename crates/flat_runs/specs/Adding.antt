@@ -1,6 +1,5 @@
 -- What a call that builds an item does to the runs of a builder.
 use Rattle.std.specs.Prelude.{◌≡◌, ◌⊎◌, ℕ, ◌<◌, ◌≤◌, List, [], ◌∷◌, ◌++◌, Some, slice_get, length}
-use Rattle.std.specs.List.{Contains}
 use Rattle.netlist_core.specs.declared.bit.Bit.{Bit}
 use Rattle.netlist_core.specs.declared.bit.Bit.TheVariants.{Net}
 use Rattle.netlist_core.specs.declared.port.Register.{Register}
@@ -10,6 +9,7 @@ use Rattle.netlist_core.specs.Drivers.{times_at}
 use Rattle.netlist_core.specs.Checked.{AllPortsNets}
 use Rattle.vlog_meaning.specs.Scopes.{Store}
 use Rattle.elab_expr.specs.Building.{Building, RunsIn, PortsBelow, signal, store}
+use Rattle.elab_expr.specs.Written.{IsJoined, IsStored}
 use Rattle.flat_runs.specs.Meanings.{Meaning, Says, Taken, leaves, Writes}
 
 -- Signals have nets of their own: each bit is a net that stands there, and each net is one bit of one signal.
@@ -21,13 +21,6 @@ pub record HasOwnNets (b : Building) : Type 0 where
 -- net n is bit i of signal k
 abbrev pub IsBit : Building → ℕ → ℕ → ℕ → Type 0
 IsBit b k i n = slice_get (signal b k) i ≡ Some (Net n)
-
--- the net is joined, and it is a bit of a register
-abbrev pub IsJoined : Building → ℕ → Type 0
-IsJoined b n = (bit : Bit) × Contains b.joints (record { net = n; bit = bit })
-
-abbrev pub IsStored : Building → ℕ → Type 0
-IsStored b n = (r : Register) × Contains b.registers r × Contains r.q (Net n)
 
 -- bit i of signal k is written
 abbrev pub IsWritten : Building → ℕ → ℕ → Type 0

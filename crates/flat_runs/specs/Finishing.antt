@@ -11,7 +11,8 @@ use Rattle.netlist_core.specs.Numbers.{digit}
 use Rattle.netlist_core.specs.Runs.{bits_at}
 use Rattle.elab_expr.specs.Building.{Building, signal}
 use Rattle.flat_runs.specs.Designs.{Design}
-use Rattle.flat_runs.specs.Adding.{IsBit, IsStored, IsWritten, HasOwnNets}
+use Rattle.elab_expr.specs.Written.{IsStored}
+use Rattle.flat_runs.specs.Adding.{IsBit, IsWritten, HasOwnNets}
 
 -- A builder with the design's signals alone.
 pub record Begins (b : Building) (design : Design) : Type 0 where

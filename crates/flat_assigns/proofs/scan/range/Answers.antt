@@ -1,0 +1,20 @@
+use Rattle.std.proofs.Common.{refl}
+use Rattle.vlog_meaning.specs.Scopes.{names_of}
+use Rattle.flat_assigns.proofs.Leaves.{range_bound, range_form, range_kept, range_refused}
+use Rattle.flat_assigns.proofs.scan.range.Goals as goal
+
+pub returns-in-Some : goal.returns-in-Some
+returns-in-Some c =
+    range_refused (names_of c.args.scope.now) c.args.slices.now.items c.args.slices.now.items c.args.left.now c.args.name.now c.args.lsb.now c.in_ok-form.form c.fault_in.result c.constant_target-target.result c.earlier.result c.in-Some.field-0 c.requires c.in_ok-form.ensures c.fault_in.ensures c.constant_target-target.ensures c.earlier.ensures.earlier c.in-Some.is refl
+
+pub shape_of-size-requires-in-None : goal.shape_of-size-requires-in-None
+shape_of-size-requires-in-None c =
+    range_form (names_of c.args.scope.now) c.args.left.now c.args.name.now c.args.lsb.now c.in_ok-form.form c.fault_in.result c.constant_target-target.result c.earlier.result c.requires c.in_ok-form.ensures c.fault_in.ensures c.constant_target-target.ensures c.earlier.ensures.earlier c.in-None.is
+
+pub bound_of-requires : goal.bound_of-requires
+bound_of-requires c =
+    range_bound (names_of c.args.scope.now) c.args.left.now c.args.name.now c.args.lsb.now c.in_ok-form.form c.fault_in.result c.constant_target-target.result c.earlier.result c.requires c.in_ok-form.ensures c.fault_in.ensures c.constant_target-target.ensures c.earlier.ensures.earlier c.in-None.is
+
+pub returns : goal.returns
+returns c =
+    range_kept (names_of c.args.scope.now) c.args.slices.now.items c.keep.new.slices.items c.args.left.now c.args.name.now c.args.lsb.now c.in_ok-form.form c.fault_in.result c.constant_target-target.result c.earlier.result c.bound_of.result c.shape_of-size.result c.of.result c.requires c.in_ok-form.ensures c.fault_in.ensures c.constant_target-target.ensures c.earlier.ensures.earlier c.in-None.is c.bound_of.ensures c.shape_of-size.ensures.shape c.of.ensures.part c.of.ensures.inside c.in_ok-keep-in-None.ensures
