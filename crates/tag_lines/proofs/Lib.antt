@@ -1,0 +1,3 @@
+pub mod PartList
+pub mod Rooms
+pub mod UseList
