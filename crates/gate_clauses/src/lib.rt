@@ -1,0 +1,6 @@
+//! Gates as clauses.
+#![tactic(auto)]
+
+mod encode;
+
+pub use encode::miter;

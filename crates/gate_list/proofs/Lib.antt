@@ -1,0 +1,4 @@
+pub mod Adding
+pub mod Laying
+pub mod Same
+pub mod Values
