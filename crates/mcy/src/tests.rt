@@ -3,12 +3,15 @@ use keeper_sqlite::SqlKeeper;
 use mcy_base::{Bytes, FileList, SourceFile, Text};
 use mcy_keeper::{KeepError, Keeper};
 use mcy_outside::{CleanFiles, MemorySink};
-use mcy_top::{AND_GATE_PROJECT, Outcome, mcy_call};
+use mcy_top::{Outcome, mcy_call};
 use sqlite::{Connection, Files, Options};
 use sqlite_disk::{Crash, Fuse, Memory};
 use std::alloc::{AllocError, Global};
 use std::process::Abort;
 use std::test::Fail;
+
+const PROJECT: &str =
+    "[options]\nsize 10\nmodes inv\ntags CHANGED NOCHANGE\n[script]\nread_verilog g.v\nprep -top g\n[files]\ng.v\n[logic]\nif result(\"same\") == \"PASS\":\n    tag(\"NOCHANGE\")\nelse:\n    tag(\"CHANGED\")\n[test same]\neq\nexpect PASS FAIL\n";
 
 const AND_GATE: &str = "module g(input a, input b, output y);\n  assign y = a & b;\nendmodule\n";
 
@@ -26,7 +29,7 @@ fn file(alloc: Global, name: &str, text: &str) -> Result<SourceFile, AllocError>
 /// The project and the and gate.
 fn campaign(alloc: Global) -> Result<CleanFiles, AllocError> {
     let mut files = Vec::new(alloc);
-    files.push(file(alloc, "config.mcy", AND_GATE_PROJECT)?)?;
+    files.push(file(alloc, "config.mcy", PROJECT)?)?;
     files.push(file(alloc, "g.v", AND_GATE)?)?;
     Ok(CleanFiles::new(alloc, FileList::from_vec(files)))
 }

@@ -1,5 +1,5 @@
 //! Files in memory whose reads never fail.
-ghost use Rattle.std.specs.Prelude.{◌≡◌, Some, [], IsErrOf, option_map};
+ghost use Rattle.std.specs.Prelude.{◌≡◌, ◌≤◌, Some, [], IfOk, IsErrOf, length, option_map};
 ghost use Rattle.mcy_outside.specs.Files.{Reads, look_up};
 
 use crate::files::{FileError, SourceFiles};
@@ -49,6 +49,7 @@ pub(crate) fn look_up<'a>(files: &'a [SourceFile], name: &str) -> Option<&'a [u8
 /// A copy of the bytes, if there are no more than `max`.
 pub(crate) fn copy_within(alloc: Global, bytes: &[u8], max: u32) -> Result<Vec<u8>, FileError>
     ensures reads { Reads (Some (λ name. Some bytes.now)) [] max result }
+    ensures few { IfOk result (λ copy. length copy.items ≤ max) }
     ensures works { IsErrOf result FileError.Failed → ⊥ }
 {
     if bytes.len() > max as usize {

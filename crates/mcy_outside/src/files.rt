@@ -2,7 +2,7 @@
 //!
 //! `held` is what is there under each name, where the files tell it; no read changes it. `faults` counts
 //! the reads that failed: it never falls, and rises in each read that answers `Failed`.
-ghost use Rattle.std.specs.Prelude.{◌≡◌, ℕ, Option, IsErrOf};
+ghost use Rattle.std.specs.Prelude.{◌≡◌, ◌≤◌, ℕ, Option, IfOk, IsErrOf, length};
 ghost use Rattle.mcy_base.specs.Causes.{IsCaused};
 ghost use Rattle.mcy_outside.specs.Files.{Held, Reads};
 
@@ -31,5 +31,6 @@ pub trait SourceFiles {
     fn read(&mut self, name: &str, max: u32) -> Result<Vec<u8>, FileError>
         ensures same { held self.new ≡ held self.old }
         ensures reads { Reads (held self.old) name.now max result }
+        ensures few { IfOk result (λ bytes. length bytes.items ≤ max) }
         ensures cause { IsCaused (faults self.old) (faults self.new) (IsErrOf result FileError.Failed) };
 }

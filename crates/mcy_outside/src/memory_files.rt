@@ -2,7 +2,7 @@
 //!
 //! `files` are the files; `failing` has the numbers of the calls that fail; `next` is the number of the
 //! next call, `None` once no `u64` numbers it; `faults` is how many calls have failed.
-ghost use Rattle.std.specs.Prelude.{◌≡◌, Some};
+ghost use Rattle.std.specs.Prelude.{◌≡◌, ◌≤◌, IfOk, Some, length};
 ghost use Rattle.mcy_outside.specs.Files.{look_up};
 ghost use Rattle.mcy_outside.specs.MemoryFiles.{ReadsOnce, is_listed};
 
@@ -62,7 +62,8 @@ impl SourceFiles for MemoryFiles {
     ghost faults = { λ f. f.faults };
 
     fn read(&mut self, name: &str, max: u32) -> Result<Vec<u8>, FileError>
-        ensures { ReadsOnce self.old self.new name.now max result }
+        ensures once { ReadsOnce self.old self.new name.now max result }
+        ensures few { IfOk result (λ bytes. length bytes.items ≤ max) }
     {
         let fails = is_listed(self.failing.as_slice(), self.next);
         self.next = call_after(self.next);

@@ -2,7 +2,7 @@
 //!
 //! Nothing is known of what they hold, so they do not tell it: contracts see the count of faults alone.
 //! What is read from a reader whose bytes are known is proved of `read_within`.
-ghost use Rattle.std.specs.Prelude.{◌≡◌, ◌↔◌, None, [], option_map, Some};
+ghost use Rattle.std.specs.Prelude.{◌≡◌, ◌↔◌, ◌≤◌, None, [], IfOk, length, option_map, Some};
 ghost use Rattle.mcy_outside.specs.Files.{Reads};
 
 use crate::files::{FileError, SourceFiles};
@@ -43,7 +43,9 @@ impl<R: Files> RealFiles<R> {
 
     /// All bytes of the file of this name, of which there may be `max`. What is no regular file is not
     /// opened: a FIFO would wait for its writer, and a device may have no end.
-    fn read_file(&self, name: &str, max: u32) -> Result<Vec<u8>, FileError> {
+    fn read_file(&self, name: &str, max: u32) -> Result<Vec<u8>, FileError>
+        ensures { IfOk result (λ bytes. length bytes.items ≤ max) }
+    {
         let metadata = fs::metadata(&self.files, name).map_err(|error| open_error(error.kind()))?;
         if !metadata.is_file() {
             return Err(FileError::Failed);
@@ -68,7 +70,8 @@ fn open_error(kind: ErrorKind) -> FileError
 /// All bytes that a reader gives, of which there may be `max`. It takes at most one more from the reader,
 /// which tells whether there are too many.
 fn read_within<R: Read + Drop>(alloc: Global, reader: R, max: u32) -> Result<Vec<u8>, FileError>
-    ensures { Reads (option_map (λ xs _. Some xs) (R.remaining reader)) [] max result }
+    ensures reads { Reads (option_map (λ xs _. Some xs) (R.remaining reader)) [] max result }
+    ensures few { IfOk result (λ bytes. length bytes.items ≤ max) }
 {
     let mut bytes = Vec::new(alloc);
     match reader.take(u64::from(max) + 1).read_to_end(&mut bytes) {

@@ -1,36 +1,31 @@
 -- A call that is ready and meets no fault succeeds, or finds no memory.
-use Rattle.std.proofs.Common.{◌≡◌, ◌≢◌, ◌⊎◌, inl, inr, arith, ℕ, ◌<◌, ◌≤◌, List, [], length, refl, sym, ap, subst, ◌∙◌, Option, None, Some}
+use Rattle.std.proofs.Common.{◌≡◌, ◌≢◌, ◌⊎◌, inl, inr, arith, ℕ, ◌≤◌, List, [], length, refl, sym, ap, subst, ◌∙◌, Option, None, Some}
 use Rattle.mcy_keeper.specs.declared.book.Book.{Book}
 use Rattle.mcy_keeper.specs.Books.{IsBlank}
+use Rattle.mcy_base.specs.declared.file.SourceFile.{SourceFile}
 use Rattle.mcy_outside.specs.Files.{Held, Gives, IsLarge}
+use Rattle.project_file.specs.declared.project.Project.{Project}
 use Rattle.result_book.specs.declared.check.BookError.{BookError}
 use Rattle.result_book.specs.declared.check.BookError.TheVariants.{Stray, Memory as NoMemoryFor}
 use Rattle.result_book.specs.Rows.{IsWellFormed}
 use Rattle.mcy_top.specs.declared.command.Command.{Command}
 use Rattle.mcy_top.specs.declared.command.Command.TheVariants.{Init, Run, List as Listing, Status}
 use Rattle.mcy_top.specs.declared.prepared.Prepared.{Prepared}
-use Rattle.mcy_top.specs.declared.thin.ThinModule.{ThinModule}
-use Rattle.mcy_top.specs.declared.outcome.Part.TheVariants.{Project, Source}
 use Rattle.mcy_top.specs.declared.outcome.Refusal.{Refusal}
-use Rattle.mcy_top.specs.declared.outcome.Refusal.TheVariants.{SourceBad as RefusedSource, Missing as RefusedMissing, TooLarge as RefusedTooLarge, ReadFault as RefusedRead, Memory as RefusedMemory, Unbuilt as RefusedUnbuilt}
+use Rattle.mcy_top.specs.declared.outcome.Refusal.TheVariants.{ProjectBad as RefusedProject, SourceBad as RefusedSource, Missing as RefusedMissing, TooLarge as RefusedTooLarge, ReadFault as RefusedRead, Memory as RefusedMemory, Unbuilt as RefusedUnbuilt}
 use Rattle.mcy_top.specs.declared.outcome.BookRefusal.{BookRefusal}
 use Rattle.mcy_top.specs.declared.outcome.BookRefusal.TheVariants.{NoCampaign as RefusedNone, AlreadyBegun as RefusedBegun, BookBad as RefusedBook, Memory as NoMemory}
 use Rattle.mcy_top.specs.declared.outcome.Outcome.{Outcome}
-use Rattle.mcy_top.specs.declared.outcome.Outcome.TheVariants.{Done, Unfinished, Usage, SourceBad, Missing, TooLarge, NoCampaign, AlreadyBegun, BookBad, ReadFault, KeeperFault, WriteFault, Memory, Unbuilt}
-use Rattle.mcy_top.specs.Limits.{max_bytes, max_free_bits}
+use Rattle.mcy_top.specs.declared.outcome.Outcome.TheVariants.{Done, Unfinished, Usage, ProjectBad, SourceBad, Missing, TooLarge, NoCampaign, AlreadyBegun, BookBad, ReadFault, KeeperFault, WriteFault, Memory, Unbuilt}
+use Rattle.mcy_top.specs.Limits.{max_bytes}
 use Rattle.mcy_top.specs.Commands.{stop_of}
-use Rattle.mcy_top.specs.Projects.{IsProject}
-use Rattle.mcy_top.specs.ThinModules.{IsSource, input_names}
-use Rattle.mcy_top.specs.Campaigns.{config_name, meta_of, source_name, Exceeds, IsPlan, Lacks}
-use Rattle.mcy_top.specs.Reads.{IsRead, IsUnmade}
+use Rattle.mcy_top.specs.Campaigns.{config_name, meta_of, Exceeds, IsPlan, Lacks}
+use Rattle.mcy_top.specs.Reads.{AtProject, AtSources, IsUnmade, IsUntaken, IsUntakenDesign}
 use Rattle.mcy_top.specs.BookRefusals.{IsBookBad, RefusesBook}
 use Rattle.mcy_top.specs.Life.{Answered, Answers, Early, EndsEarly, HasCause, Life, Takes}
 use Rattle.mcy_top.specs.Complete.{Completes, IsReadable, IsReady, NoneRose}
-use Rattle.mcy_top.proofs.ThinText.{source_once}
 use Rattle.mcy_top.proofs.Plans.{plan_meta}
-
-given_same : (held : Option (List ℕ)) (max : ℕ) (a b : List ℕ) → Gives held max a → Gives held max b → a ≡ b
-given_same held max a b one two = let is : Some a ≡ Some b = sym one.same ∙ two.same in cc
+use Rattle.mcy_top.proofs.Takes.{given_same, project_same, read_there, sources_same, untaken_design_not, untaken_not}
 
 -- what a readable map rules out
 lacks_not : (map : Held) (name bytes : List ℕ) → Gives (map name) max_bytes bytes → ¬ Lacks (Some map) name
@@ -41,25 +36,31 @@ exceeds_not map name bytes given large =
     let more : IsLarge (Some bytes) max_bytes = subst (λ (o : Option (List ℕ)). IsLarge o max_bytes) given.same large in
     let few : length bytes ≤ max_bytes = given.few in omega arith
 
--- each file that is read is there
-given_at : (held : Option Held) (r : IsReadable held) (name : List ℕ) → IsRead (Some r.map) name → (bytes : List ℕ) × Gives (r.map name) max_bytes bytes
-given_at held r name (inl is) = (r.config, subst (λ (n : List ℕ). Gives (r.map n) max_bytes r.config) (sym is) r.got_config)
-given_at held r name (inr is) = (r.bytes, subst (λ (n : List ℕ). Gives (r.map n) max_bytes r.bytes) (sym is.0) r.got_source)
-
 -- files that are accepted are refused for faults of reading and want of memory alone
-unmade_not : (held : Option Held) (r : IsReadable held) (refusal : Refusal) → IsUnmade (Some r.map) refusal → ((name : List ℕ) → refusal ≢ RefusedRead name) → refusal ≡ RefusedMemory
-unmade_not held r (RefusedMissing name) why fault = let at = given_at held r name why.0 in absurd (lacks_not r.map name at.0 at.1 why.1)
-unmade_not held r (RefusedTooLarge name) why fault = let at = given_at held r name why.0 in absurd (exceeds_not r.map name at.0 at.1 why.1)
-unmade_not held r (RefusedRead name) why fault = absurd (fault name refl)
-unmade_not held r (RefusedUnbuilt Project) (config, got, bad) fault = absurd (bad (subst IsProject (given_same (r.map config_name) max_bytes r.config config r.got_config got) r.project))
-unmade_not held r (RefusedUnbuilt Source) (source, got, bad) fault = absurd (bad r.parsed (subst (λ (b : List ℕ). IsSource b r.parsed) (given_same (r.map source_name) max_bytes r.bytes source r.got_source got.got) r.text))
-unmade_not held r (RefusedSource error) why fault =
-    let bytes : r.bytes ≡ why.source = given_same (r.map source_name) max_bytes r.bytes why.source r.got_source why.got.got in
-    let same : r.parsed ≡ why.parsed = source_once why.source r.parsed why.parsed (subst (λ (b : List ℕ). IsSource b r.parsed) bytes r.text) why.text in
-    let many : max_free_bits < length (input_names why.parsed.ports) = why.many in
-    let few : length (input_names why.parsed.ports) ≤ max_free_bits = subst (λ (m : ThinModule). length (input_names m.ports) ≤ max_free_bits) same r.few in
-    absurd (omega arith)
-unmade_not held r RefusedMemory why fault = refl
+pub unmade_not : (held : Option Held) (r : IsReadable held) (refusal : Refusal) → IsUnmade (Some r.map) refusal → ((name : List ℕ) → refusal ≢ RefusedRead name) → refusal ≡ RefusedMemory
+unmade_not held r refusal why fault = go refusal why fault
+  where
+    at_project : (q : Refusal) → AtProject (Some r.map) q → q ≢ RefusedMemory → ⊥
+    at_project q at some =
+        let config : at.config ≡ r.got.before.config = given_same (r.map config_name) max_bytes at.config r.got.before.config at.got r.got.before.got in
+        untaken_not r.got.before.config r.project q r.got.before.says r.got.before.built some (subst (λ (c : List ℕ). IsUntaken c q) config at.why)
+
+    at_sources : (q : Refusal) → AtSources (Some r.map) q → q ≢ RefusedMemory → ⊥
+    at_sources q at some =
+        let project : at.project ≡ r.project = project_same r.map at.project r.project at.got.before r.got.before in
+        let files : at.files ≡ r.files = sources_same r.map at.project r.project at.files r.files at.got r.got in
+        let bad : IsUntakenDesign r.project r.files q = subst (λ (p : Project). IsUntakenDesign p r.files q) project (subst (λ (fs : List SourceFile). IsUntakenDesign at.project fs q) files at.why) in
+        untaken_design_not r.project r.files r.parsed q r.design r.all r.few some bad
+
+    go : (q : Refusal) → IsUnmade (Some r.map) q → ((name : List ℕ) → q ≢ RefusedRead name) → q ≡ RefusedMemory
+    go (RefusedMissing name) why fault = let at = read_there r.map r.project r.files name r.got why.0 in absurd (lacks_not r.map name at.0 at.1 why.1)
+    go (RefusedTooLarge name) why fault = let at = read_there r.map r.project r.files name r.got why.0 in absurd (exceeds_not r.map name at.0 at.1 why.1)
+    go (RefusedRead name) why fault = absurd (fault name refl)
+    go (RefusedProject error) why fault = absurd (at_project (RefusedProject error) why (λ is. cc))
+    go (RefusedUnbuilt part) (inl at) fault = absurd (at_project (RefusedUnbuilt part) at (λ is. cc))
+    go (RefusedUnbuilt part) (inr at) fault = absurd (at_sources (RefusedUnbuilt part) at (λ is. cc))
+    go (RefusedSource error) why fault = absurd (at_sources (RefusedSource error) why (λ is. cc))
+    go RefusedMemory why fault = refl
 
 -- A book that is taken is not refused.
 
@@ -68,7 +69,7 @@ blank_meta book empty = ap (λ (b : Book). b.meta) empty
 
 -- a campaign's book is begun
 form_meta : (c : Prepared) (book : Book) → IsPlan c → IsWellFormed c.campaign book → book.meta ≢ []
-form_meta c book plan form none = let is : meta_of plan.config plan.bytes ≡ [] = sym (plan_meta c plan) ∙ sym form.meta ∙ none in cc
+form_meta c book plan form none = let is : meta_of plan.config plan.files ≡ [] = sym (plan_meta c plan) ∙ sym form.meta ∙ none in cc
 
 -- what a command takes is blank, or is the campaign's book
 taken_as : (command : Command) (c : Prepared) (book : Book) → Takes command c book → IsBlank book ⊎ IsWellFormed c.campaign book
@@ -125,6 +126,7 @@ completes words held holds leaves leaves' written written' taken taken' f f' k k
     go (Missing name) a h e = let is : RefusedMissing name ≡ RefusedMemory = bad (RefusedMissing name) a.1 (λ n is. cc) in cc
     go (TooLarge name) a h e = let is : RefusedTooLarge name ≡ RefusedMemory = bad (RefusedTooLarge name) a.1 (λ n is. cc) in cc
     go (Unbuilt part) a h e = let is : RefusedUnbuilt part ≡ RefusedMemory = bad (RefusedUnbuilt part) a.1 (λ n is. cc) in cc
+    go (ProjectBad error) a h e = let is : RefusedProject error ≡ RefusedMemory = bad (RefusedProject error) a.1 (λ n is. cc) in cc
     go (SourceBad error) a h e = let is : RefusedSource error ≡ RefusedMemory = bad (RefusedSource error) a.1 (λ n is. cc) in cc
     go (ReadFault name) a h e = absurd (none.reads h)
     go KeeperFault a h e = absurd (none.keeps h)
@@ -139,7 +141,7 @@ completes words held holds leaves leaves' written written' taken taken' f f' k k
     takes = subst (λ (d : Command). Takes d life.prepared life.loaded) (sym same) (ready.takes life.prepared life.loaded life.made life.allowed life.found)
 
     plan : IsPlan life.prepared
-    plan = record { config = life.made.config; bytes = life.made.bytes; made = life.made.made }
+    plan = record { config = life.made.config; files = life.made.files; made = life.made.made }
 
     refused : (r : BookRefusal) → RefusesBook life.command life.prepared life.loaded r → r ≡ NoMemory
     refused r refuses = taken_not_refused life.command life.prepared life.loaded r plan takes refuses

@@ -1,35 +1,32 @@
 -- Each refusal comes exactly where its cause holds.
-use Rattle.std.proofs.Common.{◌≡◌, ◌⊎◌, inl, inr, arith, ℕ, ◌<◌, ◌≤◌, List, [], length, refl, sym, ap, subst, ◌∙◌, Option, None, Some}
-use Rattle.mcy_base.specs.declared.kind.Kind.TheVariants.{FreeBits}
+use Rattle.std.proofs.Common.{◌≡◌, ◌≢◌, ◌⊎◌, inl, inr, arith, ℕ, ◌≤◌, List, length, refl, sym, ap, subst, ◌∙◌, Option, None, Some}
+use Rattle.mcy_base.specs.declared.file.SourceFile.{SourceFile}
 use Rattle.mcy_keeper.specs.declared.book.Book.{Book}
 use Rattle.mcy_outside.specs.Files.{Held, Gives, IsLarge}
+use Rattle.project_file.specs.declared.project.Project.{Project}
+use Rattle.project_file.specs.Projects.{design_files}
 use Rattle.result_book.specs.declared.check.BookError.{BookError}
 use Rattle.result_book.specs.declared.check.BookError.TheVariants.{Stray, Memory as NoMemoryFor}
 use Rattle.mcy_top.specs.declared.command.Command.{Command}
 use Rattle.mcy_top.specs.declared.prepared.Prepared.{Prepared}
-use Rattle.mcy_top.specs.declared.thin.ThinModule.{ThinModule}
-use Rattle.mcy_top.specs.declared.outcome.Part.TheVariants.{Project, Source}
-use Rattle.mcy_top.specs.declared.outcome.SourceFault.TheVariants.{TooMany}
-use Rattle.mcy_top.specs.declared.outcome.SourceError.{SourceError}
 use Rattle.mcy_top.specs.declared.outcome.Refusal.{Refusal}
-use Rattle.mcy_top.specs.declared.outcome.Refusal.TheVariants.{SourceBad as RefusedSource, Missing as RefusedMissing, TooLarge as RefusedTooLarge, ReadFault as RefusedRead, Memory as RefusedMemory, Unbuilt as RefusedUnbuilt}
+use Rattle.mcy_top.specs.declared.outcome.Refusal.TheVariants.{ProjectBad as RefusedProject, SourceBad as RefusedSource, Missing as RefusedMissing, TooLarge as RefusedTooLarge, ReadFault as RefusedRead, Memory as RefusedMemory, Unbuilt as RefusedUnbuilt}
 use Rattle.mcy_top.specs.declared.outcome.BookRefusal.{BookRefusal}
 use Rattle.mcy_top.specs.declared.outcome.BookRefusal.TheVariants.{NoCampaign as RefusedNone, AlreadyBegun as RefusedBegun, BookBad as RefusedBook, Memory as NoMemory}
 use Rattle.mcy_top.specs.declared.outcome.Outcome.{Outcome}
-use Rattle.mcy_top.specs.declared.outcome.Outcome.TheVariants.{Done, Unfinished, Usage, SourceBad, Missing, TooLarge, NoCampaign, AlreadyBegun, BookBad, ReadFault, KeeperFault, WriteFault, Memory, Unbuilt}
-use Rattle.mcy_top.specs.Limits.{max_bytes, max_free_bits}
+use Rattle.mcy_top.specs.declared.outcome.Outcome.TheVariants.{Done, Unfinished, Usage, ProjectBad, SourceBad, Missing, TooLarge, NoCampaign, AlreadyBegun, BookBad, ReadFault, KeeperFault, WriteFault, Memory, Unbuilt}
+use Rattle.mcy_top.specs.Limits.{max_bytes}
 use Rattle.mcy_top.specs.Commands.{command_of}
-use Rattle.mcy_top.specs.Projects.{IsProject}
-use Rattle.mcy_top.specs.ThinModules.{IsSource, input_names}
-use Rattle.mcy_top.specs.Campaigns.{config_name, source_name, IsMade, IsPlan}
-use Rattle.mcy_top.specs.Reads.{HasProject, IsUnmade}
+use Rattle.mcy_top.specs.Campaigns.{config_name, IsMade, IsPlan}
+use Rattle.mcy_top.specs.Reads.{AtSources, HasProject, IsNext, IsUnmade, IsUntaken, IsUntakenDesign}
 use Rattle.mcy_top.specs.Outcomes.{book_outcome, outcome_of}
 use Rattle.mcy_top.specs.BookRefusals.{IsBookBad, RefusesBook}
 use Rattle.mcy_top.specs.Life.{Answered, Answers, Commands, IsAccepted, Takes}
 use Rattle.mcy_top.specs.Exact.{IsCutShort, RefusesFiles, RefusesFor}
-use Rattle.mcy_top.proofs.ThinText.{source_once}
 use Rattle.mcy_top.proofs.OneFault.{refused_for_one}
-use Rattle.mcy_top.proofs.Completing.{begun_not_bad, blank_meta, blank_not_bad, taken_not_refused}
+use Rattle.mcy_top.specs.Complete.{IsReadable}
+use Rattle.mcy_top.proofs.Completing.{begun_not_bad, blank_meta, blank_not_bad, taken_not_refused, unmade_not}
+use Rattle.mcy_top.proofs.Takes.{project_same, next_once, source_there, sources_same, untaken_design_once, untaken_not, untaken_once, IsThere}
 
 -- What is held under a name: nothing, too much, or these bytes.
 data Found : Type 0 where
@@ -64,94 +61,128 @@ found_once held (Bytes a) Nothing h k = absurd (given_not_none held a k h)
 found_once held (Bytes a) TooMuch h k = absurd (given_not_large held a k h)
 found_once held (Bytes a) (Bytes b) h k = let is : Some a ≡ Some b = sym h.same ∙ k.same in cc
 
--- What is refused at the project file, by what is found there.
-abbrev RefusesConfig : Found → Refusal → Type 0
-RefusesConfig Nothing r = r ≡ RefusedMissing config_name
-RefusesConfig TooMuch r = r ≡ RefusedTooLarge config_name
-RefusesConfig (Bytes config) r = (r ≡ RefusedUnbuilt Project) × (¬ IsProject config)
+-- What is refused at a file, by what is found there: behind bytes it is `beyond`.
+abbrev RefusesFile : List ℕ → Found → (List ℕ → Type 0) → Refusal → Type 0
+RefusesFile name Nothing beyond r = r ≡ RefusedMissing name
+RefusesFile name TooMuch beyond r = r ≡ RefusedTooLarge name
+RefusesFile name (Bytes bytes) beyond r = beyond bytes
 
+record IsRefusal (r : Refusal) (why : Type 0) : Type 0 where
+  some : r ≢ RefusedMemory
+  cause : why
+
+-- at the project file,
 record AtConfig (map : Held) (r : Refusal) : Type 0 where
   found : Found
   is : IsFound (map config_name) found
-  why : RefusesConfig found r
+  why : RefusesFile config_name found (λ config. IsRefusal r (IsUntaken config r)) r
 
--- What is refused at the source, behind a project: the bytes are no source, or one with too many free bits.
-record HasMany (source : List ℕ) (r : Refusal) : Type 0 where
-  parsed : ThinModule
-  text : IsSource source parsed
-  many : max_free_bits < length (input_names parsed.ports)
-  is : r ≡ RefusedSource (record { file = []; fault = TooMany FreeBits })
-
-abbrev RefusesSource : Found → Refusal → Type 0
-RefusesSource Nothing r = r ≡ RefusedMissing source_name
-RefusesSource TooMuch r = r ≡ RefusedTooLarge source_name
-RefusesSource (Bytes source) r = ((r ≡ RefusedUnbuilt Source) × ((m : ThinModule) → ¬ IsSource source m)) ⊎ HasMany source r
-
-record AtSource (map : Held) (r : Refusal) : Type 0 where
-  project : HasProject (Some map)
+-- at a file of the design behind a project,
+record AtFile (map : Held) (r : Refusal) : Type 0 where
+  project : Project
+  before : HasProject (Some map) project
+  name : List ℕ
+  next : IsNext (Some map) (design_files project) name
   found : Found
-  is : IsFound (map source_name) found
-  why : RefusesSource found r
+  is : IsFound (map name) found
+  why : RefusesFile name found (λ bytes. ⊥) r
 
--- each refusal that the files decide comes at one of the two
-place_of : (map : Held) (r : Refusal) → IsUnmade (Some map) r → (¬ IsCutShort (outcome_of r)) → AtConfig map r ⊎ AtSource map r
+-- or behind all files
+record AtDesign (map : Held) (r : Refusal) : Type 0 where
+  some : r ≢ RefusedMemory
+  at : AtSources (Some map) r
+
+-- each refusal that the files decide comes at one of the three
+place_of : (map : Held) (r : Refusal) → IsUnmade (Some map) r → (¬ IsCutShort (outcome_of r)) → AtConfig map r ⊎ AtFile map r ⊎ AtDesign map r
 place_of map (RefusedMissing name) (inl at, none) whole = inl (record { found = Nothing; is = subst (λ (n : List ℕ). map n ≡ None) at none; why = ap (λ (n : List ℕ). RefusedMissing n) at })
-place_of map (RefusedMissing name) (inr at, none) whole = inr (record { project = at.1; found = Nothing; is = subst (λ (n : List ℕ). map n ≡ None) at.0 none; why = ap (λ (n : List ℕ). RefusedMissing n) at.0 })
+place_of map (RefusedMissing name) (inr (project, has, next), none) whole = inr (inl (record { project = project; before = has; name = name; next = next; found = Nothing; is = none; why = refl }))
 place_of map (RefusedTooLarge name) (inl at, large) whole = inl (record { found = TooMuch; is = subst (λ (n : List ℕ). IsLarge (map n) max_bytes) at large; why = ap (λ (n : List ℕ). RefusedTooLarge n) at })
-place_of map (RefusedTooLarge name) (inr at, large) whole = inr (record { project = at.1; found = TooMuch; is = subst (λ (n : List ℕ). IsLarge (map n) max_bytes) at.0 large; why = ap (λ (n : List ℕ). RefusedTooLarge n) at.0 })
+place_of map (RefusedTooLarge name) (inr (project, has, next), large) whole = inr (inl (record { project = project; before = has; name = name; next = next; found = TooMuch; is = large; why = refl }))
 place_of map (RefusedRead name) why whole = absurd (whole tt)
 place_of map RefusedMemory why whole = absurd (whole tt)
-place_of map (RefusedUnbuilt Project) (config, got, bad) whole = inl (record { found = Bytes config; is = got; why = (refl, bad) })
-place_of map (RefusedUnbuilt Source) (source, got, bad) whole = inr (record { project = got.before; found = Bytes source; is = got.got; why = inl (refl, bad) })
-place_of map (RefusedSource error) why whole = inr (record {
-  project = why.got.before;
-  found = Bytes why.source;
-  is = why.got.got;
-  why = inr (record { parsed = why.parsed; text = why.text; many = why.many; is = ap (λ (e : SourceError). RefusedSource e) why.is });
-})
+place_of map (RefusedProject error) at whole = inl (record { found = Bytes at.config; is = at.got; why = record { some = λ is. cc; cause = at.why } })
+place_of map (RefusedUnbuilt part) (inl at) whole = inl (record { found = Bytes at.config; is = at.got; why = record { some = λ is. cc; cause = at.why } })
+place_of map (RefusedUnbuilt part) (inr at) whole = inr (inr (record { some = λ is. cc; at = at }))
+place_of map (RefusedSource error) at whole = inr (inr (record { some = λ is. cc; at = at }))
 
-config_once : (found : Found) (r q : Refusal) → RefusesConfig found r → RefusesConfig found q → r ≡ q
+config_once : (found : Found) (r q : Refusal) → RefusesFile config_name found (λ config. IsRefusal r (IsUntaken config r)) r → RefusesFile config_name found (λ config. IsRefusal q (IsUntaken config q)) q → r ≡ q
 config_once Nothing r q h k = h ∙ sym k
 config_once TooMuch r q h k = h ∙ sym k
-config_once (Bytes config) r q h k = h.0 ∙ sym k.0
-
-source_refused_once : (found : Found) (r q : Refusal) → RefusesSource found r → RefusesSource found q → r ≡ q
-source_refused_once Nothing r q h k = h ∙ sym k
-source_refused_once TooMuch r q h k = h ∙ sym k
-source_refused_once (Bytes source) r q (inl h) (inl k) = h.0 ∙ sym k.0
-source_refused_once (Bytes source) r q (inl h) (inr k) = absurd (h.1 k.parsed k.text)
-source_refused_once (Bytes source) r q (inr h) (inl k) = absurd (k.1 h.parsed h.text)
-source_refused_once (Bytes source) r q (inr h) (inr k) = h.is ∙ sym k.is
+config_once (Bytes config) r q h k = untaken_once config r q h.some k.some h.cause k.cause
 
 -- behind a project nothing is refused at the project file
-config_passed : (map : Held) (r : Refusal) → HasProject (Some map) → ¬ AtConfig map r
-config_passed map r (config, got, project) at = (subst (λ (f : Found). RefusesConfig f r) (found_once (map config_name) at.found (Bytes config) at.is got) at.why).1 project
+config_passed : (map : Held) (r : Refusal) (p : Project) → HasProject (Some map) p → ¬ AtConfig map r
+config_passed map r p has at =
+    let found : at.found ≡ Bytes has.config = found_once (map config_name) at.found (Bytes has.config) at.is has.got in
+    let why : IsRefusal r (IsUntaken has.config r) = subst (λ (f : Found). RefusesFile config_name f (λ config. IsRefusal r (IsUntaken config r)) r) found at.why in
+    untaken_not has.config p r has.says has.built why.some why.cause
 
-place_once : (map : Held) (r q : Refusal) → AtConfig map r ⊎ AtSource map r → AtConfig map q ⊎ AtSource map q → r ≡ q
-place_once map r q (inl h) (inl k) = config_once k.found r q (subst (λ (f : Found). RefusesConfig f r) (found_once (map config_name) h.found k.found h.is k.is) h.why) k.why
-place_once map r q (inl h) (inr k) = absurd (config_passed map r k.project h)
-place_once map r q (inr h) (inl k) = absurd (config_passed map q h.project k)
-place_once map r q (inr h) (inr k) = source_refused_once k.found r q (subst (λ (f : Found). RefusesSource f r) (found_once (map source_name) h.found k.found h.is k.is) h.why) k.why
+file_bad : (map : Held) (r : Refusal) (at : AtFile map r) → ¬ IsThere map at.name
+file_bad map r at there = subst (λ (f : Found). RefusesFile at.name f (λ bytes. ⊥) r) (found_once (map at.name) at.found (Bytes there.0) at.is there.1) at.why
+
+file_refused_once : (name : List ℕ) (found : Found) (r q : Refusal) → RefusesFile name found (λ bytes. ⊥) r → RefusesFile name found (λ bytes. ⊥) q → r ≡ q
+file_refused_once name Nothing r q h k = h ∙ sym k
+file_refused_once name TooMuch r q h k = h ∙ sym k
+file_refused_once name (Bytes bytes) r q h k = absurd h
+
+file_once : (map : Held) (r q : Refusal) → AtFile map r → AtFile map q → r ≡ q
+file_once map r q h k =
+    let project : h.project ≡ k.project = project_same map h.project k.project h.before k.before in
+    let next : IsNext (Some map) (design_files k.project) h.name = subst (λ (p : Project). IsNext (Some map) (design_files p) h.name) project h.next in
+    let name : h.name ≡ k.name = next_once map (design_files k.project) h.name k.name (file_bad map r h) (file_bad map q k) next k.next in
+    let is : IsFound (map k.name) h.found = subst (λ (n : List ℕ). IsFound (map n) h.found) name h.is in
+    let found : h.found ≡ k.found = found_once (map k.name) h.found k.found is k.is in
+    let why : RefusesFile k.name k.found (λ bytes. ⊥) r = subst (λ (f : Found). RefusesFile k.name f (λ bytes. ⊥) r) found (subst (λ (n : List ℕ). RefusesFile n h.found (λ bytes. ⊥) r) name h.why) in
+    file_refused_once k.name k.found r q why k.why
+
+-- behind all files nothing is refused at one of them
+file_passed : (map : Held) (r q : Refusal) → AtDesign map q → ¬ AtFile map r
+file_passed map r q k h = file_bad map r h (source_there map k.at.project h.project k.at.files h.name k.at.got h.before h.next)
+
+design_refused_once : (map : Held) (r q : Refusal) → AtDesign map r → AtDesign map q → r ≡ q
+design_refused_once map r q h k =
+    let project : h.at.project ≡ k.at.project = project_same map h.at.project k.at.project h.at.got.before k.at.got.before in
+    let files : h.at.files ≡ k.at.files = sources_same map h.at.project k.at.project h.at.files k.at.files h.at.got k.at.got in
+    let why : IsUntakenDesign k.at.project k.at.files r = subst (λ (p : Project). IsUntakenDesign p k.at.files r) project (subst (λ (fs : List SourceFile). IsUntakenDesign h.at.project fs r) files h.at.why) in
+    untaken_design_once k.at.project k.at.files r q h.some k.some why k.at.why
+
+place_once : (map : Held) (r q : Refusal) → AtConfig map r ⊎ AtFile map r ⊎ AtDesign map r → AtConfig map q ⊎ AtFile map q ⊎ AtDesign map q → r ≡ q
+place_once map r q (inl h) (inl k) = config_once k.found r q (subst (λ (f : Found). RefusesFile config_name f (λ config. IsRefusal r (IsUntaken config r)) r) (found_once (map config_name) h.found k.found h.is k.is) h.why) k.why
+place_once map r q (inl h) (inr (inl k)) = absurd (config_passed map r k.project k.before h)
+place_once map r q (inl h) (inr (inr k)) = absurd (config_passed map r k.at.project k.at.got.before h)
+place_once map r q (inr (inl h)) (inl k) = absurd (config_passed map q h.project h.before k)
+place_once map r q (inr (inr h)) (inl k) = absurd (config_passed map q h.at.project h.at.got.before k)
+place_once map r q (inr (inl h)) (inr (inl k)) = file_once map r q h k
+place_once map r q (inr (inl h)) (inr (inr k)) = absurd (file_passed map r q k h)
+place_once map r q (inr (inr h)) (inr (inl k)) = absurd (file_passed map q r h k)
+place_once map r q (inr (inr h)) (inr (inr k)) = design_refused_once map r q h k
 
 -- files are refused for one cause
 pub refused_once : (map : Held) (r q : Refusal) → RefusesFiles map r → RefusesFiles map q → r ≡ q
 refused_once map r q h k = place_once map r q (place_of map r h.cause h.by_files) (place_of map q k.cause k.by_files)
 
 -- and make no campaign
-made_not : (map : Held) (r : Refusal) (c : Prepared) → IsMade (Some map) c → ¬ (AtConfig map r ⊎ AtSource map r)
-made_not map r c made (inl at) = config_passed map r (made.config, made.got_config, made.made.project) at
-made_not map r c made (inr at) = go (subst (λ (f : Found). RefusesSource f r) (found_once (map source_name) at.found (Bytes made.bytes) at.is made.got_source) at.why)
-  where
-    go : ¬ RefusesSource (Bytes made.bytes) r
-    go (inl h) = h.1 made.made.parsed made.made.text
-    go (inr h) =
-        let same : h.parsed ≡ made.made.parsed = source_once made.bytes h.parsed made.made.parsed h.text made.made.text in
-        let many : max_free_bits < length (input_names made.made.parsed.ports) = subst (λ (m : ThinModule). max_free_bits < length (input_names m.ports)) same h.many in
-        let few : length (input_names made.made.parsed.ports) ≤ max_free_bits = made.made.few in
-        omega arith
+abbrev readable_of : (map : Held) (c : Prepared) → IsMade (Some map) c → IsReadable (Some map)
+readable_of map c made = record {
+  map = map;
+  told = refl;
+  project = made.made.project;
+  files = made.files;
+  got = record { before = record { config = made.config; got = made.got_config; says = made.made.says; built = made.made.built }; names = made.made.names; got = made.got_files };
+  parsed = made.made.parsed;
+  design = made.made.design;
+  all = made.made.all;
+  few = made.made.few;
+}
 
 pub refused_not_made : (map : Held) (r : Refusal) (c : Prepared) → RefusesFiles map r → ¬ IsMade (Some map) c
-refused_not_made map r c h made = made_not map r c made (place_of map r h.cause h.by_files)
+refused_not_made map r c h made = h.by_files (subst (λ (q : Refusal). IsCutShort (outcome_of q)) (sym memory) tt)
+  where
+    reads : (name : List ℕ) → r ≢ RefusedRead name
+    reads name is = h.by_files (subst (λ (q : Refusal). IsCutShort (outcome_of q)) (sym is) tt)
+
+    memory : r ≡ RefusedMemory
+    memory = unmade_not (Some map) (readable_of map c made) r h.cause reads
 
 pub exact_words : (words : List (List ℕ)) (held : Option Held) (o : Outcome) → command_of words ≡ None → Answered words held o → (o ≡ Usage) ⊎ (o ≡ Memory)
 exact_words words held Usage none a = inl refl
@@ -160,6 +191,7 @@ exact_words words held (Missing name) none a = absurd (a.0 none)
 exact_words words held (TooLarge name) none a = absurd (a.0 none)
 exact_words words held (ReadFault name) none a = absurd (a.0 none)
 exact_words words held (Unbuilt part) none a = absurd (a.0 none)
+exact_words words held (ProjectBad error) none a = absurd (a.0 none)
 exact_words words held (SourceBad error) none a = absurd (a.0 none)
 exact_words words held o none a = absurd (a.asked none)
 
@@ -178,6 +210,7 @@ exact_files words map r o asked h a = go o a
     go (TooLarge name) a = inl (one (RefusedTooLarge name) a.1 (λ b. b))
     go (ReadFault name) a = inr tt
     go (Unbuilt part) a = inl (one (RefusedUnbuilt part) a.1 (λ b. b))
+    go (ProjectBad error) a = inl (one (RefusedProject error) a.1 (λ b. b))
     go (SourceBad error) a = inl (one (RefusedSource error) a.1 (λ b. b))
     go Memory a = inr tt
     go o a = absurd (none a)

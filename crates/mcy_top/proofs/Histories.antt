@@ -24,7 +24,7 @@ cut_course c start (next ∷ more) end (suc count) course = (course.0, cut_cours
 
 -- the plan of a call that has loaded a book
 plan_of : {K : Type 0} (holds : K → Book → Type 0) (leaves : K → Option Book → Type 0) (call : Call K) (life : Loads holds leaves call) → IsPlan life.prepared
-plan_of holds leaves call life = record { config = life.made.config; bytes = life.made.bytes; made = life.made.made }
+plan_of holds leaves call life = record { config = life.made.config; files = life.made.files; made = life.made.made }
 
 -- Where each book that is found satisfies P, as some book does, the lives go on from such a book.
 goes_on : {K : Type 0} (holds : K → Book → Type 0) (leaves : K → Option Book → Type 0) (P : Book → Type 0) (some : Book) → P some → (found : Option Book → Type 0) → LeavesBooks found P

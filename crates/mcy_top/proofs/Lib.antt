@@ -1,6 +1,7 @@
 pub mod Distinct
 pub mod Members
 pub mod Pieces
+pub mod Takes
 pub mod Texts
 pub mod ThinText
 pub mod Unrepeated

@@ -190,7 +190,7 @@ pub lived_of : (words : List (List ℕ)) (held : Option Held) (holds : Book → 
     → (life : Life words held holds leaves leaves' written written' taken taken' outcome) → IsLived leaves leaves' life.prepared life.loaded life.work.sure
 lived_of words held holds leaves leaves' written written' taken taken' outcome life = record {
   changes = life.work.book.changes;
-  life = record { plan = record { config = life.made.config; bytes = life.made.bytes; made = life.made.made }; course = life.work.book.course };
+  life = record { plan = record { config = life.made.config; files = life.made.files; made = life.made.made }; course = life.work.book.course };
   started = life.allowed;
   near = life.work.book.near;
 }

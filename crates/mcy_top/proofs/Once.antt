@@ -1,5 +1,5 @@
 -- A project and its source have one campaign, and what a campaign defines is one.
-use Rattle.std.proofs.Common.{◌≡◌, inl, inr, arith, ℕ, ◌+◌, Bool, true, false, MatchBool, List, [], ◌∷◌, ◌++◌, length, slice_get, Option, None, Some, refl, sym, ap, subst, ◌∙◌, codes}
+use Rattle.std.proofs.Common.{◌≡◌, inl, inr, arith, ℕ, ◌+◌, Bool, true, false, MatchBool, List, [], ◌∷◌, ◌++◌, length, map, slice_get, Option, None, Some, refl, sym, ap, subst, ◌∙◌}
 use Rattle.mcy_keeper.specs.declared.book.Book.{Book}
 use Rattle.netlist_core.specs.declared.raw.RawNetlist.{RawNetlist}
 use Rattle.mcy_top.specs.declared.site.Site.{Site}
@@ -7,38 +7,36 @@ use Rattle.mcy_top.specs.declared.thin.ThinModule.{ThinModule}
 use Rattle.mcy_top.specs.declared.prepared.Prepared.{Prepared}
 use Rattle.result_book.specs.declared.script.Ask.{Ask}
 use Rattle.result_book.specs.declared.script.Ask.TheVariants.{Need}
-use Rattle.mcy_top.specs.ThinModules.{IsSource}
+use Rattle.mcy_base.specs.declared.file.SourceFile.{SourceFile}
+use Rattle.project_file.specs.declared.project.Project.{Project}
+use Rattle.project_file.specs.Projects.{design_files, IsProject}
 use Rattle.mcy_top.specs.ThinNetlists.{netlist_of}
 use Rattle.mcy_top.specs.Sites.{sites}
 use Rattle.result_book.specs.Scripts.{Answer, ask, is_ended}
-use Rattle.mcy_top.specs.Campaigns.{campaign_of, meta_of, source_name, IsPlan}
+use Rattle.mcy_top.specs.Campaigns.{campaign_of, file_item, meta_of, IsDesign, IsPlan}
 use Rattle.result_book.specs.Rows.{IsWellFormed}
 use Rattle.mcy_top.specs.Rows.{AreTrue, IsBlankOrGood, IsTrueWord, IsTrueWordAt}
 use Rattle.source_report.specs.Texts.{lines, status_text}
 use Rattle.mcy_top.specs.Defined.{given_up, is_given_up, AreAllAnswers, AreAnswers, IsFinalText, IsWordOf, Pair}
 use Rattle.mcy_top.specs.Once.{GaveUpSame, IsEnded}
-use Rattle.mcy_top.proofs.ThinText.{source_once}
+use Rattle.mcy_top.proofs.Takes.{design_once, files_kept, project_once}
 use Rattle.mcy_top.proofs.Plans.{plan_meta}
 use Rattle.mcy_top.proofs.Finishing.{final_is}
 
 -- The campaign.
 
--- what a book keeps tells the source
-source_kept : (config source config' source' : List ℕ) → meta_of config source ≡ meta_of config' source' → source ≡ source'
-source_kept config source config' source' same =
-    let file : source_name ++ (codes "\n" ++ source) ≡ source_name ++ (codes "\n" ++ source') = cc in
-    let bytes : 103 ∷ 46 ∷ 118 ∷ 10 ∷ source ≡ 103 ∷ 46 ∷ 118 ∷ 10 ∷ source' = file in
-    cc
-
 pub plan_once : (c d : Prepared) → IsPlan c → IsPlan d → c.campaign.meta ≡ d.campaign.meta → c ≡ d
 plan_once c d one two same =
-    let kept : meta_of one.config one.bytes ≡ meta_of two.config two.bytes = sym (plan_meta c one) ∙ same ∙ plan_meta d two in
+    let kept : meta_of one.config one.files ≡ meta_of two.config two.files = sym (plan_meta c one) ∙ same ∙ plan_meta d two in
     let config : one.config ≡ two.config = cc in
-    let bytes : one.bytes ≡ two.bytes = source_kept one.config one.bytes two.config two.bytes kept in
-    let parsed : one.made.parsed ≡ two.made.parsed = source_once two.bytes one.made.parsed two.made.parsed (subst (λ (b : List ℕ). IsSource b one.made.parsed) bytes one.made.text) two.made.text in
+    let items : map file_item one.files ≡ map file_item two.files = cc in
+    let project : one.made.project ≡ two.made.project = project_once two.config one.made.project two.made.project (subst (λ (b : List ℕ). IsProject b one.made.project) config one.made.says) two.made.says in
+    let files : one.files ≡ two.files = files_kept one.files two.files (one.made.names ∙ ap design_files project ∙ sym two.made.names) items in
+    let design : IsDesign two.made.project two.files one.made.parsed = subst (λ (p : Project). IsDesign p two.files one.made.parsed) project (subst (λ (fs : List SourceFile). IsDesign one.made.project fs one.made.parsed) files one.made.design) in
+    let parsed : one.made.parsed ≡ two.made.parsed = design_once two.made.project two.files one.made.parsed two.made.parsed design two.made.design in
     let netlist : c.netlist ≡ d.netlist = one.made.netlist ∙ ap netlist_of parsed ∙ sym two.made.netlist in
     let places : c.sites ≡ d.sites = one.made.places ∙ ap (λ (m : ThinModule). sites (netlist_of m)) parsed ∙ sym two.made.places in
-    let derived : campaign_of one.config one.bytes one.made.parsed ≡ campaign_of two.config two.bytes two.made.parsed = λ i. campaign_of (config i) (bytes i) (parsed i) in
+    let derived : campaign_of one.config one.made.project one.files one.made.parsed ≡ campaign_of two.config two.made.project two.files two.made.parsed = λ i. campaign_of (config i) (project i) (files i) (parsed i) in
     let campaign : c.campaign ≡ d.campaign = one.made.campaign ∙ derived ∙ sym two.made.campaign in
     λ i. record { campaign = campaign i; sites = places i; netlist = netlist i }
 

@@ -10,7 +10,7 @@ use Rattle.mcy_top.proofs.Solved.{designs_solved, mutants_solved}
 use Rattle.mcy_top.proofs.ThinSound.{CanRun-netlist_of}
 
 pub campaigns_sound : CampaignsAreSound
-campaigns_sound c plan = subst CanRun (sym plan.made.netlist) (CanRun-netlist_of plan.made.parsed plan.made.text.thin plan.made.few)
+campaigns_sound c plan = subst CanRun (sym plan.made.netlist) (CanRun-netlist_of plan.made.parsed plan.made.design.text.thin plan.made.few)
 
 pub campaigns_solved : OrderSettles → OneAnswerBySight → CampaignsHaveOneSolution
 campaigns_solved settles answers c plan inputs state fit fit_state =

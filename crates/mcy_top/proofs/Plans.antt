@@ -17,7 +17,11 @@ use Rattle.result_book.specs.declared.campaign.Campaign.{Campaign}
 use Rattle.result_book.specs.Campaigns.{eq_kind, IsFit, IsKind}
 use Rattle.mcy_top.specs.SiteTexts.{site_text}
 use Rattle.mcy_top.specs.SiteLines.{site_line}
-use Rattle.mcy_top.specs.Campaigns.{campaign_of, meta_of, source_name, IsPlan}
+use Rattle.mcy_base.specs.declared.file.SourceFile.{SourceFile}
+use Rattle.project_file.specs.declared.project.Project.{Project}
+use Rattle.project_file.specs.declared.project.TestPlan.{TestPlan}
+use Rattle.mcy_top.specs.Projects.{TestsSame}
+use Rattle.mcy_top.specs.Campaigns.{campaign_of, first_name, meta_of, IsPlan}
 
 pub plan_small : (c : Prepared) → IsPlan c → length (input_bits c.netlist) ≤ 8
 plan_small c plan = subst (λ (netlist : RawNetlist). length (input_bits netlist) ≤ 8) (sym plan.made.netlist) (omega (arith, length-input_bits plan.made.parsed, plan.made.few))
@@ -41,22 +45,22 @@ pub true_fail : (c : Prepared) (list : List Site) (m : ℕ) (d : Site) → list 
 true_fail c list m d is below differ =
     subst (λ (o : Option Site). IsTrueWordAt c.netlist o 1) (sym (slice_get-get_or c.sites m d below)) (inr (refl, subst (λ (l : List Site). ¬ OneStepEqual (design c.netlist) (mutant c.netlist (get_or l m d))) is differ))
 
-pub plan_meta : (c : Prepared) (plan : IsPlan c) → c.campaign.meta ≡ meta_of plan.config plan.bytes
+pub plan_meta : (c : Prepared) (plan : IsPlan c) → c.campaign.meta ≡ meta_of plan.config plan.files
 plan_meta c plan = ap (λ (k : Campaign). k.meta) plan.made.campaign
 
 -- each mutation has its site
 pub plan_count : (c : Prepared) → IsPlan c → length c.campaign.mutations ≡ length c.sites
 plan_count c plan =
     let parsed : ThinModule = plan.made.parsed in
-    ap (λ (k : Campaign). length k.mutations) plan.made.campaign ∙ length-map (sites (netlist_of parsed)) (site_text (netlist_of parsed) source_name) ∙ sym (ap length plan.made.places)
+    ap (λ (k : Campaign). length k.mutations) plan.made.campaign ∙ length-map (sites (netlist_of parsed)) (site_text (netlist_of parsed) (first_name plan.files)) ∙ sym (ap length plan.made.places)
 
 are_kinds : All IsKind (eq_kind ∷ [])
 are_kinds zero d below = inl refl
 are_kinds (suc k) d below = absurd (omega (arith, below))
 
-fit_of : (config source : List ℕ) (m : ThinModule) → length (sites (netlist_of m)) ≤ 9 → IsFit (campaign_of config source m)
-fit_of config source m few =
-    let mutations : length (map (site_text (netlist_of m) source_name) (sites (netlist_of m))) ≡ length (sites (netlist_of m)) = length-map (sites (netlist_of m)) (site_text (netlist_of m) source_name) in
+fit_of : (config : List ℕ) (project : Project) (files : List SourceFile) (m : ThinModule) → TestsSame project → length (sites (netlist_of m)) ≤ 9 → IsFit (campaign_of config project files m)
+fit_of config project files m (test, one, same) few =
+    let mutations : length (map (site_text (netlist_of m) (first_name files)) (sites (netlist_of m))) ≡ length (sites (netlist_of m)) = length-map (sites (netlist_of m)) (site_text (netlist_of m) (first_name files)) in
     let lines : length (map (site_line (netlist_of m)) (sites (netlist_of m))) ≡ length (sites (netlist_of m)) = length-map (sites (netlist_of m)) (site_line (netlist_of m)) in
     record {
       few_mutations = omega (arith, mutations, few);
@@ -64,7 +68,7 @@ fit_of config source m few =
       some_test = omega arith;
       few_tests = omega arith;
       names = refl;
-      expects = refl;
+      expects = ap (λ (tests : List TestPlan). length (map (λ (t : TestPlan). t.expect) tests)) one;
       few_tags = omega arith;
       meta = λ is. cc;
       kinds = are_kinds;
@@ -73,5 +77,5 @@ fit_of config source m few =
 pub plan_fit : (c : Prepared) → IsPlan c → IsFit c.campaign
 plan_fit c plan =
     let parsed : ThinModule = plan.made.parsed in
-    let few : length (sites (netlist_of parsed)) ≤ 9 = omega (arith, length-sites parsed, plan.made.text.thin.few_items) in
-    subst IsFit (sym plan.made.campaign) (fit_of plan.config plan.bytes parsed few)
+    let few : length (sites (netlist_of parsed)) ≤ 9 = omega (arith, length-sites parsed, plan.made.design.text.thin.few_items) in
+    subst IsFit (sym plan.made.campaign) (fit_of plan.config plan.made.project plan.files parsed plan.made.built.tests few)

@@ -1,59 +1,77 @@
--- The campaign of a project and its source.
+-- The campaign of a project and its sources.
 use Rattle.std.specs.Prelude.{◌≡◌, ℕ, ◌≤◌, List, [], ◌∷◌, ◌++◌, length, map, codes, ⊤, Option, None, Some}
+use Rattle.std.specs.List.{All}
+use Rattle.mcy_base.specs.declared.file.SourceFile.{SourceFile}
 use Rattle.mcy_outside.specs.Files.{Held, Gives, IsLarge}
+use Rattle.project_file.specs.declared.project.Project.{Project}
+use Rattle.project_file.specs.Projects.{design_files, IsProject}
 use Rattle.mcy_top.specs.declared.thin.ThinModule.{ThinModule}
 use Rattle.result_book.specs.declared.campaign.Campaign.{Campaign}
 use Rattle.result_book.specs.Campaigns.{eq_kind}
 use Rattle.mcy_top.specs.declared.prepared.Prepared.{Prepared}
 use Rattle.mcy_top.specs.Limits.{max_bytes, max_free_bits}
-use Rattle.mcy_top.specs.Projects.{IsProject}
+use Rattle.mcy_top.specs.Projects.{change_tags, IsBuilt}
 use Rattle.mcy_top.specs.ThinModules.{IsSource, input_names}
 use Rattle.mcy_top.specs.ThinNetlists.{netlist_of}
 use Rattle.mcy_top.specs.Sites.{sites}
 use Rattle.mcy_top.specs.SiteTexts.{site_text}
 use Rattle.mcy_top.specs.SiteLines.{site_line}
 
--- The files of the and-gate project: the project file, and the source that it names.
-
 abbrev pub config_name : List ℕ
 config_name = codes "config.mcy"
 
-abbrev pub source_name : List ℕ
-source_name = codes "g.v"
+-- The sources of a project that are built: one file, the text of a module in the thin form, which is the top.
+pub record IsDesign (project : Project) (files : List SourceFile) (m : ThinModule) : Type 0 where
+  pub top : project.top ≡ codes "g"
+  pub file : SourceFile
+  pub one : files ≡ file ∷ []
+  pub text : IsSource file.bytes m
 
--- what a book keeps of the project and its source: the number of the format, the project's bytes, and each source's
--- name and bytes (docs/FORMATS.md)
-abbrev pub meta_of : List ℕ → List ℕ → List (List ℕ)
-meta_of config source = codes "1" ∷ config ∷ (source_name ++ (codes "\n" ++ source)) ∷ []
+-- what a book keeps of a file: its name and its bytes
+abbrev pub file_item : SourceFile → List ℕ
+file_item file = file.name ++ (codes "\n" ++ file.bytes)
 
--- The campaign of a project and its source. The sites of the netlist are its mutations. It has the one test `same`, of
--- which PASS and FAIL are expected.
-abbrev pub campaign_of : List ℕ → List ℕ → ThinModule → Campaign
-campaign_of config source m = record {
-  meta = meta_of config source;
-  mutations = map (site_text (netlist_of m) source_name) (sites (netlist_of m));
+-- what a book keeps of the project and its sources: the number of the format, the project's bytes, and each source
+-- (docs/FORMATS.md)
+abbrev pub meta_of : List ℕ → List SourceFile → List (List ℕ)
+meta_of config files = codes "1" ∷ config ∷ map file_item files
+
+-- the name of file 0
+abbrev pub first_name : List SourceFile → List ℕ
+first_name [] = []
+first_name (file ∷ more) = file.name
+
+-- The campaign of a project and its sources. The sites of the netlist are its mutations.
+abbrev pub campaign_of : List ℕ → Project → List SourceFile → ThinModule → Campaign
+campaign_of config project files m = record {
+  meta = meta_of config files;
+  mutations = map (site_text (netlist_of m) (first_name files)) (sites (netlist_of m));
   lines = map (site_line (netlist_of m)) (sites (netlist_of m));
   test_names = codes "same" ∷ [];
   kinds = eq_kind ∷ [];
-  expect = 3 ∷ [];
-  tags = codes "CHANGED" ∷ codes "NOCHANGE" ∷ [];
+  expect = map (λ test. test.expect) project.tests;
+  tags = change_tags;
 }
 
--- a campaign, with the netlist and the sites of its source
-pub record IsPrepared (config source : List ℕ) (c : Prepared) : Type 0 where
-  pub project : IsProject config
+-- a campaign, with the netlist and the sites of its sources
+pub record IsPrepared (config : List ℕ) (files : List SourceFile) (c : Prepared) : Type 0 where
+  pub project : Project
+  pub says : IsProject config project
+  pub built : IsBuilt project
+  pub names : map (λ file. file.name) files ≡ design_files project
   pub parsed : ThinModule
-  pub text : IsSource source parsed
+  pub design : IsDesign project files parsed
+  pub all : length (sites (netlist_of parsed)) ≤ project.size
   pub few : length (input_names parsed.ports) ≤ max_free_bits
-  pub campaign : c.campaign ≡ campaign_of config source parsed
+  pub campaign : c.campaign ≡ campaign_of config project files parsed
   pub netlist : c.netlist ≡ netlist_of parsed
   pub places : c.sites ≡ sites (netlist_of parsed)
 
--- that of some project and source
+-- that of some project and sources
 pub record IsPlan (c : Prepared) : Type 0 where
   pub config : List ℕ
-  pub bytes : List ℕ
-  pub made : IsPrepared config bytes c
+  pub files : List SourceFile
+  pub made : IsPrepared config files c
 
 -- What the files hold, where they tell it.
 
@@ -70,10 +88,14 @@ abbrev pub Exceeds : Option Held → List ℕ → Type 0
 Exceeds None name = ⊤
 Exceeds (Some held) name = IsLarge (held name) max_bytes
 
+-- each file is held as it is here
+abbrev pub GotAll : Option Held → List SourceFile → Type 0
+GotAll held files = All (λ file. Got held file.name file.bytes) files
+
 -- the campaign of what the files hold
 pub record IsMade (held : Option Held) (c : Prepared) : Type 0 where
   pub config : List ℕ
-  pub bytes : List ℕ
+  pub files : List SourceFile
   pub got_config : Got held config_name config
-  pub got_source : Got held source_name bytes
-  pub made : IsPrepared config bytes c
+  pub got_files : GotAll held files
+  pub made : IsPrepared config files c

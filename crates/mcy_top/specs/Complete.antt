@@ -2,30 +2,33 @@
 use Rattle.std.specs.Prelude.{◌≡◌, ◌≢◌, ℕ, ◌≤◌, List, length, Option, None, Some, ⊤}
 use Rattle.mcy_base.specs.Causes.{Rose}
 use Rattle.mcy_keeper.specs.declared.book.Book.{Book}
-use Rattle.mcy_outside.specs.Files.{Held, Gives}
+use Rattle.mcy_base.specs.declared.file.SourceFile.{SourceFile}
+use Rattle.mcy_outside.specs.Files.{Held}
+use Rattle.project_file.specs.declared.project.Project.{Project}
 use Rattle.mcy_top.specs.declared.command.Command.{Command}
 use Rattle.mcy_top.specs.declared.prepared.Prepared.{Prepared}
 use Rattle.mcy_top.specs.declared.thin.ThinModule.{ThinModule}
 use Rattle.mcy_top.specs.declared.outcome.Outcome.{Outcome}
 use Rattle.mcy_top.specs.declared.outcome.Outcome.TheVariants.{Done, Unfinished, Memory}
-use Rattle.mcy_top.specs.Limits.{max_bytes, max_free_bits}
+use Rattle.mcy_top.specs.Limits.{max_free_bits}
 use Rattle.mcy_top.specs.Commands.{command_of, stop_of}
-use Rattle.mcy_top.specs.Projects.{IsProject}
-use Rattle.mcy_top.specs.ThinModules.{IsSource, input_names}
-use Rattle.mcy_top.specs.Campaigns.{config_name, source_name, IsMade}
+use Rattle.mcy_top.specs.ThinModules.{input_names}
+use Rattle.mcy_top.specs.ThinNetlists.{netlist_of}
+use Rattle.mcy_top.specs.Sites.{sites}
+use Rattle.mcy_top.specs.Campaigns.{IsDesign, IsMade}
+use Rattle.mcy_top.specs.Reads.{GotSources}
 use Rattle.mcy_top.specs.Life.{Takes}
 
--- the files tell what they hold, and it is a project with a source that is accepted
+-- the files tell what they hold, and it is a project with a design that is accepted
 pub record IsReadable (held : Option Held) : Type 0 where
   pub map : Held
   pub told : held ≡ Some map
-  pub config : List ℕ
-  pub got_config : Gives (map config_name) max_bytes config
-  pub project : IsProject config
-  pub bytes : List ℕ
-  pub got_source : Gives (map source_name) max_bytes bytes
+  pub project : Project
+  pub files : List SourceFile
+  pub got : GotSources (Some map) project files
   pub parsed : ThinModule
-  pub text : IsSource bytes parsed
+  pub design : IsDesign project files parsed
+  pub all : length (sites (netlist_of parsed)) ≤ project.size
   pub few : length (input_names parsed.ports) ≤ max_free_bits
 
 -- the command is given, the files are there, and each book that a load may give is one that the command takes

@@ -7,10 +7,14 @@ use Rattle.result_book.specs.declared.check.RowFault.{RowFault}
 use Rattle.result_book.specs.declared.check.RowFault.TheVariants.{Seq}
 use Rattle.result_book.specs.declared.check.BookError.{BookError}
 use Rattle.result_book.specs.declared.check.BookError.TheVariants.{Meta, Mutation, Row, Stray, Memory as NoMemory}
+use Rattle.project_file.specs.declared.error.ProjectError.{ProjectError}
+use Rattle.project_file.specs.declared.error.ProjectError.TheVariants.{NotUtf8, BadLine, UnknownKey, Repeated, OutOfRange, UnsupportedCommand, Missing as Lacking, Memory as NoMemoryFor}
+use Rattle.project_file.specs.declared.error.What.{What}
+use Rattle.project_file.specs.declared.error.What.TheVariants.{Script, Read, Top, Logic, Kind as TestKind, Pass}
 use Rattle.mcy_top.specs.declared.outcome.SourceFault.{SourceFault}
 use Rattle.mcy_top.specs.declared.outcome.SourceFault.TheVariants.{TooMany}
 use Rattle.mcy_top.specs.declared.outcome.Outcome.{Outcome}
-use Rattle.mcy_top.specs.declared.outcome.Outcome.TheVariants.{Done, Unfinished, Usage, SourceBad, Missing, TooLarge, NoCampaign, AlreadyBegun, BookBad, ReadFault, KeeperFault, WriteFault, Memory, Unbuilt}
+use Rattle.mcy_top.specs.declared.outcome.Outcome.TheVariants.{Done, Unfinished, Usage, ProjectBad, SourceBad, Missing, TooLarge, NoCampaign, AlreadyBegun, BookBad, ReadFault, KeeperFault, WriteFault, Memory, Unbuilt}
 
 abbrev pub kind_name : Kind → List ℕ
 kind_name Tokens = codes "Tokens"
@@ -28,6 +32,35 @@ source_line (TooMany kind) = codes "mcy: TooMany " ++ (kind_name kind ++ codes "
 -- a line of these words
 abbrev pub told_line : List ℕ → List ℕ
 told_line words = codes "mcy: " ++ (words ++ codes "\n")
+
+-- a line on the project file: a line of it, counted from 1, and the name of its fault
+abbrev pub at_line : ℕ → List ℕ → List ℕ
+at_line number fault = codes "mcy: config.mcy:" ++ (decimal number ++ (codes ": " ++ (fault ++ codes "\n")))
+
+-- the same for what is no line's: the name of the fault, and a number behind it or not
+abbrev pub in_project : List ℕ → List ℕ
+in_project fault = codes "mcy: config.mcy: " ++ (fault ++ codes "\n")
+
+abbrev pub in_project_at : List ℕ → ℕ → List ℕ
+in_project_at fault number = codes "mcy: config.mcy: " ++ (fault ++ (codes " " ++ (decimal number ++ codes "\n")))
+
+abbrev pub missing_line : What → List ℕ
+missing_line Script = in_project (codes "Missing Script")
+missing_line Read = in_project (codes "Missing Read")
+missing_line Top = in_project (codes "Missing Top")
+missing_line Logic = in_project (codes "Missing Logic")
+missing_line (TestKind test) = in_project_at (codes "Missing Kind") test
+missing_line (Pass test) = in_project_at (codes "Missing Pass") test
+
+abbrev pub project_line : ProjectError → List ℕ
+project_line (NotUtf8 len) = in_project_at (codes "NotUtf8") len
+project_line (BadLine number) = at_line number (codes "BadLine")
+project_line (UnknownKey number) = at_line number (codes "UnknownKey")
+project_line (Repeated number) = at_line number (codes "Repeated")
+project_line (OutOfRange number) = at_line number (codes "OutOfRange")
+project_line (UnsupportedCommand number) = at_line number (codes "UnsupportedCommand")
+project_line (Lacking what) = missing_line what
+project_line NoMemoryFor = told_line (codes "no memory")
 
 -- a line on a file: its name and what is the matter
 abbrev pub file_line : List ℕ → List ℕ → List ℕ
@@ -54,6 +87,7 @@ abbrev pub fault_text : Outcome → List ℕ
 fault_text Done = []
 fault_text (Unfinished left) = []
 fault_text Usage = told_line (codes "usage: mcy init | run [--stop-after N] | list | status")
+fault_text (ProjectBad error) = project_line error
 fault_text (SourceBad error) = source_line error.fault
 fault_text (Missing name) = file_line name (codes "missing")
 fault_text (TooLarge name) = file_line name (codes "too large")

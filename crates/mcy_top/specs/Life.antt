@@ -10,10 +10,10 @@ use Rattle.mcy_outside.specs.Written.{Appends, AppendsPart}
 use Rattle.mcy_top.specs.declared.command.Command.{Command}
 use Rattle.mcy_top.specs.declared.command.Command.TheVariants.{Init, Run, List as Listing, Status}
 use Rattle.mcy_top.specs.declared.prepared.Prepared.{Prepared}
-use Rattle.mcy_top.specs.declared.outcome.Refusal.TheVariants.{SourceBad as RefusedSource, Missing as RefusedMissing, TooLarge as RefusedTooLarge, ReadFault as RefusedRead, Unbuilt as RefusedUnbuilt}
+use Rattle.mcy_top.specs.declared.outcome.Refusal.TheVariants.{ProjectBad as RefusedProject, SourceBad as RefusedSource, Missing as RefusedMissing, TooLarge as RefusedTooLarge, ReadFault as RefusedRead, Unbuilt as RefusedUnbuilt}
 use Rattle.mcy_top.specs.declared.outcome.BookRefusal.TheVariants.{NoCampaign as RefusedNone, AlreadyBegun as RefusedBegun, BookBad as RefusedBook}
 use Rattle.mcy_top.specs.declared.outcome.Outcome.{Outcome}
-use Rattle.mcy_top.specs.declared.outcome.Outcome.TheVariants.{Done, Unfinished, Usage, SourceBad, Missing, TooLarge, NoCampaign, AlreadyBegun, BookBad, ReadFault, KeeperFault, WriteFault, Memory, Unbuilt}
+use Rattle.mcy_top.specs.declared.outcome.Outcome.TheVariants.{Done, Unfinished, Usage, ProjectBad, SourceBad, Missing, TooLarge, NoCampaign, AlreadyBegun, BookBad, ReadFault, KeeperFault, WriteFault, Memory, Unbuilt}
 use Rattle.mcy_top.specs.Commands.{command_of, slots_of, stop_of, IsWithin, OnlyReads, Runs}
 use Rattle.mcy_top.specs.Campaigns.{IsMade}
 use Rattle.mcy_top.specs.Reads.{IsUnmade}
@@ -41,6 +41,7 @@ Answered words held (Missing name) = Commands words × IsUnmade held (RefusedMis
 Answered words held (TooLarge name) = Commands words × IsUnmade held (RefusedTooLarge name)
 Answered words held (ReadFault name) = Commands words × IsUnmade held (RefusedRead name)
 Answered words held (Unbuilt part) = Commands words × IsUnmade held (RefusedUnbuilt part)
+Answered words held (ProjectBad error) = Commands words × IsUnmade held (RefusedProject error)
 Answered words held (SourceBad error) = Commands words × IsUnmade held (RefusedSource error)
 Answered words held Memory = ⊤
 Answered words held outcome = IsAccepted words held
@@ -52,6 +53,7 @@ EndsEarly (Missing name) = ⊤
 EndsEarly (TooLarge name) = ⊤
 EndsEarly (ReadFault name) = ⊤
 EndsEarly (Unbuilt part) = ⊤
+EndsEarly (ProjectBad error) = ⊤
 EndsEarly (SourceBad error) = ⊤
 EndsEarly KeeperFault = ⊤
 EndsEarly Memory = ⊤

@@ -1,10 +1,52 @@
--- The project file `config.mcy`. One project is built so far (docs/PROFILE.md).
-use Rattle.std.specs.Prelude.{◌≡◌, ℕ, List, codes}
+-- Which projects are built so far, and the part of another one that is not (docs/PROFILE.md).
+use Rattle.std.specs.Prelude.{◌≡◌, ℕ, ◌%◌, true, false, List, [], ◌∷◌, codes, map}
+use Rattle.project_file.specs.declared.project.Project.{Project}
+use Rattle.project_file.specs.declared.project.ModeFlags.{ModeFlags}
+use Rattle.project_file.specs.declared.project.TestPlan.{TestPlan}
+use Rattle.project_file.specs.declared.project.TestKind.TheVariants.{Eq}
+use Rattle.mcy_top.specs.declared.outcome.Part.{Part}
+use Rattle.mcy_top.specs.declared.outcome.Part.TheVariants.{Modes, Tests, Logic}
 
--- the and-gate project
-abbrev pub and_gate_project : List ℕ
-and_gate_project = codes "[options]\nsize 10\nmodes inv\ntags CHANGED NOCHANGE\n[script]\nread_verilog g.v\nprep -top g\n[files]\ng.v\n[logic]\nif result(\"same\") == \"PASS\":\n    tag(\"NOCHANGE\")\nelse:\n    tag(\"CHANGED\")\n[test same]\neq\nexpect PASS FAIL\n"
+abbrev pub inv_alone : ModeFlags
+inv_alone = record { inv = true; const0 = false; const1 = false; cnot0 = false; cnot1 = false }
 
--- the bytes are that project
-abbrev pub IsProject : List ℕ → Type 0
-IsProject config = config ≡ and_gate_project
+-- mutations invert bits, and they are not picked evenly
+pub record IsInverting (project : Project) : Type 0 where
+  pub modes : project.modes ≡ inv_alone
+  pub plain : project.even ≡ false
+
+-- the test `same` compares the mutant with the design, and PASS and FAIL, bits 0 and 1, are expected
+pub record IsSame (test : TestPlan) : Type 0 where
+  pub name : test.name ≡ codes "same"
+  pub kind : test.kind ≡ Eq
+  pub expect : test.expect % 4 ≡ 3
+
+-- it is the one test
+abbrev pub TestsSame : Project → Type 0
+TestsSame project = (test : TestPlan) × (project.tests ≡ test ∷ []) × IsSame test
+
+abbrev pub change_tags : List (List ℕ)
+change_tags = codes "CHANGED" ∷ codes "NOCHANGE" ∷ []
+
+-- the script that tags by this test
+abbrev pub same_script : List (List ℕ)
+same_script = codes "if result(\"same\") == \"PASS\":" ∷ codes "    tag(\"NOCHANGE\")" ∷ codes "else:" ∷ codes "    tag(\"CHANGED\")" ∷ []
+
+-- the script is that one, and there is no report
+pub record IsTagging (project : Project) : Type 0 where
+  pub tags : project.tags ≡ change_tags
+  pub logic : map (λ line. line.text) project.logic ≡ same_script
+  pub report : project.report ≡ []
+
+-- the project is built
+pub record IsBuilt (project : Project) : Type 0 where
+  pub modes : IsInverting project
+  pub tests : TestsSame project
+  pub logic : IsTagging project
+
+-- the first part of the project that is not built, in this order
+abbrev pub IsUnbuilt : Project → Part → Type 0
+IsUnbuilt project Modes = ¬ IsInverting project
+IsUnbuilt project Tests = IsInverting project × (¬ TestsSame project)
+IsUnbuilt project Logic = IsInverting project × TestsSame project × (¬ IsTagging project)
+IsUnbuilt project part = ⊥

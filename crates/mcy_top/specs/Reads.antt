@@ -1,49 +1,88 @@
 -- What is read, in its order, and why the files make no campaign.
-use Rattle.std.specs.Prelude.{◌≡◌, ◌⊎◌, ℕ, ◌<◌, List, [], length, ⊤, Option}
+use Rattle.std.specs.Prelude.{◌≡◌, ◌⊎◌, ℕ, ◌<◌, ◌≤◌, List, [], ◌∷◌, length, map, ⊤, Option}
+use Rattle.mcy_base.specs.declared.file.SourceFile.{SourceFile}
 use Rattle.mcy_base.specs.declared.kind.Kind.TheVariants.{FreeBits}
 use Rattle.mcy_base.specs.Causes.{Rose}
 use Rattle.mcy_outside.specs.Files.{Held}
+use Rattle.project_file.specs.declared.project.Project.{Project}
+use Rattle.project_file.specs.Projects.{design_files, IsFault, IsProject}
 use Rattle.mcy_top.specs.declared.thin.ThinModule.{ThinModule}
-use Rattle.mcy_top.specs.declared.outcome.Part.TheVariants.{Project, Source}
+use Rattle.mcy_top.specs.declared.outcome.Part.TheVariants.{Source, Size}
 use Rattle.mcy_top.specs.declared.outcome.SourceFault.TheVariants.{TooMany}
 use Rattle.mcy_top.specs.declared.outcome.SourceError.{SourceError}
 use Rattle.mcy_top.specs.declared.outcome.Refusal.{Refusal}
-use Rattle.mcy_top.specs.declared.outcome.Refusal.TheVariants.{SourceBad, Missing, TooLarge, ReadFault, Memory, Unbuilt}
+use Rattle.mcy_top.specs.declared.outcome.Refusal.TheVariants.{ProjectBad, SourceBad, Missing, TooLarge, ReadFault, Memory, Unbuilt}
 use Rattle.mcy_top.specs.Limits.{max_free_bits}
-use Rattle.mcy_top.specs.Projects.{IsProject}
-use Rattle.mcy_top.specs.ThinModules.{IsSource, input_names}
-use Rattle.mcy_top.specs.Campaigns.{config_name, source_name, Got, Lacks, Exceeds}
+use Rattle.mcy_top.specs.Projects.{IsBuilt, IsUnbuilt}
+use Rattle.mcy_top.specs.ThinModules.{input_names}
+use Rattle.mcy_top.specs.ThinNetlists.{netlist_of}
+use Rattle.mcy_top.specs.Sites.{sites}
+use Rattle.mcy_top.specs.Campaigns.{config_name, Got, GotAll, IsDesign, Lacks, Exceeds}
 
--- the project file is there, and it is a project
-abbrev pub HasProject : Option Held → Type 0
-HasProject held = (config : List ℕ) × Got held config_name config × IsProject config
+-- why bytes are no project that is built
+abbrev pub IsUntaken : List ℕ → Refusal → Type 0
+IsUntaken config (ProjectBad error) = IsFault config error
+IsUntaken config (Unbuilt part) = (project : Project) × IsProject config project × IsUnbuilt project part
+IsUntaken config Memory = ⊤
+IsUntaken config refusal = ⊥
 
--- the file of this name is read: the project file first, and then the source that the project names
+-- the project file has this project, which is built
+pub record HasProject (held : Option Held) (project : Project) : Type 0 where
+  pub config : List ℕ
+  pub got : Got held config_name config
+  pub says : IsProject config project
+  pub built : IsBuilt project
+
+-- it is one of these files, and those before it are there
+abbrev pub IsNext : Option Held → List (List ℕ) → List ℕ → Type 0
+IsNext held [] name = ⊥
+IsNext held (first ∷ more) name = (name ≡ first) ⊎ (((bytes : List ℕ) × Got held first bytes) × IsNext held more name)
+
+-- the file of this name is read: the project file first, and then the files of the design in their order
 abbrev pub IsRead : Option Held → List ℕ → Type 0
-IsRead held name = (name ≡ config_name) ⊎ ((name ≡ source_name) × HasProject held)
+IsRead held name = (name ≡ config_name) ⊎ ((project : Project) × HasProject held project × IsNext held (design_files project) name)
 
--- the source is read, and has these bytes
-pub record GotSource (held : Option Held) (source : List ℕ) : Type 0 where
-  pub before : HasProject held
-  pub got : Got held source_name source
+-- all files of the project's design are read, and are these
+pub record GotSources (held : Option Held) (project : Project) (files : List SourceFile) : Type 0 where
+  pub before : HasProject held project
+  pub names : map (λ file. file.name) files ≡ design_files project
+  pub got : GotAll held files
 
--- the module has more free bits than the equivalence test takes
-pub record IsTooWide (held : Option Held) (error : SourceError) : Type 0 where
-  pub source : List ℕ
-  pub got : GotSource held source
-  pub parsed : ThinModule
-  pub text : IsSource source parsed
-  pub many : max_free_bits < length (input_names parsed.ports)
+-- all sites are taken, and there are more free bits than the equivalence test takes
+pub record IsTooWide (project : Project) (m : ThinModule) (error : SourceError) : Type 0 where
+  pub all : length (sites (netlist_of m)) ≤ project.size
+  pub many : max_free_bits < length (input_names m.ports)
   pub is : error ≡ record { file = []; fault = TooMany FreeBits }
+
+-- why the files of a design make no campaign
+abbrev pub IsUntakenDesign : Project → List SourceFile → Refusal → Type 0
+IsUntakenDesign project files (Unbuilt Source) = (m : ThinModule) → ¬ IsDesign project files m
+IsUntakenDesign project files (Unbuilt Size) = (m : ThinModule) × IsDesign project files m × (project.size < length (sites (netlist_of m)))
+IsUntakenDesign project files (SourceBad error) = (m : ThinModule) × IsDesign project files m × IsTooWide project m error
+IsUntakenDesign project files Memory = ⊤
+IsUntakenDesign project files refusal = ⊥
+
+-- the project file is refused for this,
+pub record AtProject (held : Option Held) (refusal : Refusal) : Type 0 where
+  pub config : List ℕ
+  pub got : Got held config_name config
+  pub why : IsUntaken config refusal
+
+-- or the sources are
+pub record AtSources (held : Option Held) (refusal : Refusal) : Type 0 where
+  pub project : Project
+  pub files : List SourceFile
+  pub got : GotSources held project files
+  pub why : IsUntakenDesign project files refusal
 
 -- why the files make no campaign
 abbrev pub IsUnmade : Option Held → Refusal → Type 0
+IsUnmade held (ProjectBad error) = AtProject held (ProjectBad error)
 IsUnmade held (Missing name) = IsRead held name × Lacks held name
 IsUnmade held (TooLarge name) = IsRead held name × Exceeds held name
 IsUnmade held (ReadFault name) = IsRead held name
-IsUnmade held (Unbuilt Project) = (config : List ℕ) × Got held config_name config × (¬ IsProject config)
-IsUnmade held (Unbuilt Source) = (source : List ℕ) × GotSource held source × ((m : ThinModule) → ¬ IsSource source m)
-IsUnmade held (SourceBad error) = IsTooWide held error
+IsUnmade held (Unbuilt part) = AtProject held (Unbuilt part) ⊎ AtSources held (Unbuilt part)
+IsUnmade held (SourceBad error) = AtSources held (SourceBad error)
 IsUnmade held Memory = ⊤
 
 -- why the file of this name is not read
@@ -53,6 +92,10 @@ IsUnread held name (TooLarge which) = (which ≡ name) × Exceeds held name
 IsUnread held name (ReadFault which) = which ≡ name
 IsUnread held name Memory = ⊤
 IsUnread held name refusal = ⊥
+
+-- why these files are not all read
+abbrev pub IsUnreadAmong : Option Held → List (List ℕ) → Refusal → Type 0
+IsUnreadAmong held names refusal = (name : List ℕ) × IsNext held names name × IsUnread held name refusal
 
 -- a fault of reading comes only where the count rose
 abbrev pub HasReadCause : ℕ → ℕ → Refusal → Type 0

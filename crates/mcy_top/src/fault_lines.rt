@@ -5,6 +5,7 @@ ghost use Rattle.mcy_top.specs.FaultLines as texts;
 use crate::outcome::{Outcome, SourceFault};
 use mcy_base::{Bytes, Kind};
 use mcy_keeper::Entry;
+use project_file::{ProjectError, What};
 use result_book::{BookError, RowFault};
 use std::alloc::{AllocError, Global};
 
@@ -19,6 +20,7 @@ pub fn fault_line(alloc: Global, outcome: &Outcome) -> Result<Bytes, AllocError>
             alloc,
             "usage: mcy init | run [--stop-after N] | list | status",
         ),
+        Outcome::ProjectBad(error) => project_line(alloc, *error),
         Outcome::SourceBad(error) => source_line(alloc, error.fault),
         Outcome::Missing(name) => file_line(alloc, name.as_str(), "missing"),
         Outcome::TooLarge(name) => file_line(alloc, name.as_str(), "too large"),
@@ -39,6 +41,57 @@ fn told(alloc: Global, words: &str) -> Result<String, AllocError>
     ensures { IfOk result (λ line. string_bytes line ≡ texts.told_line words.now) }
 {
     format!(in alloc; "mcy: {words}\n")
+}
+
+/// The line of a fault of the project file.
+fn project_line(alloc: Global, error: ProjectError) -> Result<String, AllocError>
+    ensures { IfOk result (λ line. string_bytes line ≡ texts.project_line error) }
+{
+    match error {
+        ProjectError::NotUtf8(len) => in_project_at(alloc, "NotUtf8", len),
+        ProjectError::BadLine(number) => at_line(alloc, number, "BadLine"),
+        ProjectError::UnknownKey(number) => at_line(alloc, number, "UnknownKey"),
+        ProjectError::Repeated(number) => at_line(alloc, number, "Repeated"),
+        ProjectError::OutOfRange(number) => at_line(alloc, number, "OutOfRange"),
+        ProjectError::UnsupportedCommand(number) => at_line(alloc, number, "UnsupportedCommand"),
+        ProjectError::Missing(what) => missing_line(alloc, what),
+        ProjectError::Memory => told(alloc, "no memory"),
+    }
+}
+
+/// A line on a line of the project file.
+fn at_line(alloc: Global, number: u32, fault: &str) -> Result<String, AllocError>
+    ensures { IfOk result (λ line. string_bytes line ≡ texts.at_line number fault.now) }
+{
+    format!(in alloc; "mcy: config.mcy:{number}: {fault}\n")
+}
+
+/// A line on the project file.
+fn in_project(alloc: Global, fault: &str) -> Result<String, AllocError>
+    ensures { IfOk result (λ line. string_bytes line ≡ texts.in_project fault.now) }
+{
+    format!(in alloc; "mcy: config.mcy: {fault}\n")
+}
+
+/// A line on the project file, with a number behind the fault.
+fn in_project_at(alloc: Global, fault: &str, number: u32) -> Result<String, AllocError>
+    ensures { IfOk result (λ line. string_bytes line ≡ texts.in_project_at fault.now number) }
+{
+    format!(in alloc; "mcy: config.mcy: {fault} {number}\n")
+}
+
+/// The line of what is missing in the project file.
+fn missing_line(alloc: Global, what: What) -> Result<String, AllocError>
+    ensures { IfOk result (λ line. string_bytes line ≡ texts.missing_line what) }
+{
+    match what {
+        What::Script => in_project(alloc, "Missing Script"),
+        What::Read => in_project(alloc, "Missing Read"),
+        What::Top => in_project(alloc, "Missing Top"),
+        What::Logic => in_project(alloc, "Missing Logic"),
+        What::Kind(test) => in_project_at(alloc, "Missing Kind", test),
+        What::Pass(test) => in_project_at(alloc, "Missing Pass", test),
+    }
 }
 
 /// The line of a fault of a source.

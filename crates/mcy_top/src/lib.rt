@@ -30,4 +30,3 @@ pub use command::{Command, read_words};
 pub use fault_lines::fault_line;
 pub use main_call::{mcy_call, mcy_main};
 pub use outcome::{Outcome, Part, SourceError, SourceFault, exit_status};
-pub use project::AND_GATE_PROJECT;

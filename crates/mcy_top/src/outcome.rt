@@ -3,15 +3,22 @@ ghost use Rattle.std.specs.Prelude.{◌≡◌};
 ghost use Rattle.mcy_top.specs.Outcomes.{book_outcome, outcome_of, status_of};
 
 use mcy_base::{Kind, Text};
+use project_file::ProjectError;
 use result_book::BookError;
 
 /// A form of input that is not built yet.
 #[derive(Clone, Copy, Debug, PartialEq, Eq)]
 pub enum Part {
-    /// The project file is another one than the and-gate project.
-    Project,
-    /// The source is not in the thin form.
+    /// The sources are not one file in the thin form whose module is the top.
     Source,
+    /// Other modes than `inv` alone are asked for, or an even pick.
+    Modes,
+    /// The tests are not one equivalence test `same`, of which PASS and FAIL are expected.
+    Tests,
+    /// The tags are not CHANGED and NOCHANGE, the logic is not the one that tags by that test, or there is a report.
+    Logic,
+    /// There are more sites than mutations are to be taken.
+    Size,
 }
 
 /// What is wrong with a source.
@@ -38,6 +45,8 @@ pub enum Outcome {
     Unfinished(u32),
     /// The words give no command.
     Usage,
+    /// The project file is refused.
+    ProjectBad(ProjectError),
     /// The sources are refused.
     SourceBad(SourceError),
     /// There is no file of this name.
@@ -48,7 +57,7 @@ pub enum Outcome {
     NoCampaign,
     /// The database holds a campaign already, and the command would begin one.
     AlreadyBegun,
-    /// What the database holds is not the campaign of the project and its source.
+    /// What the database holds is not the campaign of the project and its sources.
     BookBad(BookError),
     /// The file of this name could not be read.
     ReadFault(Text),
@@ -70,6 +79,7 @@ pub fn exit_status(outcome: &Outcome) -> u8
         Outcome::Done => 0,
         Outcome::Unfinished(_) => 1,
         Outcome::Usage => 2,
+        Outcome::ProjectBad(_) => 3,
         Outcome::SourceBad(_) => 5,
         Outcome::Missing(_) => 6,
         Outcome::TooLarge(_) => 7,
@@ -87,6 +97,7 @@ pub fn exit_status(outcome: &Outcome) -> u8
 /// Why the files make no campaign.
 #[derive(Drop)]
 pub(crate) enum Refusal {
+    ProjectBad(ProjectError),
     SourceBad(SourceError),
     Missing(Text),
     TooLarge(Text),
@@ -101,6 +112,7 @@ impl Refusal {
         ensures { result ≡ outcome_of self }
     {
         match self {
+            Refusal::ProjectBad(error) => Outcome::ProjectBad(error),
             Refusal::SourceBad(error) => Outcome::SourceBad(error),
             Refusal::Missing(name) => Outcome::Missing(name),
             Refusal::TooLarge(name) => Outcome::TooLarge(name),

@@ -1,10 +1,14 @@
-//! What a project and its source define before any test is run.
+//! What a project and its sources define before any test is run.
 //!
 //! `campaign` is what the book and the texts are made of. Mutation n of it is `netlist` broken at site n of `sites`.
-ghost use Rattle.std.specs.Prelude.{◌≡◌, ◌≤◌, [], ◌∷◌, IfOk, codes, length};
+ghost use Rattle.std.specs.Prelude.{◌≡◌, ◌≤◌, [], ◌∷◌, IfOk, codes, length, map};
+ghost use Rattle.project_file.specs.Projects.{design_files, IsProject};
+ghost use Rattle.result_book.specs.Campaigns.{eq_kind};
 ghost use Rattle.mcy_top.specs.Limits.{max_free_bits};
-ghost use Rattle.mcy_top.specs.Projects.{IsProject};
-ghost use Rattle.mcy_top.specs.ThinModules.{IsSource, input_names};
+ghost use Rattle.mcy_top.specs.Projects.{change_tags, IsBuilt};
+ghost use Rattle.mcy_top.specs.Sites.{sites};
+ghost use Rattle.mcy_top.specs.ThinModules.{input_names};
+ghost use Rattle.mcy_top.specs.ThinNetlists.{netlist_of};
 
 use crate::checked::CheckedNetlist;
 use crate::lower::lower;
@@ -13,21 +17,16 @@ use crate::site_line::site_lines;
 use crate::site_text::site_texts;
 use crate::sites::sites;
 use crate::thin::ThinModule;
-use mcy_base::{Bytes, BytesList, Items, Text, TextList};
+use mcy_base::{Bytes, BytesList, Items, SourceFile, Text, TextList};
+use project_file::{Project, TestPlan};
 use result_book::{Campaign, EQ_KIND, NumberList};
 use std::alloc::{AllocError, Global};
 
 /// The name of the project file.
 pub(crate) const CONFIG_NAME: &str = "config.mcy";
 
-/// The name of the source that the and-gate project names.
-pub(crate) const SOURCE_NAME: &str = "g.v";
-
 /// How many bytes a file may have.
 pub(crate) const MAX_BYTES: u32 = 1_048_576;
-
-/// The words that the and-gate project expects, PASS in bit 0 and FAIL in bit 1.
-const PASS_OR_FAIL: u32 = 3;
 
 /// Sites by number, from 0.
 pub type SiteList = Items<Site>;
@@ -40,23 +39,42 @@ pub struct Prepared {
     pub netlist: CheckedNetlist,
 }
 
-ghost use Rattle.mcy_top.specs.Campaigns.{campaign_of, meta_of, IsPrepared};
+ghost use Rattle.mcy_top.specs.Campaigns.{campaign_of, file_item, first_name, meta_of, IsDesign, IsPrepared};
 
-/// What a book keeps of the project and its source.
-fn make_meta(alloc: Global, config: &[u8], source: &[u8]) -> Result<BytesList, AllocError>
-    ensures { IfOk result (λ meta. meta ≡ meta_of config.now source.now) }
+/// What a book keeps of a file.
+fn file_item(alloc: Global, file: &SourceFile) -> Result<Bytes, AllocError>
+    ensures { IfOk result (λ item. item ≡ file_item file.now) }
 {
-    let mut file = SOURCE_NAME.as_bytes().to_vec(alloc)?;
-    file.push(b'\n')?;
-    file.extend_from_slice(source)?;
+    let mut item = file.name.as_str().as_bytes().to_vec(alloc)?;
+    item.push(b'\n')?;
+    item.extend_from_slice(file.bytes.as_slice())?;
+    Ok(Bytes::from_vec(item))
+}
+
+/// What a book keeps of the project and its sources.
+fn make_meta(alloc: Global, config: &[u8], files: &[SourceFile]) -> Result<BytesList, AllocError>
+    ensures { IfOk result (λ meta. meta ≡ meta_of config.now files.now) }
+{
     let mut meta = Vec::new(alloc);
     meta.push(Bytes::copy(alloc, b"1")?)?;
     meta.push(Bytes::copy(alloc, config)?)?;
-    meta.push(Bytes::from_vec(file))?;
+    for file in files {
+        meta.push(file_item(alloc, file)?)?;
+    }
     Ok(BytesList::from_vec(meta))
 }
 
-/// The names of the and-gate project's tests.
+/// The name of file 0.
+fn first_name(files: &[SourceFile]) -> &str
+    ensures { result.now ≡ first_name files.now }
+{
+    match files {
+        [file, ..] => file.name.as_str(),
+        [] => "",
+    }
+}
+
+/// The names of the tests that are built.
 fn test_names(alloc: Global) -> Result<TextList, AllocError>
     ensures { IfOk result (λ names. names ≡ codes "same" ∷ []) }
 {
@@ -65,9 +83,9 @@ fn test_names(alloc: Global) -> Result<TextList, AllocError>
     Ok(TextList::from_vec(names))
 }
 
-/// The names of the and-gate project's tags.
+/// The names of the tags that are built.
 fn tag_names(alloc: Global) -> Result<TextList, AllocError>
-    ensures { IfOk result (λ names. names ≡ codes "CHANGED" ∷ codes "NOCHANGE" ∷ []) }
+    ensures { IfOk result (λ names. names ≡ change_tags) }
 {
     let mut names = Vec::new(alloc);
     names.push(Text::copy(alloc, "CHANGED")?)?;
@@ -75,37 +93,48 @@ fn tag_names(alloc: Global) -> Result<TextList, AllocError>
     Ok(TextList::from_vec(names))
 }
 
-/// A list of one number.
-fn one_number(alloc: Global, number: u32) -> Result<NumberList, AllocError>
-    ensures { IfOk result (λ list. list ≡ number ∷ []) }
+/// The kinds of the tests that are built.
+fn test_kinds(alloc: Global) -> Result<NumberList, AllocError>
+    ensures { IfOk result (λ list. list ≡ eq_kind ∷ []) }
 {
-    let mut numbers = Vec::new(alloc);
-    numbers.push(number)?;
-    Ok(NumberList::from_vec(numbers))
+    let mut kinds = Vec::new(alloc);
+    kinds.push(EQ_KIND)?;
+    Ok(NumberList::from_vec(kinds))
 }
 
-/// The campaign of a project and its source, and its netlist with the sites.
+/// The words that are expected of each test.
+fn expected(alloc: Global, tests: &[TestPlan]) -> Result<NumberList, AllocError>
+    ensures { IfOk result (λ list. list ≡ map (λ test. test.expect) tests.now) }
+{
+    Ok(NumberList::from_vec(tests.iter().map(|test| test.expect).collect(alloc)?))
+}
+
+/// The campaign of a project and its sources, which are built, and its netlist with the sites.
 pub(crate) fn prepare(
     alloc: Global,
     config: &[u8],
-    source: &[u8],
+    project: &Project,
+    files: &[SourceFile],
     parsed: &ThinModule,
 ) -> Result<Prepared, AllocError>
-    requires project { IsProject config.now }
-    requires text { IsSource source.now parsed.now }
+    requires says { IsProject config.now project.now }
+    requires built { IsBuilt project.now }
+    requires names { map (λ file. file.name) files.now ≡ design_files project.now }
+    requires design { IsDesign project.now files.now parsed.now }
+    requires all { length (sites (netlist_of parsed.now)) ≤ project.now.size }
     requires few { length (input_names parsed.now.ports) ≤ max_free_bits }
-    ensures { IfOk result (λ prepared. IsPrepared config.now source.now prepared) }
+    ensures { IfOk result (λ prepared. IsPrepared config.now files.now prepared) }
 {
     let checked = lower(alloc, parsed)?;
     let netlist = checked.netlist();
     let places = sites(alloc, netlist)?;
     let campaign = Campaign {
-        meta: make_meta(alloc, config, source)?,
-        mutations: site_texts(alloc, netlist, SOURCE_NAME, &places)?,
+        meta: make_meta(alloc, config, files)?,
+        mutations: site_texts(alloc, netlist, first_name(files), &places)?,
         lines: site_lines(alloc, netlist, &places)?,
         test_names: test_names(alloc)?,
-        kinds: one_number(alloc, EQ_KIND)?,
-        expect: one_number(alloc, PASS_OR_FAIL)?,
+        kinds: test_kinds(alloc)?,
+        expect: expected(alloc, project.tests.as_slice())?,
         tags: tag_names(alloc)?,
     };
     Ok(Prepared {

@@ -1,14 +1,88 @@
-//! The project file. One project is built so far, the and-gate project.
-ghost use Rattle.std.specs.Prelude.{◌≡◌, ◌↔◌, IsTrue};
-ghost use Rattle.mcy_top.specs.Projects.{IsProject};
+//! Which projects are built so far: one test, one script, and one mode.
+ghost use Rattle.std.specs.Prelude.{◌≡◌, ◌↔◌, IsTrue, MatchOption, map};
+ghost use Rattle.mcy_top.specs.Projects.{IsBuilt, IsInverting, IsSame, IsTagging, IsUnbuilt, TestsSame, change_tags, same_script};
 
-/// The and-gate project, byte for byte.
-pub const AND_GATE_PROJECT: &str =
-    "[options]\nsize 10\nmodes inv\ntags CHANGED NOCHANGE\n[script]\nread_verilog g.v\nprep -top g\n[files]\ng.v\n[logic]\nif result(\"same\") == \"PASS\":\n    tag(\"NOCHANGE\")\nelse:\n    tag(\"CHANGED\")\n[test same]\neq\nexpect PASS FAIL\n";
+use crate::outcome::Part;
+use mcy_base::{Line, Text};
+use project_file::{ModeFlags, Project, TestKind, TestPlan};
 
-/// Whether the bytes are those of the and-gate project.
-pub(crate) fn is_project(config: &[u8]) -> bool
-    ensures { IsTrue result ↔ IsProject config.now }
+const INV_ALONE: ModeFlags = ModeFlags {
+    inv: true,
+    const0: false,
+    const1: false,
+    cnot0: false,
+    cnot1: false,
+};
+
+/// The first part of the project that is not built, or nothing where the project is.
+pub(crate) fn unbuilt_part(project: &Project) -> Option<Part>
+    ensures { MatchOption result (IsBuilt project.now) (λ part. IsUnbuilt project.now part) }
 {
-    config == AND_GATE_PROJECT.as_bytes()
+    if !is_inverting(project) {
+        Some(Part::Modes)
+    } else if !tests_same(project) {
+        Some(Part::Tests)
+    } else if !is_tagging(project) {
+        Some(Part::Logic)
+    } else {
+        None
+    }
+}
+
+fn is_inverting(project: &Project) -> bool
+    ensures { IsTrue result ↔ IsInverting project.now }
+{
+    project.modes == INV_ALONE && !project.even
+}
+
+fn is_same(test: &TestPlan) -> bool
+    ensures { IsTrue result ↔ IsSame test.now }
+{
+    test.name.as_str() == "same" && matches!(test.kind, TestKind::Eq) && test.expect % 4 == 3
+}
+
+fn tests_same(project: &Project) -> bool
+    ensures { IsTrue result ↔ TestsSame project.now }
+{
+    match project.tests.as_slice() {
+        [test] => is_same(test),
+        _ => false,
+    }
+}
+
+fn are_change_tags(tags: &[Text]) -> bool
+    ensures { IsTrue result ↔ (tags.now ≡ change_tags) }
+{
+    match tags {
+        [first, second] => first.as_str() == "CHANGED" && second.as_str() == "NOCHANGE",
+        _ => false,
+    }
+}
+
+/// Whether two lines have these texts.
+fn are_lines(first: &Line, second: &Line, text: &str, next: &str) -> bool
+    ensures { IsTrue result ↔ ((first.now.text ≡ text.now) × (second.now.text ≡ next.now)) }
+{
+    first.text.as_str() == text && second.text.as_str() == next
+}
+
+fn is_same_script(logic: &[Line]) -> bool
+    ensures { IsTrue result ↔ (map (λ line. line.text) logic.now ≡ same_script) }
+{
+    let test = "if result(\"same\") == \"PASS\":";
+    match logic {
+        [first, second, third, fourth] => {
+            are_lines(first, second, test, "    tag(\"NOCHANGE\")")
+                && are_lines(third, fourth, "else:", "    tag(\"CHANGED\")")
+        }
+        _ => false,
+    }
+}
+
+fn is_tagging(project: &Project) -> bool
+    ensures { IsTrue result ↔ IsTagging project.now }
+{
+    are_change_tags(project.tags.as_slice())
+        && is_same_script(project.logic.as_slice())
+        && project.report.as_slice().is_empty()
 }

@@ -1,22 +1,27 @@
 //! The campaign of what the files hold.
 //!
-//! The project file is read first and has to be a project; then the source that it names is read.
-ghost use Rattle.std.specs.Prelude.{◌≡◌, ◌≤◌, [], length, IfOk, IfErr};
+//! The project file is read first, and has to be a project that is built. Then all files of its design are read, in their
+//! order and each once, and then they are judged.
+ghost use Rattle.std.specs.Prelude.{◌≡◌, ◌≤◌, [], length, map, IfOk, IfErr, MatchOption};
 ghost use Rattle.mcy_base.specs.Causes.{Rose};
-ghost use Rattle.mcy_top.specs.Limits.{max_free_bits};
-ghost use Rattle.mcy_top.specs.Projects.{IsProject};
-ghost use Rattle.mcy_top.specs.ThinModules.{IsSource, input_names};
-ghost use Rattle.mcy_top.specs.Campaigns.{config_name, Got, IsMade};
-ghost use Rattle.mcy_top.specs.Reads.{IsUnmade, IsUnread, HasReadCause, HasProject, GotSource};
+ghost use Rattle.project_file.specs.Projects.{design_files, IsProject};
+ghost use Rattle.mcy_top.specs.Limits.{max_bytes, max_free_bits};
+ghost use Rattle.mcy_top.specs.Projects.{IsBuilt};
+ghost use Rattle.mcy_top.specs.ThinModules.{input_names};
+ghost use Rattle.mcy_top.specs.ThinNetlists.{netlist_of};
+ghost use Rattle.mcy_top.specs.Sites.{sites};
+ghost use Rattle.mcy_top.specs.Campaigns.{config_name, Got, GotAll, IsDesign, IsMade};
+ghost use Rattle.mcy_top.specs.Reads.{IsUnmade, IsUnread, IsUnreadAmong, IsUntaken, IsUntakenDesign, HasReadCause, HasProject, GotSources};
 
 use crate::equal::MAX_FREE_BITS;
 use crate::lower::input_count;
 use crate::outcome::{Part, Refusal, SourceError, SourceFault};
-use crate::prepared::{CONFIG_NAME, MAX_BYTES, Prepared, SOURCE_NAME, prepare};
-use crate::project::is_project;
+use crate::prepared::{CONFIG_NAME, MAX_BYTES, Prepared, prepare};
+use crate::project::unbuilt_part;
 use crate::thin::{ThinModule, read_source};
-use mcy_base::{Kind, Text};
+use mcy_base::{Bytes, FileList, Kind, SourceFile, Text};
 use mcy_outside::{FileError, SourceFiles};
+use project_file::{Project, ProjectError, read_project};
 use std::alloc::{AllocError, Global};
 
 impl From<AllocError> for Refusal {
@@ -33,6 +38,7 @@ impl From<AllocError> for Refusal {
 fn read_file<F: SourceFiles>(alloc: Global, files: &mut F, name: &str) -> Result<Vec<u8>, Refusal>
     ensures same { F.held files.new ≡ F.held files.old }
     ensures got { IfOk result (λ bytes. Got (F.held files.old) name.now bytes.items) }
+    ensures few { IfOk result (λ bytes. length bytes.items ≤ max_bytes) }
     ensures refused { IfErr result (IsUnread (F.held files.old) name.now) }
     ensures later { F.faults files.old ≤ F.faults files.new }
     ensures cause { IfErr result (HasReadCause (F.faults files.old) (F.faults files.new)) }
@@ -46,45 +52,118 @@ fn read_file<F: SourceFiles>(alloc: Global, files: &mut F, name: &str) -> Result
     }
 }
 
-/// The bytes of the project file.
-fn read_project<F: SourceFiles>(alloc: Global, files: &mut F) -> Result<Vec<u8>, Refusal>
+/// The project that the bytes say, which is built.
+fn take_project(alloc: Global, config: &[u8]) -> Result<Project, Refusal>
+    requires { length config.now ≤ max_bytes }
+    ensures says { IfOk result (λ project. IsProject config.now project) }
+    ensures built { IfOk result (λ project. IsBuilt project) }
+    ensures refused { IfErr result (IsUntaken config.now) }
+{
+    match read_project(alloc, config) {
+        Ok(project) => match unbuilt_part(&project) {
+            None => Ok(project),
+            Some(part) => Err(Refusal::Unbuilt(part)),
+        },
+        Err(ProjectError::Memory) => Err(Refusal::Memory),
+        Err(error) => Err(Refusal::ProjectBad(error)),
+    }
+}
+
+/// The project file's bytes, and the project that they say, which is built.
+fn read_config<F: SourceFiles>(alloc: Global, files: &mut F) -> Result<(Vec<u8>, Project), Refusal>
     ensures same { F.held files.new ≡ F.held files.old }
-    ensures got { IfOk result (λ bytes. Got (F.held files.old) config_name bytes.items) }
-    ensures project { IfOk result (λ bytes. IsProject bytes.items) }
+    ensures got { IfOk result (λ read. Got (F.held files.old) config_name read.0.items) }
+    ensures says { IfOk result (λ read. IsProject read.0.items read.1) }
+    ensures built { IfOk result (λ read. IsBuilt read.1) }
     ensures refused { IfErr result (IsUnmade (F.held files.old)) }
     ensures later { F.faults files.old ≤ F.faults files.new }
     ensures cause { IfErr result (HasReadCause (F.faults files.old) (F.faults files.new)) }
 {
     let config = read_file(alloc, files, CONFIG_NAME)?;
-    if is_project(&config) {
-        Ok(config)
-    } else {
-        Err(Refusal::Unbuilt(Part::Project))
-    }
+    let project = take_project(alloc, &config)?;
+    Ok((config, project))
 }
 
-/// The bytes of the source, once the project is read, and the module that they say.
-fn read_module<F: SourceFiles>(
+/// The file of this name.
+fn read_source_file<F: SourceFiles>(
     alloc: Global,
     files: &mut F,
-) -> Result<(Vec<u8>, ThinModule), Refusal>
-    requires { HasProject (F.held files.old) }
+    name: &str,
+) -> Result<SourceFile, Refusal>
     ensures same { F.held files.new ≡ F.held files.old }
-    ensures got { IfOk result (λ read. GotSource (F.held files.old) read.0.items) }
-    ensures text { IfOk result (λ read. IsSource read.0.items read.1) }
-    ensures few { IfOk result (λ read. length (input_names read.1.ports) ≤ max_free_bits) }
+    ensures name { IfOk result (λ file. file.name ≡ name.now) }
+    ensures got { IfOk result (λ file. Got (F.held files.old) file.name file.bytes) }
+    ensures refused { IfErr result (IsUnread (F.held files.old) name.now) }
+    ensures later { F.faults files.old ≤ F.faults files.new }
+    ensures cause { IfErr result (HasReadCause (F.faults files.old) (F.faults files.new)) }
+{
+    let bytes = read_file(alloc, files, name)?;
+    Ok(SourceFile {
+        name: Text::copy(alloc, name)?,
+        bytes: Bytes::from_vec(bytes),
+    })
+}
+
+/// The files of these names, in their order.
+fn read_files<F: SourceFiles>(
+    alloc: Global,
+    files: &mut F,
+    names: &[&str],
+) -> Result<FileList, Refusal>
+    ensures same { F.held files.new ≡ F.held files.old }
+    ensures names { IfOk result (λ read. map (λ file. file.name) read ≡ map (λ name. name.now) names.now) }
+    ensures got { IfOk result (GotAll (F.held files.old)) }
+    ensures refused { IfErr result (IsUnreadAmong (F.held files.old) (map (λ name. name.now) names.now)) }
+    ensures later { F.faults files.old ≤ F.faults files.new }
+    ensures cause { IfErr result (HasReadCause (F.faults files.old) (F.faults files.new)) }
+{
+    let mut read = FileList::from_vec(Vec::new(alloc));
+    for name in names {
+        let file = read_source_file(alloc, files, name)?;
+        read.push(file)?;
+    }
+    Ok(read)
+}
+
+/// All files of the project's design, once the project is read.
+fn read_sources<F: SourceFiles>(
+    alloc: Global,
+    files: &mut F,
+    project: &Project,
+) -> Result<FileList, Refusal>
+    requires { HasProject (F.held files.old) project.now }
+    ensures same { F.held files.new ≡ F.held files.old }
+    ensures got { IfOk result (GotSources (F.held files.old) project.now) }
     ensures refused { IfErr result (IsUnmade (F.held files.old)) }
     ensures later { F.faults files.old ≤ F.faults files.new }
     ensures cause { IfErr result (HasReadCause (F.faults files.old) (F.faults files.new)) }
 {
-    let source = read_file(alloc, files, SOURCE_NAME)?;
-    let Some(parsed) = read_source(alloc, &source)? else {
-        return Err(Refusal::Unbuilt(Part::Source));
-    };
-    if input_count(parsed.ports.as_slice()) > MAX_FREE_BITS {
-        return Err(Refusal::SourceBad(too_many_free_bits(alloc)?));
+    let names = project.design_files(alloc)?;
+    read_files(alloc, files, &names)
+}
+
+/// The design that the files say, or nothing where they are none of the form that is built.
+fn design_of(
+    alloc: Global,
+    project: &Project,
+    files: &[SourceFile],
+) -> Result<Option<ThinModule>, AllocError>
+    ensures { IfOk result (λ found. MatchOption found
+        ((m : ThinModule) → ¬ IsDesign project.now files.now m)
+        (λ m. IsDesign project.now files.now m)) }
+{
+    match files {
+        [file] if project.top.as_str() == "g" => read_source(alloc, file.bytes.as_slice()),
+        _ => Ok(None),
     }
-    Ok((source, parsed))
+}
+
+/// How many sites the netlist of the module has: three for each line.
+fn site_count(parsed: &ThinModule) -> usize
+    requires { length parsed.now.items ≤ 3 }
+    ensures { result ≡ length (sites (netlist_of parsed.now)) }
+{
+    3 * parsed.items.as_slice().len()
 }
 
 /// The sources have too many free bits together.
@@ -97,7 +176,30 @@ fn too_many_free_bits(alloc: Global) -> Result<SourceError, AllocError>
     })
 }
 
-/// Reads the project and its source, and makes the campaign.
+/// The design that the files say, with all its sites taken and few free bits.
+fn take_design(
+    alloc: Global,
+    project: &Project,
+    files: &[SourceFile],
+) -> Result<ThinModule, Refusal>
+    ensures design { IfOk result (λ m. IsDesign project.now files.now m) }
+    ensures all { IfOk result (λ m. length (sites (netlist_of m)) ≤ project.now.size) }
+    ensures few { IfOk result (λ m. length (input_names m.ports) ≤ max_free_bits) }
+    ensures refused { IfErr result (IsUntakenDesign project.now files.now) }
+{
+    let Some(parsed) = design_of(alloc, project, files)? else {
+        return Err(Refusal::Unbuilt(Part::Source));
+    };
+    if site_count(&parsed) > project.size as usize {
+        return Err(Refusal::Unbuilt(Part::Size));
+    }
+    if input_count(parsed.ports.as_slice()) > MAX_FREE_BITS {
+        return Err(Refusal::SourceBad(too_many_free_bits(alloc)?));
+    }
+    Ok(parsed)
+}
+
+/// Reads the project and its sources, and makes the campaign.
 pub(crate) fn read_campaign<F: SourceFiles>(
     alloc: Global,
     files: &mut F,
@@ -108,7 +210,8 @@ pub(crate) fn read_campaign<F: SourceFiles>(
     ensures later { F.faults files.old ≤ F.faults files.new }
     ensures cause { IfErr result (HasReadCause (F.faults files.old) (F.faults files.new)) }
 {
-    let config = read_project(alloc, files)?;
-    let (source, parsed) = read_module(alloc, files)?;
-    Ok(prepare(alloc, &config, &source, &parsed)?)
+    let (config, project) = read_config(alloc, files)?;
+    let sources = read_sources(alloc, files, &project)?;
+    let parsed = take_design(alloc, &project, sources.as_slice())?;
+    Ok(prepare(alloc, &config, &project, sources.as_slice(), &parsed)?)
 }

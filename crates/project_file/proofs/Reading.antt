@@ -26,6 +26,9 @@ pub names_append : (names xs ys : List (List ℕ)) → with_names names (xs ++ y
 names_append names [] ys = ap (λ ns. with_names ns ys) (sym (names_none names))
 names_append names (x ∷ xs) ys = names_cons names x (xs ++ ys) ∙ (names_append (with_name names x) xs ys ∙ ap (λ ns. with_names ns ys) (sym (names_cons names x xs)))
 
+pub names_push_one : (names xs : List (List ℕ)) (x : List ℕ) → with_names names (xs ++ x ∷ []) ≡ with_name (with_names names xs) x
+names_push_one names xs x = names_append names xs (x ∷ []) ∙ (names_cons (with_names names xs) x [] ∙ names_none (with_name (with_names names xs) x))
+
 pub gather_push : {X : Type 0} (reads : X → List (List ℕ)) (xs : List X) (x : X) → gather reads (xs ++ x ∷ []) ≡ gather reads xs ++ reads x
 unfolding gather
 gather_push reads [] x = append-nil (reads x)

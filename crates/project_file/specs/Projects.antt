@@ -138,6 +138,10 @@ project_of parts =
       tests = map test_of (tests_in parts);
     }
 
+-- the files of the design, each once
+abbrev pub design_files : Project → List (List ℕ)
+design_files project = with_names [] project.design
+
 -- The bytes are a project file, and this is its project.
 pub record IsProject (bytes : List ℕ) (project : Project) : Type 0 where
   pub utf8 : IsUtf8 bytes

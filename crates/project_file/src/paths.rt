@@ -6,6 +6,7 @@ ghost use Rattle.project_file.specs.Paths.{count_fault, files_at, files_fault, f
 use crate::error::ProjectError;
 use crate::lines::{behind_key, from_word, is_said, key_of};
 use crate::words::is_among;
+use mcy_base::Text;
 use std::alloc::{AllocError, Global};
 use std::collections::BTreeMap;
 use std::marker::Model;
@@ -184,4 +185,16 @@ impl<'a> ReadFiles<'a> {
         }
         Ok(())
     }
+}
+
+/// These files, each once.
+#[tactic(auto, using(crate::proofs::Reading::names_none, crate::proofs::Reading::names_push_one))]
+pub fn names_once<'a>(alloc: Global, names: &'a [Text]) -> Result<Vec<&'a str>, AllocError>
+    ensures { IfOk result (λ once. map (λ name. name.now) once.items ≡ with_names [] names.now) }
+{
+    let mut read = ReadFiles::new(alloc);
+    for name in names {
+        read.add(name.as_str())?;
+    }
+    Ok(read.names)
 }

@@ -1,5 +1,10 @@
 //! Projects.
+ghost use Rattle.std.specs.Prelude.{◌≡◌, IfOk, map};
+ghost use Rattle.project_file.specs.Projects.{design_files};
+
+use crate::paths::names_once;
 use mcy_base::{Bytes, Items, LineList, Text, TextList};
+use std::alloc::{AllocError, Global};
 
 /// For each mode of mutation, whether it is asked for.
 #[derive(Clone, Copy, Debug, PartialEq, Eq)]
@@ -64,4 +69,13 @@ pub struct Project {
     pub report: LineList,
     /// The tests, at most 16, each of another name.
     pub tests: TestPlanList,
+}
+
+impl Project {
+    /// The files of the design in the order in which they are first named, each once.
+    pub fn design_files(&self, alloc: Global) -> Result<Vec<&str>, AllocError>
+        ensures { IfOk result (λ names. map (λ name. name.now) names.items ≡ design_files self.now) }
+    {
+        names_once(alloc, self.design.as_slice())
+    }
 }

@@ -12,5 +12,5 @@ all_read (Some xs) max v read few =
     let short : length xs ≤ max + 1 = omega (arith, length-take (max + 1) xs, ap length read) in
     record { same = ap (λ l. Some l) (sym (take_all (max + 1) xs short) ∙ sym read); few = few }
 
-pub returns-in-Ok : goal.returns-in-Ok
-returns-in-Ok g c = all_read _ c.args.max _ (search rules) (search rules)
+pub returns-in-Ok-clause-reads : goal.returns-in-Ok-clause-reads
+returns-in-Ok-clause-reads g c = all_read _ c.args.max _ (search rules) (search rules)

@@ -1,0 +1,247 @@
+-- Projects and their sources: each has one answer, and those that are taken have no other.
+use Rattle.std.proofs.Common.{◌≡◌, ◌≢◌, inl, inr, arith, ℕ, ◌<◌, ◌≤◌, List, [], ◌∷◌, ◌++◌, get_or, length, map, codes, refl, sym, ap, subst, ◌∙◌, Option, None, Some}
+use Rattle.std.specs.Str.{IsUtf8}
+use Rattle.std.proofs.Math.Seq.{take-length}
+use Rattle.std.proofs.lemmas.Str.{utf8_valid_len-IsValidUpTo}
+use Rattle.std.proofs.lemmas.List.{append_cancel_left}
+use Rattle.std.proofs.lemmas.List.Elements.{All-head, All-tail}
+use Rattle.mcy_base.specs.declared.file.SourceFile.{SourceFile}
+use Rattle.mcy_outside.specs.Files.{Held, Gives}
+use Rattle.project_file.specs.declared.error.ProjectError.{ProjectError}
+use Rattle.project_file.specs.declared.error.ProjectError.TheVariants.{NotUtf8}
+use Rattle.project_file.specs.declared.project.Project.{Project}
+use Rattle.project_file.specs.Projects.{design_files, IsCut, IsFault, IsProject}
+use Rattle.mcy_top.specs.declared.outcome.Part.{Part}
+use Rattle.mcy_top.specs.declared.outcome.Part.TheVariants.{Source, Modes, Tests, Logic, Size}
+use Rattle.mcy_top.specs.declared.outcome.Refusal.{Refusal}
+use Rattle.mcy_top.specs.declared.outcome.Refusal.TheVariants.{ProjectBad, SourceBad, Memory, Unbuilt}
+use Rattle.mcy_top.specs.declared.thin.ThinModule.{ThinModule}
+use Rattle.mcy_top.specs.Limits.{max_bytes, max_free_bits}
+use Rattle.mcy_top.specs.Projects.{IsBuilt, IsUnbuilt}
+use Rattle.mcy_top.specs.Sites.{sites}
+use Rattle.mcy_top.specs.ThinModules.{IsSource, input_names}
+use Rattle.mcy_top.specs.ThinNetlists.{netlist_of}
+use Rattle.mcy_top.specs.declared.prepared.Prepared.{Prepared}
+use Rattle.mcy_top.specs.Campaigns.{config_name, file_item, Got, GotAll, IsDesign, IsMade, IsPrepared}
+use Rattle.mcy_top.specs.Reads.{GotSources, HasProject, IsNext, IsRead, IsUnmade, IsUntaken, IsUntakenDesign}
+use Rattle.mcy_top.proofs.ThinText.{source_once}
+
+-- Lists of one, two and four, by what is read of them.
+
+pub one_is : {X : Type 0} (xs : List X) (a : X) → length xs ≡ 1 → a ≡ get_or xs 0 a → xs ≡ a ∷ []
+one_is [] a l h = absurd (omega (arith, l))
+one_is (x ∷ []) a l h = λ i. sym h i ∷ []
+one_is (x ∷ y ∷ more) a l h = absurd (omega (arith, l))
+
+pub pair_is : {X : Type 0} (xs : List X) (a b : X) → length xs ≡ 2 → a ≡ get_or xs 0 a → b ≡ get_or xs 1 b → xs ≡ a ∷ b ∷ []
+pair_is [] a b l h k = absurd (omega (arith, l))
+pair_is (x ∷ []) a b l h k = absurd (omega (arith, l))
+pair_is (x ∷ y ∷ []) a b l h k = λ i. sym h i ∷ sym k i ∷ []
+pair_is (x ∷ y ∷ z ∷ more) a b l h k = absurd (omega (arith, l))
+
+triple_is : {X : Type 0} (xs : List X) (a b c : X) → length xs ≡ 3 → a ≡ get_or xs 0 a → b ≡ get_or xs 1 b → c ≡ get_or xs 2 c → xs ≡ a ∷ b ∷ c ∷ []
+triple_is [] a b c l e f g = absurd (omega (arith, l))
+triple_is (x ∷ xs) a b c l e f g = λ i. sym e i ∷ pair_is xs b c (omega (arith, l)) f g i
+
+pub four_are : {X : Type 0} (xs : List X) (a b c d : X) → length xs ≡ 4 → a ≡ get_or xs 0 a → b ≡ get_or xs 1 b → c ≡ get_or xs 2 c → d ≡ get_or xs 3 d → xs ≡ a ∷ b ∷ c ∷ d ∷ []
+four_are [] a b c d l e f g h = absurd (omega (arith, l))
+four_are (x ∷ xs) a b c d l e f g h = λ i. sym e i ∷ triple_is xs b c d (omega (arith, l)) f g h i
+
+-- Project files.
+
+pub project_once : (config : List ℕ) (p q : Project) → IsProject config p → IsProject config q → p ≡ q
+project_once config p q h k = h.says ∙ sym k.says
+
+cut_once : (config : List ℕ) (e f : ProjectError) → IsCut config e → IsCut config f → e ≡ f
+cut_once config (NotUtf8 n) (NotUtf8 m) h k = ap NotUtf8 (sym (utf8_valid_len-IsValidUpTo config n h) ∙ utf8_valid_len-IsValidUpTo config m k)
+cut_once config (NotUtf8 n) f h k = absurd k
+cut_once config e f h k = absurd h
+
+cut_not_utf8 : (config : List ℕ) (e : ProjectError) → IsCut config e → ¬ IsUtf8 config
+cut_not_utf8 config (NotUtf8 n) h whole = h.longest (length config) h.short (subst IsUtf8 (sym (take-length config)) whole)
+cut_not_utf8 config e h whole = absurd h
+
+fault_once : (config : List ℕ) (e f : ProjectError) → IsFault config e → IsFault config f → e ≡ f
+fault_once config e f (inl h) (inl k) = cut_once config e f h k
+fault_once config e f (inl h) (inr k) = absurd (cut_not_utf8 config e h k.0)
+fault_once config e f (inr h) (inl k) = absurd (cut_not_utf8 config f k h.0)
+fault_once config e f (inr h) (inr k) = let is : Some e ≡ Some f = sym h.1 ∙ k.1 in cc
+
+project_not_fault : (config : List ℕ) (p : Project) (e : ProjectError) → IsProject config p → ¬ IsFault config e
+project_not_fault config p e h (inl k) = cut_not_utf8 config e k h.utf8
+project_not_fault config p e h (inr k) = let is : None ≡ Some e = sym h.faultless ∙ k.1 in cc
+
+unbuilt_once : (p : Project) (a b : Part) → IsUnbuilt p a → IsUnbuilt p b → a ≡ b
+unbuilt_once p Modes Modes h k = refl
+unbuilt_once p Modes Tests h k = absurd (h k.0)
+unbuilt_once p Modes Logic h k = absurd (h k.0)
+unbuilt_once p Tests Modes h k = absurd (k h.0)
+unbuilt_once p Tests Tests h k = refl
+unbuilt_once p Tests Logic h k = absurd (h.1 k.1)
+unbuilt_once p Logic Modes h k = absurd (k h.0)
+unbuilt_once p Logic Tests h k = absurd (k.1 h.1)
+unbuilt_once p Logic Logic h k = refl
+unbuilt_once p Source b h k = absurd h
+unbuilt_once p Size b h k = absurd h
+unbuilt_once p a Source h k = absurd k
+unbuilt_once p a Size h k = absurd k
+
+built_not_unbuilt : (p : Project) (part : Part) → IsBuilt p → ¬ IsUnbuilt p part
+built_not_unbuilt p Modes built h = h built.modes
+built_not_unbuilt p Tests built h = h.1 built.tests
+built_not_unbuilt p Logic built h = h.2 built.logic
+built_not_unbuilt p part built h = absurd h
+
+-- a project file is refused for one thing,
+pub untaken_once : (config : List ℕ) (r q : Refusal) → r ≢ Memory → q ≢ Memory → IsUntaken config r → IsUntaken config q → r ≡ q
+untaken_once config Memory q m n h k = absurd (m refl)
+untaken_once config r Memory m n h k = absurd (n refl)
+untaken_once config (ProjectBad e) (ProjectBad f) m n h k = ap ProjectBad (fault_once config e f h k)
+untaken_once config (ProjectBad e) (Unbuilt part) m n h (p, says, un) = absurd (project_not_fault config p e says h)
+untaken_once config (Unbuilt part) (ProjectBad f) m n (p, says, un) k = absurd (project_not_fault config p f says k)
+untaken_once config (Unbuilt a) (Unbuilt b) m n (p, says, un) (q, says', un') =
+    ap Unbuilt (unbuilt_once q a b (subst (λ (p : Project). IsUnbuilt p a) (project_once config p q says says') un) un')
+untaken_once config (ProjectBad e) q m n h k = absurd k
+untaken_once config (Unbuilt part) q m n h k = absurd k
+untaken_once config r q m n h k = absurd h
+
+-- and one that is taken for none
+pub untaken_not : (config : List ℕ) (p : Project) (r : Refusal) → IsProject config p → IsBuilt p → r ≢ Memory → ¬ IsUntaken config r
+untaken_not config p Memory says built m h = m refl
+untaken_not config p (ProjectBad e) says built m h = project_not_fault config p e says h
+untaken_not config p (Unbuilt part) says built m (q, says', un) = built_not_unbuilt p part built (subst (λ (p : Project). IsUnbuilt p part) (project_once config q p says' says) un)
+untaken_not config p r says built m h = absurd h
+
+-- Files.
+
+pub given_same : (held : Option (List ℕ)) (max : ℕ) (a b : List ℕ) → Gives held max a → Gives held max b → a ≡ b
+given_same held max a b one two = let is : Some a ≡ Some b = sym one.same ∙ two.same in cc
+
+-- what is held under a name, if not too much
+abbrev pub IsThere : Held → List ℕ → Type 0
+IsThere told name = (bytes : List ℕ) × Gives (told name) max_bytes bytes
+
+abbrev pub names_of : List SourceFile → List (List ℕ)
+names_of files = map (λ (file : SourceFile). file.name) files
+
+got_head : (told : Held) (file : SourceFile) (files : List SourceFile) → GotAll (Some told) (file ∷ files) → Gives (told file.name) max_bytes file.bytes
+got_head told file files got = All-head (λ (f : SourceFile). Gives (told f.name) max_bytes f.bytes) file files got
+
+got_tail : (told : Held) (file : SourceFile) (files : List SourceFile) → GotAll (Some told) (file ∷ files) → GotAll (Some told) files
+got_tail told file files got = All-tail (λ (f : SourceFile). Gives (told f.name) max_bytes f.bytes) file files got
+
+-- files of the same names are the same
+files_same : (told : Held) (xs ys : List SourceFile) → GotAll (Some told) xs → GotAll (Some told) ys → names_of xs ≡ names_of ys → xs ≡ ys
+files_same told [] [] h k is = refl
+files_same told [] (y ∷ ys) h k is = cc
+files_same told (x ∷ xs) [] h k is = cc
+files_same told (x ∷ xs) (y ∷ ys) h k is =
+    let name : x.name ≡ y.name = cc in
+    let rest : names_of xs ≡ names_of ys = cc in
+    let bytes : x.bytes ≡ y.bytes = given_same (told y.name) max_bytes x.bytes y.bytes (subst (λ (n : List ℕ). Gives (told n) max_bytes x.bytes) name (got_head told x xs h)) (got_head told y ys k) in
+    let first : x ≡ y = λ i. record { name = name i; bytes = bytes i } in
+    let more : xs ≡ ys = files_same told xs ys (got_tail told x xs h) (got_tail told y ys k) rest in
+    cc
+
+-- and so are files of which a book keeps the same
+pub files_kept : (xs ys : List SourceFile) → names_of xs ≡ names_of ys → map file_item xs ≡ map file_item ys → xs ≡ ys
+files_kept [] [] is kept = refl
+files_kept [] (y ∷ ys) is kept = cc
+files_kept (x ∷ xs) [] is kept = cc
+files_kept (x ∷ xs) (y ∷ ys) is kept =
+    let name : x.name ≡ y.name = cc in
+    let rest : names_of xs ≡ names_of ys = cc in
+    let item : file_item x ≡ file_item y = cc in
+    let more : map file_item xs ≡ map file_item ys = cc in
+    let behind : codes "\n" ++ x.bytes ≡ codes "\n" ++ y.bytes = append_cancel_left y.name (codes "\n" ++ x.bytes) (codes "\n" ++ y.bytes) (subst (λ (n : List ℕ). n ++ (codes "\n" ++ x.bytes) ≡ file_item y) name item) in
+    let bytes : x.bytes ≡ y.bytes = append_cancel_left (codes "\n") x.bytes y.bytes behind in
+    let first : x ≡ y = λ i. record { name = name i; bytes = bytes i } in
+    let others : xs ≡ ys = files_kept xs ys rest more in
+    cc
+
+-- a file that is next among those that are there is there
+next_there : (told : Held) (files : List SourceFile) (name : List ℕ) → GotAll (Some told) files → IsNext (Some told) (names_of files) name → IsThere told name
+next_there told [] name got next = absurd next
+next_there told (file ∷ files) name got (inl is) = (file.bytes, subst (λ (n : List ℕ). Gives (told n) max_bytes file.bytes) (sym is) (got_head told file files got))
+next_there told (file ∷ files) name got (inr (there, next)) = next_there told files name (got_tail told file files got) next
+
+-- and there is one next file that is not there
+pub next_once : (told : Held) (names : List (List ℕ)) (a b : List ℕ) → (¬ IsThere told a) → (¬ IsThere told b) → IsNext (Some told) names a → IsNext (Some told) names b → a ≡ b
+next_once told [] a b x y h k = absurd h
+next_once told (name ∷ names) a b x y (inl h) (inl k) = h ∙ sym k
+next_once told (name ∷ names) a b x y (inl h) (inr (there, k)) = absurd (x (subst (λ (n : List ℕ). IsThere told n) (sym h) there))
+next_once told (name ∷ names) a b x y (inr (there, h)) (inl k) = absurd (y (subst (λ (n : List ℕ). IsThere told n) (sym k) there))
+next_once told (name ∷ names) a b x y (inr (there, h)) (inr (there', k)) = next_once told names a b x y h k
+
+-- What is read.
+
+pub project_same : (told : Held) (p q : Project) → HasProject (Some told) p → HasProject (Some told) q → p ≡ q
+project_same told p q h k =
+    let config : h.config ≡ k.config = given_same (told config_name) max_bytes h.config k.config h.got k.got in
+    project_once k.config p q (subst (λ (c : List ℕ). IsProject c p) config h.says) k.says
+
+pub sources_same : (told : Held) (p q : Project) (xs ys : List SourceFile) → GotSources (Some told) p xs → GotSources (Some told) q ys → xs ≡ ys
+sources_same told p q xs ys h k = files_same told xs ys h.got k.got (h.names ∙ ap design_files (project_same told p q h.before k.before) ∙ sym k.names)
+
+pub source_there : (told : Held) (p q : Project) (files : List SourceFile) (name : List ℕ) → GotSources (Some told) p files → HasProject (Some told) q → IsNext (Some told) (design_files q) name → IsThere told name
+source_there told p q files name got has next =
+    let names : design_files q ≡ names_of files = ap design_files (project_same told q p has got.before) ∙ sym got.names in
+    next_there told files name got.got (subst (λ (ns : List (List ℕ)). IsNext (Some told) ns name) names next)
+
+-- each file that is read is there
+pub read_there : (told : Held) (p : Project) (files : List SourceFile) (name : List ℕ) → GotSources (Some told) p files → IsRead (Some told) name → IsThere told name
+read_there told p files name got (inl is) = (got.before.config, subst (λ (n : List ℕ). Gives (told n) max_bytes got.before.config) (sym is) got.before.got)
+read_there told p files name got (inr (q, has, next)) = source_there told p q files name got has next
+
+-- Designs.
+
+pub design_once : (p : Project) (files : List SourceFile) (m n : ThinModule) → IsDesign p files m → IsDesign p files n → m ≡ n
+design_once p files m n h k =
+    let one : h.file ∷ [] ≡ k.file ∷ [] = sym h.one ∙ k.one in
+    let file : h.file ≡ k.file = cc in
+    source_once k.file.bytes m n (subst (λ (f : SourceFile). IsSource f.bytes m) file h.text) k.text
+
+many_sites_not : (p : Project) (files : List SourceFile) (m n : ThinModule) → IsDesign p files m → IsDesign p files n → p.size < length (sites (netlist_of m)) → ¬ (length (sites (netlist_of n)) ≤ p.size)
+many_sites_not p files m n h k many all =
+    let more : p.size < length (sites (netlist_of n)) = subst (λ (d : ThinModule). p.size < length (sites (netlist_of d))) (design_once p files m n h k) many in
+    omega arith
+
+-- the sources are refused for one thing,
+pub untaken_design_once : (p : Project) (files : List SourceFile) (r q : Refusal) → r ≢ Memory → q ≢ Memory → IsUntakenDesign p files r → IsUntakenDesign p files q → r ≡ q
+untaken_design_once p files Memory q m n h k = absurd (m refl)
+untaken_design_once p files r Memory m n h k = absurd (n refl)
+untaken_design_once p files (Unbuilt Source) (Unbuilt Source) m n h k = refl
+untaken_design_once p files (Unbuilt Source) (Unbuilt Size) m n h (d, is, many) = absurd (h d is)
+untaken_design_once p files (Unbuilt Source) (SourceBad e) m n h (d, is, wide) = absurd (h d is)
+untaken_design_once p files (Unbuilt Size) (Unbuilt Source) m n (d, is, many) k = absurd (k d is)
+untaken_design_once p files (Unbuilt Size) (Unbuilt Size) m n h k = refl
+untaken_design_once p files (Unbuilt Size) (SourceBad e) m n (d, is, many) (d', is', wide) = absurd (many_sites_not p files d d' is is' many wide.all)
+untaken_design_once p files (SourceBad e) (Unbuilt Source) m n (d, is, wide) k = absurd (k d is)
+untaken_design_once p files (SourceBad e) (Unbuilt Size) m n (d, is, wide) (d', is', many) = absurd (many_sites_not p files d' d is' is many wide.all)
+untaken_design_once p files (SourceBad e) (SourceBad f) m n (d, is, wide) (d', is', wide') = ap SourceBad (wide.is ∙ sym wide'.is)
+untaken_design_once p files (Unbuilt Source) q m n h k = absurd k
+untaken_design_once p files (Unbuilt Size) q m n h k = absurd k
+untaken_design_once p files (SourceBad e) q m n h k = absurd k
+untaken_design_once p files r q m n h k = absurd h
+
+-- and those that are taken for none
+pub untaken_design_not : (p : Project) (files : List SourceFile) (m : ThinModule) (r : Refusal) → IsDesign p files m → length (sites (netlist_of m)) ≤ p.size → length (input_names m.ports) ≤ max_free_bits → r ≢ Memory → ¬ IsUntakenDesign p files r
+untaken_design_not p files m Memory is all few some h = some refl
+untaken_design_not p files m (Unbuilt Source) is all few some h = h m is
+untaken_design_not p files m (Unbuilt Size) is all few some (d, is', many) = many_sites_not p files d m is' is many all
+untaken_design_not p files m (SourceBad e) is all few some (d, is', wide) =
+    let same : d ≡ m = design_once p files d m is' is in
+    let many : max_free_bits < length (input_names m.ports) = subst (λ (d : ThinModule). max_free_bits < length (input_names d.ports)) same wide.many in
+    omega arith
+untaken_design_not p files m r is all few some h = absurd h
+
+-- Where the sources are refused, the files make no campaign,
+pub untaken_unmade : (held : Option Held) (p : Project) (files : List SourceFile) (r : Refusal) → GotSources held p files → IsUntakenDesign p files r → IsUnmade held r
+untaken_unmade held p files Memory got why = tt
+untaken_unmade held p files (Unbuilt part) got why = inr (record { project = p; files = files; got = got; why = why })
+untaken_unmade held p files (SourceBad e) got why = record { project = p; files = files; got = got; why = why }
+untaken_unmade held p files r got why = absurd why
+
+-- and the campaign that is prepared of them is theirs.
+pub made_of : (held : Option Held) (config : List ℕ) (p : Project) (files : List SourceFile) (c : Prepared) → Got held config_name config → GotSources held p files → IsPrepared config files c → IsMade held c
+made_of held config p files c first got is = record { config = config; files = files; got_config = first; got_files = got.got; made = is }
