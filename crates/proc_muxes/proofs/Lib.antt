@@ -13,3 +13,7 @@ pub mod Putting
 pub mod Placing
 pub mod Piecing
 pub mod Assigning
+pub mod Counting
+pub mod Walking
+pub mod Loopless
+pub mod Branching

@@ -1,12 +1,18 @@
--- Assignments in which nothing is refused, and variables that have bits for them.
-use Rattle.std.specs.Prelude.{◌≡◌, ◌<◌, ◌≤◌, List, [], ◌∷◌, length, Some}
+-- Statements in which nothing is refused, and variables that have bits for them.
+use Rattle.std.specs.Prelude.{◌≡◌, ◌<◌, ◌≤◌, Bool, true, false, ◌||◌, List, [], ◌∷◌, length, Option, Some, None}
+use Rattle.vlog_syntax.specs.declared.stmt.Stmt.{Stmt}
+use Rattle.vlog_syntax.specs.declared.stmt.Stmt.TheOpen as t
+use Rattle.vlog_syntax.specs.declared.stmt.Stmt.TheOpen.{Stmt-F, CaseItem-F}
+use Rattle.vlog_syntax.specs.declared.stmt.Stmt.TheFolds.{fold-Stmt}
 use Rattle.vlog_meaning.specs.Scopes.{Names}
 use Rattle.vlog_meaning.specs.Senses.{sense, assigned, IsWhole}
 use Rattle.vlog_effects.specs.LeftSides.{Select, Whole, Bit as BitOf, Range, Indexed, Part, Vector, parts_of, part_vector, parts_width, select_width}
-use Rattle.vlog_effects.specs.Steps.{Assigning}
-use Rattle.vlog_effects.specs.Latches.{Target}
+use Rattle.vlog_effects.specs.Steps.{Assigning, Steps, Done, Assign, Choose, Case, Refuse}
+use Rattle.vlog_effects.specs.Latches.{Target, targets}
+use Rattle.elab_expr.specs.Building.{HasSignals}
 use Rattle.elab_expr.specs.Expressions.{refusals}
 use Rattle.proc_muxes.specs.Builds.{Work, held, Index, variable_index}
+use Rattle.proc_muxes.specs.Shows.{StandsBelow}
 
 -- the expressions of a select have shapes
 abbrev pub IsWholeSelect : Names → Select → Type 0
@@ -47,3 +53,43 @@ pub record IsHeld (a : Work) (x : Target) : Type 0 where
 abbrev pub AreHeld : Work → List Target → Type 0
 AreHeld a [] = Unit {0}
 AreHeld a (x ∷ more) = IsHeld a x × AreHeld a more
+
+-- Statements in which nothing is refused. A case is not among them, as it is not built yet.
+abbrev mutual
+  pub IsClear : Steps → Type 0
+  IsClear Done = Unit {0}
+  IsClear (Assign s more) = CanAssign s × IsClear more
+  IsClear (Choose at c then_part else_part more) = (refusals c.names c.condition (sense c.names c.condition).shape ≡ []) × IsClear then_part × IsClear else_part × IsClear more
+  IsClear (Case c arms more) = ⊥
+  IsClear (Refuse x more) = ⊥
+
+-- what the code of statements asks of the builder and the variables
+pub record IsReady (names : Names) (steps : Steps) (a : Work) : Type 0 where
+  pub clear : IsClear steps
+  pub held : AreHeld a (targets steps)
+  pub signals : HasSignals names a.building
+  pub stands : StandsBelow a
+
+-- Loops, which are not built yet.
+
+abbrev pub have_loops : List Bool → Bool
+have_loops [] = false
+have_loops (b ∷ more) = b || have_loops more
+
+abbrev pub else_has_loop : Option Bool → Bool
+else_has_loop None = false
+else_has_loop (Some b) = b
+
+abbrev pub loop_step : Stmt-F Bool Bool → Bool
+loop_step (t.SeqBlock at name body) = have_loops body
+loop_step (t.Conditional at c first second) = first || else_has_loop second
+loop_step (t.Case at kind selector items) = have_loops items
+loop_step (t.For at start condition step body) = true
+loop_step other = false
+
+abbrev pub loop_item : CaseItem-F Bool Bool → Bool
+loop_item i = i.body
+
+-- there is a loop in the statement
+abbrev pub has_loop : Stmt → Bool
+has_loop = fold-Stmt Bool Bool loop_step loop_item

@@ -1,14 +1,17 @@
--- How many cells an assignment makes.
-use Rattle.std.specs.Prelude.{ℕ, ◌+◌, List, [], ◌∷◌, length, Option, Some, None}
+-- How many cells statements make.
+use Rattle.std.specs.Prelude.{ℕ, ◌+◌, List, [], ◌∷◌, ◌++◌, length, Option, Some, None}
+use Rattle.vlog_syntax.specs.declared.expr.Expr.{Expr}
 use Rattle.vlog_meaning.specs.Scopes.{Names}
 use Rattle.vlog_meaning.specs.Senses.{sense, assigned}
 use Rattle.vlog_effects.specs.LeftSides.{Part, parts_of, parts_width}
-use Rattle.vlog_effects.specs.Steps.{Assigning}
+use Rattle.vlog_effects.specs.Steps.{Assigning, Selection, Steps, Done, Assign, Choose, Case, Refuse, Arms, Otherwise, Arm}
+use Rattle.vlog_effects.specs.Latches.{targets, arms_targets}
 use Rattle.elab_expr.specs.Made.{made}
 use Rattle.proc_muxes.specs.declared.piece.Piece.{Piece}
 use Rattle.proc_muxes.specs.declared.piece.Place.{Place}
 use Rattle.proc_muxes.specs.declared.piece.Place.TheVariants.{From, At}
-use Rattle.proc_muxes.specs.Builds.{Index, variable_index}
+use Rattle.proc_muxes.specs.Builds.{Index, variable_index, distinct, case_shape}
+use Rattle.proc_muxes.specs.Working.{test_cells}
 
 -- the cells of an index
 abbrev pub index_cells : Names → Option Index → ℕ
@@ -42,3 +45,25 @@ abbrev pub assign_cells : Assigning → ℕ
 assign_cells s =
     let ps = parts_of s.left in
     length (made s.names s.right (assigned (sense s.names s.right) (parts_width s.names ps))) + (indices_cells s.names ps + puts_cells s.names ps)
+
+-- each label has an `eq`, and from the second on a `lor`
+abbrev pub labels_cells : Selection → List Expr → ℕ
+labels_cells c [] = 0
+labels_cells c (x ∷ more) = length (made c.names x (case_shape c)) + (1 + (1 + labels_cells c more))
+
+abbrev pub match_cells : Selection → List Expr → ℕ
+match_cells c [] = 0
+match_cells c (x ∷ more) = length (made c.names x (case_shape c)) + (1 + labels_cells c more)
+
+-- A choice has one mux for each variable that a part of it assigns.
+abbrev mutual
+  pub cells_of : Steps → ℕ
+  cells_of Done = 0
+  cells_of (Assign s more) = assign_cells s + cells_of more
+  cells_of (Choose at c then_part else_part more) = test_cells c.names c.condition + (cells_of then_part + (cells_of else_part + (length (distinct (targets then_part ++ targets else_part)) + cells_of more)))
+  cells_of (Case c arms more) = length (made c.names c.selector (case_shape c)) + (arms_cells c arms + cells_of more)
+  cells_of (Refuse x more) = cells_of more
+
+  pub arms_cells : Selection → Arms → ℕ
+  arms_cells c (Otherwise body) = cells_of body
+  arms_cells c (Arm at labels body others) = match_cells c labels + (cells_of body + (arms_cells c others + length (distinct (targets body ++ arms_targets others))))

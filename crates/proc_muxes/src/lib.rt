@@ -9,6 +9,7 @@ mod condition;
 mod laws;
 mod piece;
 mod put;
+mod statement;
 mod variables;
 
 pub use assignment::build_assignment;
@@ -16,4 +17,5 @@ pub use change::{Change, Changes};
 pub use choice::{Choice, choose, set_aside};
 pub use condition::build_test;
 pub use laws::{parts_are_built, statements_build_their_effect};
+pub use statement::build_statement;
 pub use variables::Variables;
