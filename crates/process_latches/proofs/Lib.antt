@@ -3,3 +3,7 @@ pub mod Fitting
 pub mod Parts
 pub mod Assigned
 pub mod Reading
+pub mod Following
+pub mod Choosing
+pub mod Turning
+pub mod Walking

@@ -1,3 +1,4 @@
 pub mod Sound
 pub mod Writes
 pub mod Marking
+pub mod Turning

@@ -1,9 +1,11 @@
-//! What assignments of a process assign and read, of which latches and second kinds of assignments are told (IEEE 1364-2005, 9.2).
+//! What statements of a process assign and read, of which latches and second kinds of assignments are told (IEEE 1364-2005, 9).
 #![tactic(auto)]
 
 mod assignments;
 mod left;
 mod marks;
+mod walk;
 
 pub use assignments::mark_assignment;
 pub use marks::{Marks, Write};
+pub use walk::mark;
