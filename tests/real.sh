@@ -195,39 +195,6 @@ cp was.v g.v
 case_is $? "status 13 where standard output is full: $(cat "$room/lines")"
 ends 0 "$finished" "" status
 
-# The user's own project, with comments, blank lines, and a file of another name in a folder of its own.
-rm -rf "$room/here" && cp -r "$root/examples/parity" "$room/here" && cd "$room/here" && chmod -R go+rX . && chmod 777 . || exit 1
-ends 0 'Mutations: 6
-Finished: 6
-Test same: PASS 0 FAIL 6 UNKNOWN 0
-Tag CHANGED: 6
-Tag NOCHANGE: 0
-Asserts: 0
-Unexpected: 0' "" run
-ends 0 "$(for n in 0 1; do
-    for port in A B Y; do
-        echo "inv g cell xor_$n $port 0 rtl/parity.v:$((n + 2)) [same=FAIL] CHANGED"
-    done
-done | sed '=' | sed 'N; s/\n/: /')" "" list
-cp config.mcy was && sed 's/^modes inv$/modes inv const0/' was >config.mcy
-refuses 99 "mcy: not built" "" run
-sed 's/^eq$/run true/' was >config.mcy
-refuses 3 "mcy: config.mcy:$(grep -n '^eq$' was | cut -d: -f1): UnsupportedCommand" "" run
-{
-    cat was
-    echo '# more'
-} >config.mcy
-refuses 99 "mcy: not built" "" run
-{
-    echo '# more'
-    cat was
-} >config.mcy
-refuses 10 "mcy: database: meta 1" "./mcy.db-wal " run
-cp was config.mcy && mv rtl/parity.v rtl/other.v
-refuses 6 "mcy: rtl/parity.v: missing" "" status
-sed 's/^rtl.*/rtl\/other.v/; s/^read_verilog.*/read_verilog other.v/' was >config.mcy
-refuses 10 "mcy: database: meta 1" "./mcy.db-wal " status
-
 # The rows of the database, by the stock shell, as `seq mutation test word mark tags` in the order of seq.
 rows() {
     sqlite3 -separator ' ' mcy.db 'SELECT seq, mutation, test, word, mark, tags FROM journal ORDER BY seq'
@@ -282,6 +249,39 @@ if [ "$has_shell" = 1 ]; then
     [ "$books" = "$campaigns" ]
     case_is $? "each killed campaign has the undisturbed rows in a sound database ($books of $campaigns)"
 fi
+
+# The user's own project, with comments, blank lines, and a file of another name in a folder of its own.
+rm -rf "$room/here" && cp -r "$root/examples/parity" "$room/here" && cd "$room/here" && chmod -R go+rX . && chmod 777 . || exit 1
+ends 0 'Mutations: 6
+Finished: 6
+Test same: PASS 0 FAIL 6 UNKNOWN 0
+Tag CHANGED: 6
+Tag NOCHANGE: 0
+Asserts: 0
+Unexpected: 0' "" run
+ends 0 "$(for n in 0 1; do
+    for port in A B Y; do
+        echo "inv g cell xor_$n $port 0 rtl/parity.v:$((n + 2)) [same=FAIL] CHANGED"
+    done
+done | sed '=' | sed 'N; s/\n/: /')" "" list
+cp config.mcy was && sed 's/^modes inv$/modes inv const0/' was >config.mcy
+refuses 99 "mcy: not built" "" run
+sed 's/^eq$/run true/' was >config.mcy
+refuses 3 "mcy: config.mcy:$(grep -n '^eq$' was | cut -d: -f1): UnsupportedCommand" "" run
+{
+    cat was
+    echo '# more'
+} >config.mcy
+refuses 99 "mcy: not built" "" run
+{
+    echo '# more'
+    cat was
+} >config.mcy
+refuses 10 "mcy: database: meta 1" "./mcy.db-wal " run
+cp was config.mcy && mv rtl/parity.v rtl/other.v
+refuses 6 "mcy: rtl/parity.v: missing" "" status
+sed 's/^rtl.*/rtl\/other.v/; s/^read_verilog.*/read_verilog other.v/' was >config.mcy
+refuses 10 "mcy: database: meta 1" "./mcy.db-wal " status
 
 # A folder with the database of a finished campaign, to which others may write.
 finished_folder() {

@@ -1,16 +1,15 @@
 -- What each operation adds.
-use Rattle.std.proofs.Common.{◌≡◌, ℕ, zero, suc, ◌+◌, ◌-◌, ◌<◌, ◌≤◌, Bool, true, false, not, List, [], ◌∷◌, ◌++◌, length, get_or, refl, ap, sym, subst, ◌∙◌, arith, true≢false, ℤ, pos, negsuc, neg_ℤ, int_eq, if◌then◌else◌, nat_le}
+use Rattle.std.proofs.Common.{◌≡◌, ℕ, zero, suc, ◌<◌, Bool, true, false, not, [], ◌∷◌, length, get_or, refl, ap, sym, subst, ◌∙◌, arith, true≢false, ℤ, pos, negsuc, neg_ℤ, int_eq, if◌then◌else◌, nat_le}
 use Rattle.std.specs.List.{list_any, position_or_len}
 use Rattle.std.specs.Cmp.{signed_Decides}
 use Rattle.std.proofs.lemmas.List.{length-append, append-nil}
 use Rattle.clause_store.specs.Clauses.{variable, Values, value}
-use Rattle.clause_store.specs.Propagation.{is_positive}
 use Rattle.gate_list.specs.declared.gate.Gate.{Gate}
 use Rattle.gate_list.specs.declared.gate.Gate.TheVariants.{And, Xor, Mux}
 use Rattle.gate_list.specs.declared.literal.GateLit.{GateLit}
 use Rattle.gate_list.specs.declared.literal.GateLit.TheVariants.{Fixed, Var}
-use Rattle.gate_list.specs.Gates.{Gates, count, IsLiteral, IsLit, Reads, lit_value, gate_value, Hold, HoldFrom, Adds}
-use Rattle.gate_list.specs.Folding.{Made, negated, negated_if, same_gate, with_gate, folded, and_gate, and_of, or_of, xor_gate, differ_in_sign, xor_of, mux_at, same_lit, mux_of}
+use Rattle.gate_list.specs.Gates.{Gates, count, IsLiteral, IsLit, Reads, lit_value, gate_value, Adds}
+use Rattle.gate_list.specs.Folding.{Made, negated, negated_if, same_gate, with_gate, and_of, or_of, xor_gate, differ_in_sign, xor_of, mux_at, same_lit, mux_of}
 use Rattle.gate_list.proofs.Same.{same-equal, first-passes, none-passes}
 use Rattle.gate_list.proofs.Values.{hold-at, hold-last}
 
@@ -56,16 +55,22 @@ adds-gate gates gate reads = by (list_any (same_gate gate) gates.made) refl wher
       let found : (position_or_len (same_gate gate) gates.made < length gates.made) × (same_gate gate (get_or gates.made (position_or_len (same_gate gate) gates.made) gate) ≡ true) = first-passes (same_gate gate) gates.made gate there in
       let equal : gate ≡ get_or gates.made (position_or_len (same_gate gate) gates.made) gate = same-equal gate (get_or gates.made (position_or_len (same_gate gate) gates.made) gate) found.1 in
       rw there (record {
-        free = refl; added = []; grown = sym (append-nil gates.made); one = omega arith;
+        free = refl;
+        added = [];
+        grown = sym (append-nil gates.made);
+        one = omega arith;
         within = (omega arith, omega (arith, found.0));
-        is = λ values holds. ap values (omega arith) ∙ hold-at (suc gates.free) gates.made values (position_or_len (same_gate gate) gates.made) gate holds found.0 ∙ ap (gate_value values) (sym equal)
+        is = λ values holds. ap values (omega arith) ∙ hold-at (suc gates.free) gates.made values (position_or_len (same_gate gate) gates.made) gate holds found.0 ∙ ap (gate_value values) (sym equal);
       })
   by false absent =
       let at : position_or_len (same_gate gate) gates.made ≡ length gates.made = none-passes (same_gate gate) gates.made absent in
       rw (absent, at) (record {
-        free = refl; added = gate ∷ []; grown = refl; one = omega arith;
+        free = refl;
+        added = gate ∷ [];
+        grown = refl;
+        one = omega arith;
         within = (omega arith, simp (length-append) (omega arith));
-        is = λ values holds. ap values (omega arith) ∙ hold-last (suc gates.free) gates.made gate values holds
+        is = λ values holds. ap values (omega arith) ∙ hold-last (suc gates.free) gates.made gate values holds;
       })
 
 and-false : (b : Bool) → false ≡ (if b then false else false)
@@ -98,6 +103,7 @@ adds-and gates (Var a) (Fixed true) is also = adds-as gates gates (Var a) (λ va
 adds-and gates (Var a) (Var b) is also = by (int_eq a b) refl (int_eq a (neg_ℤ b)) refl (nat_le (variable a) (variable b)) refl where
   result : Type 0
   result = Adds gates (and_of gates (Var a) (Var b)).gates (and_of gates (Var a) (Var b)).lit (λ values. if value values a then value values b else false)
+
   by : (same : Bool) → int_eq a b ≡ same → (turned : Bool) → int_eq a (neg_ℤ b) ≡ turned → (ordered : Bool) → nat_le (variable a) (variable b) ≡ ordered → result
   by true same turned turn ordered order =
       let equal : a ≡ b = (signed_Decides a b).0 same in
@@ -117,8 +123,8 @@ adds-or gates a b is also =
     let made : Made = and_of gates (negated a) (negated b) in
     let inner = adds-and gates (negated a) (negated b) (lit-negated (count gates) a is) (lit-negated (count gates) b also) in
     adds-as gates made.gates (negated made.lit) (λ values. not (if lit_value values (negated a) then lit_value values (negated b) else false)) (λ values. if lit_value values a then true else lit_value values b)
-      (λ values. rw (value-negated (count gates) values a is, value-negated (count gates) values b also) (or-morgan (lit_value values a) (lit_value values b)))
-      (adds-negated gates made.gates made.lit (λ values. if lit_value values (negated a) then lit_value values (negated b) else false) inner)
+    (λ values. rw (value-negated (count gates) values a is, value-negated (count gates) values b also) (or-morgan (lit_value values a) (lit_value values b)))
+    (adds-negated gates made.gates made.lit (λ values. if lit_value values (negated a) then lit_value values (negated b) else false) inner)
 
 xor-false : (b : Bool) → b ≡ (if b then not false else false)
 xor-false true = refl
@@ -167,11 +173,11 @@ adds-xor_made gates (pos m) (pos n) is also = adds-xor_gate gates m n is also (n
 adds-xor_made gates (pos m) (negsuc n) is also =
     let made : Made = with_gate gates (xor_gate (pos m) (negsuc n)) in
     adds-as gates made.gates (negated made.lit) (λ values. not (if values m then not (values (suc n)) else values (suc n))) (λ values. if values m then not (not (values (suc n))) else not (values (suc n))) (λ values. xor-right (values m) (values (suc n)))
-      (adds-negated gates made.gates made.lit (λ values. if values m then not (values (suc n)) else values (suc n)) (adds-xor_gate gates m (suc n) is also (nat_le m (suc n))))
+    (adds-negated gates made.gates made.lit (λ values. if values m then not (values (suc n)) else values (suc n)) (adds-xor_gate gates m (suc n) is also (nat_le m (suc n))))
 adds-xor_made gates (negsuc m) (pos n) is also =
     let made : Made = with_gate gates (xor_gate (negsuc m) (pos n)) in
     adds-as gates made.gates (negated made.lit) (λ values. not (if values (suc m) then not (values n) else values n)) (λ values. if not (values (suc m)) then not (values n) else values n) (λ values. xor-left (values (suc m)) (values n))
-      (adds-negated gates made.gates made.lit (λ values. if values (suc m) then not (values n) else values n) (adds-xor_gate gates (suc m) n is also (nat_le (suc m) n)))
+    (adds-negated gates made.gates made.lit (λ values. if values (suc m) then not (values n) else values n) (adds-xor_gate gates (suc m) n is also (nat_le (suc m) n)))
 adds-xor_made gates (negsuc m) (negsuc n) is also =
     let made : Made = with_gate gates (xor_gate (negsuc m) (negsuc n)) in
     adds-as gates made.gates made.lit (λ values. if values (suc m) then not (values (suc n)) else values (suc n)) (λ values. if not (values (suc m)) then not (not (values (suc n))) else not (values (suc n))) (λ values. xor-both (values (suc m)) (values (suc n))) (adds-xor_gate gates (suc m) (suc n) is also (nat_le (suc m) (suc n)))

@@ -1,10 +1,10 @@
 -- The values that the free bits give to gates.
-use Rattle.std.proofs.Common.{◌≡◌, ◌≢◌, ℕ, zero, suc, ◌+◌, ◌-◌, ◌<◌, ◌≤◌, ◌⊎◌, inl, inr, Bool, true, false, not, List, [], ◌∷◌, length, refl, ap, sym, subst, ◌∙◌, arith, true≢false, ℤ, pos, negsuc, if◌then◌else◌, eqb}
+use Rattle.std.proofs.Common.{◌≡◌, ◌≢◌, ℕ, suc, ◌+◌, ◌<◌, ◌⊎◌, inl, inr, Bool, true, false, not, List, [], ◌∷◌, length, refl, ap, sym, ◌∙◌, arith, ℤ, pos, negsuc, if◌then◌else◌, eqb}
 use Rattle.std.proofs.lemmas.Bool.Decides.{eqb_tells}
-use Rattle.clause_store.specs.Clauses.{variable, Values, value}
+use Rattle.clause_store.specs.Clauses.{Values, value}
 use Rattle.gate_list.specs.declared.gate.Gate.{Gate}
 use Rattle.gate_list.specs.declared.gate.Gate.TheVariants.{And, Xor, Mux}
-use Rattle.gate_list.specs.Gates.{Gates, count, IsLiteral, Reads, AreOrdered, gate_value, HoldFrom, Hold}
+use Rattle.gate_list.specs.Gates.{IsLiteral, Reads, AreOrdered, gate_value, HoldFrom}
 use Rattle.gate_list.specs.Laws.{AgreeUpTo, GatesHaveValues, GatesHaveOneValue}
 
 -- the values, but for one variable

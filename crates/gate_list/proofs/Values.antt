@@ -1,5 +1,5 @@
 -- Lists of gates: what one more gate changes.
-use Rattle.std.proofs.Common.{◌≡◌, ℕ, zero, suc, ◌+◌, ◌-◌, ◌<◌, ◌≤◌, Bool, true, false, List, [], ◌∷◌, ◌++◌, length, get_or, refl, ap, sym, subst, ◌∙◌, arith}
+use Rattle.std.proofs.Common.{◌≡◌, ℕ, zero, suc, ◌+◌, ◌<◌, List, [], ◌∷◌, ◌++◌, length, get_or, ap, subst, ◌∙◌, arith}
 use Rattle.clause_store.specs.Clauses.{Values}
 use Rattle.gate_list.specs.declared.gate.Gate.{Gate}
 use Rattle.gate_list.specs.Gates.{Reads, AreOrdered, gate_value, HoldFrom}

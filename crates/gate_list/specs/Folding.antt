@@ -2,7 +2,7 @@
 --
 -- The equations are those of and-inverter graphs with xor and mux: an operation on constants, on one literal twice, or on a literal
 -- and its negation makes no gate.
-use Rattle.std.specs.Prelude.{◌≡◌, ℕ, suc, pos, ◌+◌, ◌&&◌, Bool, false, true, not, List, [], ◌∷◌, ◌++◌, ℤ, neg_ℤ, if◌then◌else◌, length, nat_le}
+use Rattle.std.specs.Prelude.{suc, pos, ◌+◌, ◌&&◌, Bool, false, true, not, [], ◌∷◌, ◌++◌, ℤ, neg_ℤ, if◌then◌else◌, nat_le}
 use Rattle.std.specs.List.{list_any, position_or_len}
 use Rattle.std.specs.Ordering.{int_eq}
 use Rattle.clause_store.specs.Clauses.{variable}
@@ -37,7 +37,7 @@ pub record Made : Type 0 where
 abbrev pub with_gate : Gates → Gate → Made
 with_gate gates gate = record {
   gates = record gates { made = if list_any (same_gate gate) gates.made then gates.made else gates.made ++ gate ∷ [] };
-  lit = Var (pos (suc (gates.free + position_or_len (same_gate gate) gates.made)))
+  lit = Var (pos (suc (gates.free + position_or_len (same_gate gate) gates.made)));
 }
 
 -- no gate is made
@@ -54,9 +54,9 @@ and_of gates (Fixed true) x = folded gates x
 and_of gates (Var a) (Fixed false) = folded gates (Fixed false)
 and_of gates (Var a) (Fixed true) = folded gates (Var a)
 and_of gates (Var a) (Var b) =
-  if int_eq a b then folded gates (Var a)
-  else if int_eq a (neg_ℤ b) then folded gates (Fixed false)
-  else with_gate gates (and_gate a b)
+    if int_eq a b then folded gates (Var a)
+    else if int_eq a (neg_ℤ b) then folded gates (Fixed false)
+    else with_gate gates (and_gate a b)
 
 -- by De Morgan
 abbrev pub or_of : Gates → GateLit → GateLit → Made
@@ -74,9 +74,9 @@ abbrev pub xor_of : Gates → GateLit → GateLit → Made
 xor_of gates (Fixed b) x = folded gates (negated_if b x)
 xor_of gates (Var a) (Fixed b) = folded gates (negated_if b (Var a))
 xor_of gates (Var a) (Var b) =
-  if int_eq a b then folded gates (Fixed false)
-  else if int_eq a (neg_ℤ b) then folded gates (Fixed true)
-  else let made = with_gate gates (xor_gate a b) in record made { lit = negated_if (differ_in_sign a b) made.lit }
+    if int_eq a b then folded gates (Fixed false)
+    else if int_eq a (neg_ℤ b) then folded gates (Fixed true)
+    else let made = with_gate gates (xor_gate a b) in record made { lit = negated_if (differ_in_sign a b) made.lit }
 
 -- a mux with a literal at s: `a` where it is 0, `b` where it is 1
 abbrev pub mux_at : Gates → ℤ → GateLit → GateLit → Made

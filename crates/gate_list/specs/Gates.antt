@@ -1,5 +1,5 @@
 -- Gates over free bits. Variables 1 to `free` are the free bits, and gate number i, from 0, is the variable `free + 1 + i`.
-use Rattle.std.specs.Prelude.{◌≡◌, ℕ, suc, ◌+◌, ◌<◌, ◌≤◌, Bool, false, true, not, List, [], ◌∷◌, ◌++◌, length, ℤ, if◌then◌else◌}
+use Rattle.std.specs.Prelude.{◌≡◌, ℕ, suc, ◌+◌, ◌<◌, ◌≤◌, Bool, false, not, List, [], ◌∷◌, ◌++◌, length, ℤ, if◌then◌else◌}
 use Rattle.clause_store.specs.Clauses.{variable, Values, value}
 use Rattle.gate_list.specs.declared.gate.Gate.{Gate}
 use Rattle.gate_list.specs.declared.gate.Gate.TheVariants.{And, Xor, Mux}

@@ -5,5 +5,4 @@ ghost use Rattle.gate_list.specs.Laws.{GatesHaveValues, GatesHaveOneValue};
 pub fn gates_have_values()
     ensures some { GatesHaveValues }
     ensures one { GatesHaveOneValue }
-{
-}
+{}

@@ -187,7 +187,9 @@ impl GateList {
     {
         let _ = &self.free;
         match (a, b) {
-            (GateLit::Fixed(bit), other) | (other, GateLit::Fixed(bit)) => Ok(other.negated_if(bit)),
+            (GateLit::Fixed(bit), other) | (other, GateLit::Fixed(bit)) => Ok(other.negated_if(
+                bit,
+            )),
             (GateLit::Var(a), GateLit::Var(b)) if a == b => Ok(GateLit::Fixed(false)),
             (GateLit::Var(a), GateLit::Var(b)) if a == -b => Ok(GateLit::Fixed(true)),
             (GateLit::Var(a), GateLit::Var(b)) => {

@@ -1,11 +1,11 @@
-use Rattle.std.proofs.Common.{rules, arith, ◌≡◌, ◌<◌, ◌≤◌, ◌^◌, ◌∷◌, [], length, Some, slice_get, OnOk, OnErr, IfOk, ℕ, suc, ◌+◌, ◌-◌, ◌*◌, ◌/◌, ◌%◌, Bool, true, false, nat_eq, nat_lt, List, ◌++◌, slice_index_or, slice_set, bit_and, bit_or, Fits, w8, w32, w64, Bor, MutBor, ℤ, pos, ◌+ℤ◌, ◌-ℤ◌, ◌*ℤ◌, ◌≤ℤ◌, ◌<ℤ◌, FitsSigned, to_z, of_z, ap, sym, refl, ◌∙◌, cond, if◌then◌else◌, subst}
+use Rattle.std.proofs.Common.{arith, ◌≡◌, ◌<◌, ◌≤◌, ◌^◌, ◌∷◌, [], length, ℕ, suc, ◌+◌, Bool, true, false, List, ◌++◌, pos, refl, if◌then◌else◌}
 use Rattle.std.specs.List.{list_any, position_or_len}
 use Rattle.gate_list.specs.declared.gate.Gate.{Gate}
 use Rattle.std.proofs.lemmas.List.{length-append}
 use Rattle.gate_list.specs.declared.literal.GateLit.{GateLit}
 use Rattle.gate_list.specs.declared.literal.GateLit.TheVariants.{Var}
-use Rattle.gate_list.specs.Gates.{Gates, count, IsLit, Reads, AreOrdered, lit_value, Hold}
-use Rattle.gate_list.specs.Folding.{Made, same_gate, with_gate, and_of, or_of, xor_of, mux_of}
+use Rattle.gate_list.specs.Gates.{Reads, AreOrdered}
+use Rattle.gate_list.specs.Folding.{same_gate, with_gate}
 use Rattle.gate_list.specs.contracts.gate.GatePartialEq.TheImpl.{eq-value}
 use Rattle.gate_list.proofs.Same.{same-is, any-agree, position-agree}
 use Rattle.gate_list.proofs.Values.{ordered-push}
@@ -17,10 +17,10 @@ grown free gates gate true inv room reads = inv
 grown free gates gate false inv room reads = (inv.0, simp (length-append) (omega (arith, room)), ordered-push free gates gate inv.2 reads)
 
 pub invariant_of-self : goal.invariant_of-self
-invariant_of-self c = elim c.match-insert_full.branch
-  [ in-Ok w ↦ rw (rw w.in-Ok.is at c.insert_full.ensures.keys) (grown c.self.inside.free c.self.inside.gates.keys c.args.gate (list_any (eq-value.it c.args.gate) c.self.inside.gates.keys) c.self.invariant (rw (← c.self.view_is) at c.requires.room) (rw (← c.self.view_is) at c.requires.reads))
+invariant_of-self c = elim c.match-insert_full.branch [
+  | in-Ok w ↦ rw (rw w.in-Ok.is at c.insert_full.ensures.keys) (grown c.self.inside.free c.self.inside.gates.keys c.args.gate (list_any (eq-value.it c.args.gate) c.self.inside.gates.keys) c.self.invariant (rw (← c.self.view_is) at c.requires.room) (rw (← c.self.view_is) at c.requires.reads))
   | in-Err w ↦ rw (rw w.in-Err.is at c.insert_full.ensures.err) c.self.invariant
-  ]
+]
 
 made : (free : ℕ) (gates new : List Gate) (gate : Gate) (place : ℕ) (lit : GateLit) → new ≡ (if list_any (eq-value.it gate) gates then gates else gates ++ gate ∷ []) → place ≡ position_or_len (eq-value.it gate) gates → lit ≡ Var (pos (free + 1 + place)) → record { gates = record { free = free; made = new }; lit = lit } ≡ with_gate (record { free = free; made = gates }) gate
 made free gates new gate place lit is at var =
@@ -30,10 +30,10 @@ made free gates new gate place lit is at var =
     rw (var, number, is, at, any, first) refl
 
 pub returns-clause-made : goal.returns-clause-made
-returns-clause-made c = elim c.match-insert_full.branch
-  [ in-Ok w ↦
+returns-clause-made c = elim c.match-insert_full.branch [
+  | in-Ok w ↦
       let is = (rw w.in-Ok.is at c.insert_full.ensures.keys) in
       let at = (rw w.in-Ok.is at c.insert_full.ensures.index) in
       rw (w.result-is, ← c.self.view_is) (made c.self.inside.free c.self.inside.gates.keys c.insert_full.new.self.keys c.args.gate w.in-Ok.place w.variable.result is at w.variable.ensures)
   | in-Err w ↦ rw w.result-is tt
-  ]
+]
