@@ -1,20 +1,18 @@
 //! Reading a left side: what is wrong with the names and indices of its parts, and the parts in which nothing is wrong, from
 //! the left.
-ghost use Rattle.std.specs.Prelude.{◌≡◌, ◌++◌, map, pos, IfOk, OnOk};
+ghost use Rattle.std.specs.Prelude.{◌≡◌, ◌++◌, map, IfOk, OnOk};
 ghost use Rattle.vlog_meaning.specs.Answers.{least};
-ghost use Rattle.vlog_meaning.specs.Integers.{bound_integer};
-ghost use Rattle.vlog_meaning.specs.Scopes.{names_of, nothing};
-ghost use Rattle.vlog_meaning.specs.Senses.{sense, own, constant_faults, constant_integer, IsWhole};
+ghost use Rattle.vlog_meaning.specs.Scopes.{names_of};
+ghost use Rattle.vlog_meaning.specs.Senses.{sense, constant_faults};
 ghost use Rattle.vlog_effects.specs.LeftSides.{parts_of, concatenated};
 ghost use Rattle.flat_assigns.specs.Parts.{IsName, IsIndexed, IsRange, IsScanned, listed};
 ghost use Rattle.flat_assigns.specs.Sides.{constant_target};
 
 use crate::slice::Slice;
+use elab_expr::{bound_of, index_of};
 use elab_proc::same_form;
 use std::alloc::{AllocError, Global};
-use vlog_meaning::{
-    Bound, Cause, Decl, Fault, Scope, constant_fault, earlier, fault_in, shape_of, value_of,
-};
+use vlog_meaning::{Cause, Decl, Fault, Scope, constant_fault, earlier, fault_in, shape_of};
 use vlog_syntax::{Expr, Identifier, LeftSide};
 
 /// A name that is written and is a constant.
@@ -36,27 +34,6 @@ fn index_target(scope: &Scope, name: &Identifier, index: &Expr) -> Option<Fault>
     ensures { result ≡ least (constant_target name.now.span (names_of scope.now name.now.name) ++ constant_faults (sense (names_of scope.now) index.now)) }
 {
     earlier(constant_target(scope, name), constant_fault(index, scope))
-}
-
-/// The declared number that a constant index names: it is read as unsigned.
-fn index_of(index: &Expr, scope: &Scope) -> Bound
-    requires { IsWhole (names_of scope.now) index.now }
-    ensures { bound_integer result ≡ pos (own nothing (sense (names_of scope.now) index.now)) }
-{
-    let own = shape_of(index, scope);
-    Bound {
-        is_negative: false,
-        magnitude: value_of(index, scope, &[], own),
-    }
-}
-
-/// The integer that a constant bound is.
-fn bound_of(bound: &Expr, scope: &Scope) -> Bound
-    requires { IsWhole (names_of scope.now) bound.now }
-    ensures { bound_integer result ≡ constant_integer (sense (names_of scope.now) bound.now) }
-{
-    let own = shape_of(bound, scope);
-    Bound::of(own, value_of(bound, scope, &[], own))
 }
 
 /// Keeps a part.

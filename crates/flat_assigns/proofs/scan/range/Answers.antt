@@ -17,4 +17,4 @@ bound_of-requires c =
 
 pub returns : goal.returns
 returns c =
-    range_kept (names_of c.args.scope.now) c.args.slices.now.items c.keep.new.slices.items c.args.left.now c.args.name.now c.args.lsb.now c.in_ok-form.form c.fault_in.result c.constant_target-target.result c.earlier.result c.bound_of.result c.shape_of-size.result c.of.result c.requires c.in_ok-form.ensures c.fault_in.ensures c.constant_target-target.ensures c.earlier.ensures.earlier c.in-None.is c.bound_of.ensures c.shape_of-size.ensures.shape c.of.ensures.part c.of.ensures.inside c.in_ok-keep-in-None.ensures
+    range_kept (names_of c.args.scope.now) c.args.slices.now.items c.keep.new.slices.items c.args.left.now c.args.name.now c.args.lsb.now c.in_ok-form.form c.fault_in.result c.constant_target-target.result c.earlier.result c.bound_of.result c.shape_of-size.result c.of.result c.requires c.in_ok-form.ensures c.fault_in.ensures c.constant_target-target.ensures c.earlier.ensures.earlier c.in-None.is c.bound_of.ensures.value c.shape_of-size.ensures.shape c.of.ensures.part c.of.ensures.inside c.in_ok-keep-in-None.ensures
