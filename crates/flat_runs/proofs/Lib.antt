@@ -8,6 +8,7 @@ pub mod Combining
 pub mod Growing
 pub mod Led
 pub mod Registers
+pub mod Ends
 pub mod Law
 mod Worked
 mod Netlists

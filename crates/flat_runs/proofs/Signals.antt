@@ -96,7 +96,7 @@ same_bit (Net m ∷ more) (suc i) zero n one at_i at_j =
     absurd (omega (arith, here, one_at-same n, times_get more i n at_i))
 same_bit (Net m ∷ more) (suc i) (suc j) n one at_i at_j = ap suc (same_bit more i j n (omega (arith, one)) at_i at_j)
 
-times_in : (signals : List (List Bit)) (k i n : ℕ) → slice_get (bits_in signals k) i ≡ Some (Net n) → 1 ≤ times_at n signals
+pub times_in : (signals : List (List Bit)) (k i n : ℕ) → slice_get (bits_in signals k) i ≡ Some (Net n) → 1 ≤ times_at n signals
 times_in [] k i n e = absurd cc
 times_in (x ∷ more) zero i n e = omega (arith, times_get x i n e)
 times_in (x ∷ more) (suc k) i n e = omega (arith, times_in more k i n e)

@@ -5,13 +5,14 @@ use Rattle.std.specs.Int.{bit_at}
 use Rattle.netlist_core.specs.declared.bit.Bit.{Bit}
 use Rattle.netlist_core.specs.declared.bit.Bit.TheVariants.{Fixed, Net}
 use Rattle.netlist_core.specs.declared.cell.Cell.{Cell}
+use Rattle.netlist_core.specs.declared.port.Port.{Port}
 use Rattle.netlist_core.specs.declared.port.Register.{Register}
 use Rattle.netlist_core.specs.declared.raw.RawNetlist.{RawNetlist}
 use Rattle.netlist_core.specs.Numbers.{digit}
 use Rattle.netlist_core.specs.Runs.{bits_at}
-use Rattle.elab_expr.specs.Building.{Building, signal}
+use Rattle.elab_expr.specs.Building.{Building, signal, start_bits}
 use Rattle.flat_runs.specs.Designs.{Design}
-use Rattle.elab_expr.specs.Written.{IsStored}
+use Rattle.elab_expr.specs.Written.{IsJoined, IsStored}
 use Rattle.flat_runs.specs.Adding.{IsBit, IsWritten, HasOwnNets}
 
 -- A builder with the design's signals alone.
@@ -70,3 +71,26 @@ pub record Finishes (b : Building) (design : Design) (netlist : RawNetlist) : Ty
   pub inputs : bits_at netlist.inputs ≡ map (signal b) design.inputs
   pub outputs : bits_at netlist.outputs ≡ map (λ k. all_led to (signal b k)) design.outputs
   pub registers : AreRegisters b design to design.registers netlist.registers
+
+-- A builder that is ready to be finished.
+
+-- the registers are those of the signals, one each, in this order, and begin with the start values
+abbrev pub AreOf : Building → Design → List ℕ → List Register → Type 0
+AreOf b design [] [] = Unit {0}
+AreOf b design (k ∷ ks) (r ∷ rs) = (r.q ≡ signal b k) × (r.start.bits ≡ design.start k) × ¬ Contains ks k × AreOf b design ks rs
+AreOf b design ks rs = ⊥
+
+-- The ports, start values and registers are the design's. Joints name bits of signals, each once, and none of an input or a
+-- register, so each bit has one writer at most.
+pub record IsWhole (b : Building) (design : Design) (ins outs : List Port) : Type 0 where
+  pub own : HasOwnNets b
+  pub started : length b.starts ≡ length b.signals
+  pub inputs : bits_at ins ≡ map (signal b) design.inputs
+  pub outputs : bits_at outs ≡ map (signal b) design.outputs
+  pub starts : (k : ℕ) → start_bits b k ≡ design.start k
+  pub joined : (n : ℕ) → IsJoined b n → (k : ℕ) × (i : ℕ) × IsBit b k i n
+  pub once : (n : ℕ) (x y : Bit) → Contains b.joints (record { net = n; bit = x }) → Contains b.joints (record { net = n; bit = y }) → x ≡ y
+  pub single : (n : ℕ) → IsJoined b n → ¬ IsStored b n
+  pub apart : (n k i : ℕ) → IsJoined b n → IsBit b k i n → ¬ Contains design.inputs k
+  pub registers : AreOf b design design.registers b.registers
+  pub some : (k : ℕ) → Contains design.registers k → 1 ≤ length (signal b k)

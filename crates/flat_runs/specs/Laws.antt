@@ -2,17 +2,19 @@
 use Rattle.std.specs.Prelude.{◌≡◌, ℕ, ◌≤◌, List, [], ◌∷◌, ◌++◌, Option, map}
 use Rattle.mcy_base.specs.declared.span.Span.{Span}
 use Rattle.netlist_core.specs.declared.bit.Bit.{Bit}
+use Rattle.netlist_core.specs.declared.port.Port.{Port}
 use Rattle.netlist_core.specs.declared.port.Register.{Register}
 use Rattle.netlist_core.specs.declared.raw.RawNetlist.{RawNetlist}
 use Rattle.netlist_core.specs.Runs.{Nets, plain, IsRun, outputs_by, port_numbers, q_bits}
 use Rattle.vlog_meaning.specs.Scopes.{Store}
 use Rattle.elab_expr.specs.declared.builder.Joint.{Joint}
 use Rattle.elab_expr.specs.Building.{Building, Grows, AllBelow, PortsBelow, empty, with_declared}
+use Rattle.elab_expr.specs.Finished.{Finished}
 use Rattle.flat_runs.specs.Meanings.{Place, Meaning, Assign, Combinational, Clocked}
 use Rattle.flat_runs.specs.Designs.{Design, IsSourceRun, source_outputs, source_states}
 use Rattle.flat_runs.specs.Adding.{HasOwnNets, Extends, Means, AddsItem, AddsItems}
 use Rattle.flat_runs.specs.Parts.{with_joints, with_registers, StandsBelow, AreJoints, AllMean, AllJoin, IsSettled, AreStored}
-use Rattle.flat_runs.specs.Finishing.{Begins, Finishes}
+use Rattle.flat_runs.specs.Finishing.{Begins, Finishes, IsWhole}
 
 -- A netlist has the runs of its source.
 
@@ -36,6 +38,10 @@ pub record SameRuns (design : Design) (netlist : RawNetlist) : Type 0 where
 -- A netlist that is built item by item from a design and finished has the design's runs.
 abbrev pub BuiltRuns : Type 0
 BuiltRuns = (first last : Building) (design : Design) (netlist : RawNetlist) → Begins first design → AddsItems design.items first last → Finishes last design netlist → SameRuns design netlist
+
+-- What is made of a builder that is ready is a finished netlist of the design.
+abbrev pub ReadyFinishes : Type 0
+ReadyFinishes = (b : Building) (design : Design) (ins outs : List Port) (netlist : RawNetlist) → IsWhole b design ins outs → Finished b ins outs netlist → Finishes b design netlist
 
 -- How a kind of item is added.
 
