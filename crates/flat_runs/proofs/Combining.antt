@@ -109,7 +109,7 @@ places_of old new (Some p ∷ left) [] joints same a = absurd a
 places_of old new (Some p ∷ left) (x ∷ bits) [] same a = absurd a
 places_of old new (Some p ∷ left) (x ∷ bits) (j ∷ joints) same a = (bit_same new old p.signal p.bit j.net (sym same) a.0, a.1, places_of old new left bits joints same a.2)
 
-join_of : (old new : Building) (ks : List ℕ) (bits : List (List Bit)) (joints : List Joint) → new.signals ≡ old.signals → AllJoin old ks bits joints → AllJoin new ks bits joints
+pub join_of : (old new : Building) (ks : List ℕ) (bits : List (List Bit)) (joints : List Joint) → new.signals ≡ old.signals → AllJoin old ks bits joints → AllJoin new ks bits joints
 join_of old new [] bits joints same join = join
 join_of old new (k ∷ ks) [] joints same join = absurd join
 join_of old new (k ∷ ks) (x ∷ bits) joints same join = (

@@ -28,7 +28,7 @@ store_in signals nets k = number (values nets (bits_in signals k))
 
 -- Bits are nets, and stand below.
 
-nets_in : (signals : List (List Bit)) (k : ℕ) → AllPortsNets signals → AllNets (bits_in signals k)
+pub nets_in : (signals : List (List Bit)) (k : ℕ) → AllPortsNets signals → AllNets (bits_in signals k)
 nets_in [] k h = tt
 nets_in (x ∷ more) zero h = h.0
 nets_in (x ∷ more) (suc k) h = nets_in more k h.1
@@ -43,7 +43,7 @@ net_at (Net n ∷ more) (suc i) h less = net_at more i h (omega arith)
 pub net_of : (b : Building) → HasOwnNets b → (k i : ℕ) → i < length (signal b k) → (n : ℕ) × IsBit b k i n
 net_of b own k i less = net_at (signal b k) i (nets_in b.signals k own.nets) less
 
-ports_in : (limit : ℕ) (signals : List (List Bit)) (k : ℕ) → PortsBelow limit signals → AllBelow limit (bits_in signals k)
+pub ports_in : (limit : ℕ) (signals : List (List Bit)) (k : ℕ) → PortsBelow limit signals → AllBelow limit (bits_in signals k)
 ports_in limit [] k h = tt
 ports_in limit (x ∷ more) zero h = h.0
 ports_in limit (x ∷ more) (suc k) h = ports_in limit more k h.1

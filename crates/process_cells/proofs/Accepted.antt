@@ -1,20 +1,24 @@
 -- Statements in which nothing is refused are ready to be built.
 use Rattle.std.proofs.Common.{◌≡◌, ℕ, Bool, true, false, List, [], ◌∷◌, ◌++◌, map, length, Option, Some, None, refl, ap, ◌∙◌, subst, arith}
 use Rattle.std.specs.List.{flat_map}
+use Rattle.mcy_base.specs.declared.span.Span.{Span}
 use Rattle.vlog_syntax.specs.declared.expr.Expr.{Expr}
 use Rattle.vlog_meaning.specs.declared.fault.Cause.TheVariants.{DivideByZero}
+use Rattle.vlog_meaning.specs.declared.fault.Fault.{Fault}
 use Rattle.vlog_meaning.specs.declared.scope.Decl.{Decl}
 use Rattle.vlog_meaning.specs.declared.scope.Decl.TheVariants.{Signal, Constant}
 use Rattle.vlog_meaning.specs.Scopes.{Names}
 use Rattle.vlog_meaning.specs.Senses.{sense, fault, own_zeros, assigned}
 use Rattle.vlog_meaning.proofs.Blanks.{left_nil, right_nil, these_nil, those_nil}
 use Rattle.vlog_effects.specs.LeftSides.{Part, parts_of, part_vector, vector_of}
-use Rattle.vlog_effects.specs.Steps.{Assigning, Steps, Done, Assign, Choose, Case, Refuse, steps_of}
+use Rattle.vlog_effects.specs.Steps.{Assigning, Steps, Done, Assign, Choose, Case, Refuse, Arms, Otherwise, Arm, steps_of}
+use Rattle.vlog_effects.specs.Effects.{IsBlocking, AreBlocking}
 use Rattle.vlog_effects.specs.Latches.{Target, targets, part_targets, parts_targets}
 use Rattle.vlog_effects.proofs.Sizes.{IsSized, AreSized, Sized, sized-steps}
 use Rattle.elab_expr.specs.Building.{Building, IsSignal, signal}
 use Rattle.elab_expr.specs.Made.{plan}
-use Rattle.elab_proc.specs.Refusals.{same_form, wrong, sides_faults, part_refusals, assign_refusals, step_refusals, own_faults}
+use Rattle.elab_proc.specs.Refusals.{same_form, wrong, sides_faults, part_refusals, kind_refusals, assign_refusals, step_refusals, arm_refusals, own_faults, case_faults, unless}
+use Rattle.elab_proc.specs.declared.refusal.Refusal.{Refusal}
 use Rattle.elab_proc.specs.declared.refusal.Refusal.TheVariants.{Wrong}
 use Rattle.proc_muxes.specs.Builds.{Work, held}
 use Rattle.proc_muxes.specs.Clear.{CanAssign, AreHeld, IsClear}
@@ -143,3 +147,34 @@ accepted_ready comb written s names a e cases signals stands waits =
     let k : AreSized (sizes a.building) names = λ name. sized_signal a.building (names name) (signals name) in
     let r = ready_steps comb written a (steps_of s names) e cases (sized-steps (sizes a.building) s names k) waits in
     record { clear = r.0; held = r.1; signals = signals; stands = stands }
+
+-- Combinational processes have blocking assignments alone.
+
+unless_nil : (fs : List Fault) (those : List Refusal) → unless fs those ≡ [] → those ≡ []
+unless_nil [] those e = e
+unless_nil (f ∷ fs) those e = cc
+
+kind_free : (b : Bool) (span : Span) → kind_refusals true b span ≡ [] → b ≡ true
+kind_free true span e = refl
+kind_free false span e = cc
+
+mutual
+  pub accepted_blocking : (written : List Bool) (steps : Steps) → step_refusals true written steps ≡ [] → IsBlocking steps
+  accepted_blocking written Done e = tt
+  accepted_blocking written (Assign s more) e =
+      let here : assign_refusals true written s ≡ [] = left_nil (assign_refusals true written s) (step_refusals true written more) e in
+      let later = right_nil (map Wrong (sides_faults s.names (same_form s.left) s.right)) (flat_map (part_refusals s.names written) (parts_of s.left) ++ kind_refusals true s.is_blocking s.place) here in
+      (kind_free s.is_blocking s.place (right_nil (flat_map (part_refusals s.names written) (parts_of s.left)) (kind_refusals true s.is_blocking s.place) later), accepted_blocking written more (right_nil (assign_refusals true written s) (step_refusals true written more) e))
+  accepted_blocking written (Choose at c p q more) e =
+      let f = right_nil (map Wrong (own_faults c.names c.condition)) (step_refusals true written p ++ (step_refusals true written q ++ step_refusals true written more)) e in
+      let g = right_nil (step_refusals true written p) (step_refusals true written q ++ step_refusals true written more) f in
+      (accepted_blocking written p (left_nil _ _ f), accepted_blocking written q (left_nil _ _ g), accepted_blocking written more (right_nil (step_refusals true written q) (step_refusals true written more) g))
+  accepted_blocking written (Case c arms more) e =
+      let fs : List Fault = case_faults c.names (c.selector ∷ c.labels) in
+      let here : unless fs (arm_refusals true written arms) ≡ [] = left_nil (unless fs (arm_refusals true written arms)) (step_refusals true written more) e in
+      (arms_blocking written arms (unless_nil fs (arm_refusals true written arms) here), accepted_blocking written more (right_nil (unless fs (arm_refusals true written arms)) (step_refusals true written more) e))
+  accepted_blocking written (Refuse x more) e = absurd cc
+
+  arms_blocking : (written : List Bool) (arms : Arms) → arm_refusals true written arms ≡ [] → AreBlocking arms
+  arms_blocking written (Otherwise body) e = accepted_blocking written body e
+  arms_blocking written (Arm at labels body others) e = (accepted_blocking written body (left_nil (step_refusals true written body) (arm_refusals true written others) e), arms_blocking written others (right_nil (step_refusals true written body) (arm_refusals true written others) e))

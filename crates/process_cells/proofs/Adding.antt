@@ -15,27 +15,28 @@ use Rattle.vlog_effects.specs.Steps.{Steps, steps_of}
 use Rattle.vlog_effects.proofs.Numbers.{number-small, length-bits_of}
 use Rattle.vlog_effects.proofs.Unlatched.{leaves-one}
 use Rattle.elab_expr.specs.Building.{Building, RunsIn, Grows, AreAdded, IsSignal, HasSignals, signal, store}
-use Rattle.flat_runs.specs.Adding.{Means}
+use Rattle.flat_runs.specs.Meanings.{Combinational, Clocked}
+use Rattle.flat_runs.specs.Adding.{AddsItem, Means}
 use Rattle.flat_runs.specs.Parts.{AllMean, IsSettled}
 use Rattle.flat_runs.proofs.Combining.{combinational_add}
 use Rattle.flat_runs.proofs.Growing.{cells_extend}
 use Rattle.flat_runs.proofs.Lists.{contains_first, contains_more}
 use Rattle.flat_runs.proofs.Storing.{clocked_add}
-use Rattle.proc_muxes.specs.Builds.{Work, distinct}
+use Rattle.proc_muxes.specs.Builds.{Work, Builds, distinct}
 use Rattle.proc_muxes.specs.Shows.{Adds, Keeps, last_held}
 use Rattle.proc_muxes.proofs.Bits.{number-same, bits_of-number}
 use Rattle.proc_muxes.proofs.Frames.{known-distinct}
 use Rattle.proc_muxes.proofs.Keeping.{keeps}
 use Rattle.proc_muxes.proofs.Simulates.{leaves-the-effect}
 use Rattle.process_cells.specs.Laws.{CombinationalAreAdded, ClockedAreAdded}
-use Rattle.process_cells.specs.Processes.{variables, bits_by, process_effect, given_own, last_seen, has_blocking, last_bits}
-use Rattle.process_cells.proofs.Blanking.{AllKnown, known_numbers, blank_count, blank_is, blank_wide, blank_other}
+use Rattle.process_cells.specs.Processes.{AllKnown, variables, bits_by, process_effect, given_own, blank, last_seen, has_blocking, last_bits}
+use Rattle.process_cells.proofs.Blanking.{known_numbers, blank_count, blank_is, blank_wide, blank_other}
 use Rattle.process_cells.proofs.Assigned.{unassigned, blocking_conform, waits_at}
 use Rattle.process_cells.proofs.Widths.{left_wide}
 
 -- Cells are added to the builder before the process.
 
-grown : (old : Building) (b : Work) (mid : Building) → mid ≡ record old { signals = mid.signals } → Adds mid b.building → Grows old (given_own old b)
+pub grown : (old : Building) (b : Work) (mid : Building) → mid ≡ record old { signals = mid.signals } → Adds mid b.building → Grows old (given_own old b)
 grown old b mid is adds = record {
   more = adds.more;
   is = λ i. record {
@@ -79,7 +80,11 @@ fits old steps s k =
     subst (λ (w : ℕ). value_of (left_by steps (bits_by old s) k) < 2 ^ w) long (number-small (left_by steps (bits_by old s) k))
 
 pub combinational_added : CombinationalAreAdded
-combinational_added s names old a b joints has own stands blocking unlatched begins f join =
+combinational_added s names old new has own stands blocking unlatched built =
+    let a : Work = built.begun in
+    let b : Work = built.done in
+    let begins : a.building ≡ blank (variables (steps_of s names)) old = built.blank_is in
+    let f : Builds (steps_of s names) a b = built.built in
     let steps : Steps = steps_of s names in
     let ks : List ℕ = variables steps in
     let kept : Keeps (targets steps) a b = keeps steps a b f in
@@ -101,16 +106,20 @@ combinational_added s names old a b joints has own stands blocking unlatched beg
     let same : left_by steps (λ j. values nets (signal a.building j)) k ≡ left_by steps (bits_by old (store old nets)) k =
     one (λ j. values nets (signal a.building j)) (bits_by old (store old nets)) (λ n. length-map (signal a.building n) (bit_value nets) ∙ first n) (own_bits (store old nets)) (λ n e. ap (values nets) (other n e) ∙ sym (bits_there old nets n)) k in
     sym (number-same (values nets (signal b.building k))) ∙ ap value_of (shown ∙ same)) in
-    combinational_add old (given_own old b) ks (process_effect old steps) (last_seen b ks) joints own settled (cells_extend old (given_own old b) stands grows).0 mean join
+    subst (λ (x : Building). AddsItem old x (Combinational ks (process_effect old steps))) (sym built.is) (combinational_add old (given_own old b) ks (process_effect old steps) (last_seen b ks) built.joints own settled (cells_extend old (given_own old b) stands grows).0 mean built.joined)
 
 pub clocked_added : ClockedAreAdded
-clocked_added steps old a b registers own stands kinds begins waits f stored =
+clocked_added steps old new own stands kinds built =
+    let a : Work = built.begun in
+    let b : Work = built.done in
+    let begins : a.building ≡ old = built.begun_is in
+    let f : Builds steps a b = built.built in
     let ks : List ℕ = variables steps in
     let kept : Keeps (targets steps) a b = keeps steps a b f in
     let is : a.building ≡ record old { signals = a.building.signals } = begins ∙ ap (λ (x : Building). record old { signals = x.signals }) (sym begins) in
     let grows : Grows old (given_own old b) = grown old b a.building is kept.adds in
     let mean : AllMean old (given_own old b) ks (last_bits steps b ks) (process_effect old steps) = all_mean old (given_own old b) ks (last_held (has_blocking steps) b) (process_effect old steps) (λ k within nets runs.
-    let shown : values nets (last_held (has_blocking steps) b k) ≡ left_by steps (λ j. values nets (signal a.building j)) k = leaves-the-effect nets (has_blocking steps) steps a b f kinds (runs_of old b nets runs) (λ n e. waits_at a (targets steps) n waits e) k in
+    let shown : values nets (last_held (has_blocking steps) b k) ≡ left_by steps (λ j. values nets (signal a.building j)) k = leaves-the-effect nets (has_blocking steps) steps a b f kinds (runs_of old b nets runs) (λ n e. waits_at a (targets steps) n built.waits e) k in
     let start : (λ j. values nets (signal a.building j)) ≡ bits_by old (store old nets) = λ i n. (ap (λ (x : Building). values nets (signal x n)) begins ∙ sym (bits_there old nets n)) i in
     sym (number-same (values nets (last_held (has_blocking steps) b k))) ∙ ap value_of (shown ∙ ap (λ (x : Values). left_by steps x k) start)) in
-    clocked_add old (given_own old b) ks (process_effect old steps) (last_bits steps b ks) registers own (cells_extend old (given_own old b) stands grows).0 mean stored
+    subst (λ (x : Building). AddsItem old x (Clocked ks (process_effect old steps))) (sym built.is) (clocked_add old (given_own old b) ks (process_effect old steps) (last_bits steps b ks) built.registers own (cells_extend old (given_own old b) stands grows).0 mean built.stored)

@@ -11,12 +11,7 @@ use Rattle.flat_runs.proofs.Lists.{contains_first, contains_more}
 use Rattle.vlog_effects.specs.Latches.{Target}
 use Rattle.proc_muxes.specs.Shows.{Known}
 use Rattle.proc_muxes.proofs.Frames.{signal-with}
-use Rattle.process_cells.specs.Processes.{zeros, blank}
-
--- the numbers are those of signals
-abbrev pub AllKnown : ℕ → List ℕ → Type 0
-AllKnown count [] = Unit {0}
-AllKnown count (k ∷ ks) = (k < count) × AllKnown count ks
+use Rattle.process_cells.specs.Processes.{AllKnown, zeros, blank}
 
 pub known_numbers : (count : ℕ) (ts : List Target) → Known count ts → AllKnown count (map (λ x. x.number) ts)
 known_numbers count [] h = tt

@@ -4,4 +4,7 @@ pub mod Accepted
 mod Widths
 mod Assigned
 mod Blanking
+mod Rejoining
 pub mod Adding
+mod Begun
+mod Finished

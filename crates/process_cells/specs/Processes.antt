@@ -1,16 +1,21 @@
 -- What a process adds to a builder (IEEE 1364-2005, 9.9): the cells of its statements, and then joints of the variables of a
 -- combinational process, or registers of those of a clocked one.
-use Rattle.std.specs.Prelude.{ℕ, Bool, false, not, List, [], ◌∷◌, map, length}
+use Rattle.std.specs.Prelude.{◌≡◌, ℕ, ◌<◌, Bool, false, not, List, [], ◌∷◌, map, length}
 use Rattle.netlist_core.specs.declared.bit.Bit.{Bit}
-use Rattle.netlist_core.specs.declared.bit.Bit.TheVariants.{Fixed}
+use Rattle.netlist_core.specs.declared.bit.Bit.TheVariants.{Fixed, Net}
+use Rattle.netlist_core.specs.declared.port.Register.{Register}
 use Rattle.vlog_meaning.specs.Scopes.{Store}
 use Rattle.vlog_effects.specs.Effects.{Values, numbers, left_by}
 use Rattle.vlog_effects.specs.Expressions.{bits_of}
 use Rattle.vlog_effects.specs.Latches.{targets}
 use Rattle.vlog_effects.specs.Steps.{Steps}
-use Rattle.elab_expr.specs.Building.{Building, signal, with_signal}
-use Rattle.proc_muxes.specs.Builds.{Work, distinct, stands}
+use Rattle.elab_expr.specs.declared.builder.Joint.{Joint}
+use Rattle.elab_expr.specs.Building.{Building, signal, with_signal, start_bits, declared_at}
+use Rattle.flat_runs.specs.Parts.{AllJoin, AreStored, with_joints, with_registers}
+use Rattle.proc_muxes.specs.Builds.{Work, Builds, distinct, stands}
 use Rattle.proc_muxes.specs.Shows.{Conforms, last_held}
+use Rattle.process_cells.specs.declared.kept.Kept.{Kept}
+use Rattle.process_cells.specs.Ready.{AllWait}
 
 -- the variables that steps assign, in order of first assignment
 abbrev pub variables : Steps → List ℕ
@@ -28,6 +33,11 @@ process_effect b steps store = numbers (left_by steps (bits_by b store))
 abbrev pub given_own : Building → Work → Building
 given_own old b = record b.building { signals = old.signals }
 
+-- the numbers are those of signals
+abbrev pub AllKnown : ℕ → List ℕ → Type 0
+AllKnown count [] = Unit {0}
+AllKnown count (k ∷ ks) = (k < count) × AllKnown count ks
+
 -- Combinational processes.
 
 abbrev pub zeros : List Bit → List Bit
@@ -42,6 +52,17 @@ blank (k ∷ ks) b = blank ks (with_signal k (zeros (signal b k)) b)
 abbrev pub last_seen : Work → List ℕ → List (List Bit)
 last_seen b ks = map (signal b.building) ks
 
+-- A combinational process was built: its variables began with zeros, the cells of its statements were added, and each bit of its
+-- variables is joined to what the variable had last.
+pub record Combines (steps : Steps) (old new : Building) : Type 0 where
+  pub begun : Work
+  pub done : Work
+  pub joints : List Joint
+  pub blank_is : begun.building ≡ blank (variables steps) old
+  pub built : Builds steps begun done
+  pub joined : AllJoin old (variables steps) (last_seen done (variables steps)) joints
+  pub is : new ≡ with_joints (given_own old done) joints
+
 -- Clocked processes.
 
 -- a variable has blocking assignments where it has no others
@@ -55,3 +76,52 @@ HasOneKind steps = Conforms (has_blocking steps) (targets steps)
 -- the bits that variables have at the end: those that later statements would see, or those that have waited
 abbrev pub last_bits : Steps → Work → List ℕ → List (List Bit)
 last_bits steps b ks = map (last_held (has_blocking steps) b) ks
+
+-- registers have the names, places and start values of their signals
+abbrev pub AreNamed : Building → List ℕ → List Register → Type 0
+AreNamed b [] [] = Unit {0}
+AreNamed b (k ∷ ks) (r ∷ rs) = (r.name ≡ (declared_at b k).name) × (r.span ≡ (declared_at b k).span) × (r.start.bits ≡ start_bits b k) × AreNamed b ks rs
+AreNamed b ks rs = ⊥
+
+-- A clocked process was built: the bits of variables with nonblocking assignments waited, the cells of its statements were added,
+-- and each variable has a register, which takes what the variable had last.
+pub record Clocks (steps : Steps) (old new : Building) : Type 0 where
+  pub begun : Work
+  pub done : Work
+  pub registers : List Register
+  pub begun_is : begun.building ≡ old
+  pub waits : AllWait begun (targets steps)
+  pub built : Builds steps begun done
+  pub stored : AreStored old (variables steps) (last_bits steps done (variables steps)) registers
+  pub named : AreNamed old (variables steps) registers
+  pub is : new ≡ with_registers (given_own old done) registers
+
+-- The code's parts.
+
+-- a variable with the bits that it has
+abbrev pub kept_of : Building → ℕ → Kept
+kept_of b k = record { number = k; bits = signal b k }
+
+abbrev pub all_kept : Building → List ℕ → List Kept
+all_kept b ks = map (kept_of b) ks
+
+-- the joints of own bits, which are nets, to others, the lowest first
+abbrev pub joints_of : List Bit → List Bit → List Joint
+joints_of [] lasts = []
+joints_of (own ∷ owns) [] = []
+joints_of (Fixed v ∷ owns) (x ∷ lasts) = joints_of owns lasts
+joints_of (Net n ∷ owns) (x ∷ lasts) = record { net = n; bit = x } ∷ joints_of owns lasts
+
+-- a variable has its own bits again, which are joined to those that it had last
+abbrev pub rejoined : Kept → List Bit → Building → Building
+rejoined own last b = with_joints (with_signal own.number own.bits b) (joints_of own.bits last)
+
+abbrev pub all_rejoined : List Kept → List Kept → Building → Building
+all_rejoined [] lasts b = b
+all_rejoined (own ∷ owns) [] b = b
+all_rejoined (own ∷ owns) (last ∷ lasts) b = all_rejoined owns lasts (rejoined own last.bits b)
+
+-- variables can have these bits again
+abbrev pub AllReturn : Building → List Kept → Type 0
+AllReturn b [] = Unit {0}
+AllReturn b (own ∷ owns) = (own.number < length b.signals) × (length own.bits ≡ length (signal b own.number)) × AllReturn b owns

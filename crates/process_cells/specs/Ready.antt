@@ -1,9 +1,12 @@
 -- What a builder has before the statements of a process are built in it, besides the signals of the scope.
-use Rattle.std.specs.Prelude.{◌≡◌, false, List, [], ◌∷◌}
+use Rattle.std.specs.Prelude.{◌≡◌, ℕ, Bool, false, List, [], ◌∷◌, length}
+use Rattle.netlist_core.specs.declared.bit.Bit.{Bit}
 use Rattle.vlog_effects.specs.Steps.{Steps, Done, Assign, Choose, Case, Refuse}
 use Rattle.vlog_effects.specs.Latches.{Target}
-use Rattle.elab_expr.specs.Building.{signal}
+use Rattle.elab_expr.specs.Building.{Building, AllBelow, signal}
+use Rattle.elab_proc.specs.Refusals.{step_refusals}
 use Rattle.proc_muxes.specs.Builds.{Work}
+use Rattle.proc_muxes.specs.Working.{pending_of}
 
 -- for each variable with nonblocking assignments the bits of its signal wait
 abbrev pub AllWait : Work → List Target → Type 0
@@ -17,3 +20,12 @@ HasNoCase (Assign s more) = HasNoCase more
 HasNoCase (Choose at c then_part else_part more) = HasNoCase then_part × HasNoCase else_part × HasNoCase more
 HasNoCase (Case c arms more) = ⊥
 HasNoCase (Refuse x more) = HasNoCase more
+
+-- Nothing is refused in the statements, where some signals have writers elsewhere.
+abbrev pub IsAccepted : Bool → Steps → Type 0
+IsAccepted is_combinational steps = (written : List Bool) × (step_refusals is_combinational written steps ≡ [])
+
+-- Each signal has a place for bits that wait, which are constants or nets of the builder.
+pub record HasPlaces (b : Building) (waiting : List (List Bit)) : Type 0 where
+  pub count : length waiting ≡ length b.signals
+  pub below : (n : ℕ) → AllBelow b.nets (pending_of waiting n)

@@ -2,6 +2,10 @@
 //! nothing in them is refused.
 #![tactic(auto)]
 
+mod combinational;
+mod joints;
+mod kept;
 mod laws;
 
+pub use combinational::build_combinational;
 pub use laws::{accepted_statements_are_ready, processes_are_added};

@@ -1,0 +1,54 @@
+//! Combinational processes: the cells of their statements, and then joints of their variables.
+ghost use Rattle.std.specs.Prelude.{◌≡◌, ◌+◌, true, false, None, length, OnOk, IfErr};
+ghost use Rattle.vlog_meaning.specs.Scopes.{names_of};
+ghost use Rattle.vlog_effects.specs.Latches.{latch_of};
+ghost use Rattle.vlog_effects.specs.Steps.{steps_of};
+ghost use Rattle.elab_expr.specs.Building.{HasSignals};
+ghost use Rattle.elab_expr.specs.Refusals.{IsShort};
+ghost use Rattle.flat_runs.specs.Meanings.{Combinational};
+ghost use Rattle.flat_runs.specs.Adding.{HasOwnNets, AddsItem};
+ghost use Rattle.flat_runs.specs.Parts.{StandsBelow};
+ghost use Rattle.proc_muxes.specs.Clear.{has_loop};
+ghost use Rattle.proc_muxes.specs.Counts.{cells_of};
+ghost use Rattle.process_cells.specs.Ready.{HasNoCase, IsAccepted, HasPlaces};
+ghost use Rattle.process_cells.specs.Processes.{variables, process_effect, Combines};
+
+use crate::joints::rejoin_all;
+use crate::kept::{all_kept, blank};
+use elab_expr::{Builder, ElabError};
+use proc_muxes::{Variables, build_statement};
+use vlog_meaning::Scope;
+use vlog_syntax::Stmt;
+
+/// Adds the cells of a combinational process, in whose statements nothing is refused and no latch is found, and joins its
+/// variables to what they have at the end. These are given by their numbers, each once, in order of first assignment. Where
+/// there are too many cells, or there is no memory, the builder may hold a part of it and is only to be dropped.
+pub fn build_combinational(
+    builder: &mut Builder,
+    waiting: &mut Variables,
+    scope: &Scope,
+    body: &Stmt,
+    numbers: &[u32],
+) -> Result<(), ElabError>
+    requires accepted { IsAccepted true (steps_of body.now (names_of scope.now)) }
+    requires cases { HasNoCase (steps_of body.now (names_of scope.now)) }
+    requires loops { has_loop body.now ≡ false }
+    requires unlatched { latch_of (steps_of body.now (names_of scope.now)) ≡ None }
+    requires variables { numbers.now ≡ variables (steps_of body.now (names_of scope.now)) }
+    requires signals { HasSignals (names_of scope.now) builder.old }
+    requires own { HasOwnNets builder.old }
+    requires stands { StandsBelow builder.old }
+    requires places { HasPlaces builder.old waiting.old }
+    ensures combines { OnOk result (Combines (steps_of body.now (names_of scope.now)) builder.old builder.new) }
+    ensures added { OnOk result (AddsItem builder.old builder.new (Combinational (variables (steps_of body.now (names_of scope.now))) (process_effect builder.old (steps_of body.now (names_of scope.now))))) }
+    ensures stands { OnOk result (StandsBelow builder.new) }
+    ensures places { OnOk result (HasPlaces builder.new waiting.new) }
+    ensures short { IfErr result (λ e. IsShort (length builder.old.cells + cells_of (steps_of body.now (names_of scope.now))) e) }
+{
+    let owns = all_kept(builder, numbers)?;
+    blank(builder, numbers)?;
+    build_statement(builder, waiting, scope, body)?;
+    let lasts = all_kept(builder, numbers)?;
+    rejoin_all(builder, owns.as_slice(), lasts.as_slice())?;
+    Ok(())
+}
