@@ -17,7 +17,7 @@ use Rattle.elab_expr.specs.Building.{signal}
 use Rattle.process_cells.specs.Processes.{variables}
 use Rattle.process_cells.specs.Ready.{AllWait}
 
-same_number : (n : ℕ) → nat_eq n n ≡ true
+pub same_number : (n : ℕ) → nat_eq n n ≡ true
 same_number n = elim (eqb_tells n n) [ inl t ↦ t.0 | inr t ↦ absurd (t.1 refl) ]
 
 -- variables are assigned

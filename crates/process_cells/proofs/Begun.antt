@@ -1,5 +1,5 @@
 -- What stands before the statements of a combinational process are built.
-use Rattle.std.proofs.Common.{◌≡◌, ℕ, ◌<◌, true, false, List, [], ◌∷◌, length, Option, Some, None, sym, ap, ◌∙◌, subst, inl, inr}
+use Rattle.std.proofs.Common.{◌≡◌, ℕ, ◌<◌, Bool, true, false, List, [], ◌∷◌, length, Option, Some, None, sym, ap, ◌∙◌, subst, inl, inr}
 use Rattle.std.proofs.lemmas.Bool.Decides.{eqb_tells}
 use Rattle.netlist_core.specs.declared.bit.Bit.{Bit}
 use Rattle.vlog_syntax.specs.declared.stmt.Stmt.{Stmt}
@@ -23,8 +23,8 @@ use Rattle.process_cells.proofs.Assigned.{blocking_conform}
 use Rattle.process_cells.proofs.Blanking.{known_numbers, blank_count, blank_is, blank_wide}
 
 -- what is asked before
-pub record Given (names : Names) (s : Stmt) (old : Building) (waiting : List (List Bit)) : Type 0 where
-  pub accepted : IsAccepted true (steps_of s names)
+pub record Given (comb : Bool) (names : Names) (s : Stmt) (old : Building) (waiting : List (List Bit)) : Type 0 where
+  pub accepted : IsAccepted comb (steps_of s names)
   pub cases : HasNoCase (steps_of s names)
   pub signals : HasSignals names old
   pub own : HasOwnNets old
@@ -34,7 +34,7 @@ blocking_waits : (a : Work) (ts : List Target) → Conforms (λ n. true) ts → 
 blocking_waits a [] k = tt
 blocking_waits a (x ∷ more) k = ((λ e. absurd (let f : true ≡ false = sym k.0 ∙ e in cc)), blocking_waits a more k.1)
 
-held_known : (a : Work) (ts : List Target) → AreHeld a ts → Known (length a.building.signals) ts
+pub held_known : (a : Work) (ts : List Target) → AreHeld a ts → Known (length a.building.signals) ts
 held_known a [] h = tt
 held_known a (x ∷ more) h = (h.0.known, held_known a more h.1)
 
@@ -46,7 +46,7 @@ ready names s b waiting accepted cases signals stands =
     accepted_ready true accepted.0 s names (work b waiting) accepted.1 cases signals stands
     (blocking_waits (work b waiting) (targets (steps_of s names)) (blocking_conform (steps_of s names) (accepted_blocking accepted.0 (steps_of s names) accepted.1)))
 
-pub known_variables : (names : Names) (s : Stmt) (old : Building) (waiting : List (List Bit)) → Given names s old waiting → AllKnown (length old.signals) (variables (steps_of s names))
+pub known_variables : (names : Names) (s : Stmt) (old : Building) (waiting : List (List Bit)) → Given true names s old waiting → AllKnown (length old.signals) (variables (steps_of s names))
 known_variables names s old waiting g =
     let ts : List Target = targets (steps_of s names) in
     let r = ready names s old waiting g.accepted g.cases g.signals (record { seen = own_below old g.own; later = g.places.below }) in
@@ -89,7 +89,7 @@ blank_stands ks b waiting known own places = record {
   later = λ n. subst (λ (m : ℕ). AllBelow m ((work b waiting).pending n)) (sym (blank_nets ks b)) (places.below n);
 }
 
-pub ready_blank : (names : Names) (s : Stmt) (old begun : Building) (waiting : List (List Bit)) → Given names s old waiting → begun ≡ blank (variables (steps_of s names)) old → IsReady names (steps_of s names) (work begun waiting)
+pub ready_blank : (names : Names) (s : Stmt) (old begun : Building) (waiting : List (List Bit)) → Given true names s old waiting → begun ≡ blank (variables (steps_of s names)) old → IsReady names (steps_of s names) (work begun waiting)
 ready_blank names s old begun waiting g is =
     let ks : List ℕ = variables (steps_of s names) in
     let known = known_variables names s old waiting g in

@@ -42,7 +42,7 @@ find (k ∷ ks) n = elim (eqb_tells k n) [
   ]
 ]
 
-stands_contains : (kind : Bool) (ts : List Target) (n : ℕ) → stands kind ts n ≡ true → Contains (map (λ x. x.number) ts) n
+pub stands_contains : (kind : Bool) (ts : List Target) (n : ℕ) → stands kind ts n ≡ true → Contains (map (λ x. x.number) ts) n
 stands_contains kind [] n e = absurd (false≢true e)
 stands_contains kind (x ∷ more) n e = elim (or_cases (nat_eq x.number n && bit_same kind x.is_blocking) (stands kind more n) e) [
   | inl here ↦ subst (λ (m : ℕ). Contains (map (λ y. y.number) (x ∷ more)) m) (number-true x.number n (and-left (nat_eq x.number n) (bit_same kind x.is_blocking) here)) (contains_first (map (λ y. y.number) more) x.number)
@@ -72,7 +72,7 @@ ports_below : (n : ℕ) (b : Building) (ks : List ℕ) → ((k : ℕ) → AllBel
 ports_below n b [] h = tt
 ports_below n b (k ∷ ks) h = (h k, ports_below n b ks h)
 
-module _ (names : Names) (s : Stmt) (old begun done : Building) (before after : List (List Bit)) (changes : List Change) (g : Given names s old before) (is : begun ≡ blank (variables (steps_of s names)) old) (built : Built (steps_of s names) (work begun before) (work done after) changes) where
+module _ (names : Names) (s : Stmt) (old begun done : Building) (before after : List (List Bit)) (changes : List Change) (g : Given true names s old before) (is : begun ≡ blank (variables (steps_of s names)) old) (built : Built (steps_of s names) (work begun before) (work done after) changes) where
   kept : Keeps (targets (steps_of s names)) (work begun before) (work done after)
   kept = keeps (steps_of s names) (work begun before) (work done after) built.builds
 

@@ -6,5 +6,8 @@ mod Assigned
 mod Blanking
 mod Rejoining
 pub mod Adding
+mod Storing
 mod Begun
 mod Finished
+mod Holding
+mod Clocking

@@ -17,10 +17,10 @@ use Rattle.process_cells.specs.declared.kept.Kept.{Kept}
 use Rattle.process_cells.specs.Processes.{AllKnown, kept_of, all_kept, joints_of, rejoined, all_rejoined, AllReturn}
 
 -- the signal that was set, and all others
-set_same : (b : Building) (k n : ℕ) (bits : List Bit) → k < length b.signals → k ≡ n → signal (with_signal k bits b) n ≡ bits
+pub set_same : (b : Building) (k n : ℕ) (bits : List Bit) → k < length b.signals → k ≡ n → signal (with_signal k bits b) n ≡ bits
 set_same b k n bits known same = signal-with b k n bits known ∙ elim (eqb_tells n k) [ inl h ↦ rw h.0 refl | inr h ↦ absurd (h.1 (sym same)) ]
 
-set_still : (b : Building) (k n : ℕ) (bits old : List Bit) → k < length b.signals → (k ≡ n → bits ≡ old) → signal b n ≡ old → signal (with_signal k bits b) n ≡ old
+pub set_still : (b : Building) (k n : ℕ) (bits old : List Bit) → k < length b.signals → (k ≡ n → bits ≡ old) → signal b n ≡ old → signal (with_signal k bits b) n ≡ old
 set_still b k n bits old known same still = signal-with b k n bits known ∙ elim (eqb_tells n k) [ inl h ↦ rw h.0 (same (sym h.1)) | inr h ↦ rw h.0 still ]
 
 -- What returns can return later.

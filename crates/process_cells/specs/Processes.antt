@@ -1,6 +1,6 @@
 -- What a process adds to a builder (IEEE 1364-2005, 9.9): the cells of its statements, and then joints of the variables of a
 -- combinational process, or registers of those of a clocked one.
-use Rattle.std.specs.Prelude.{◌≡◌, ℕ, ◌<◌, Bool, false, not, List, [], ◌∷◌, map, length}
+use Rattle.std.specs.Prelude.{◌≡◌, ℕ, ◌<◌, Bool, false, not, List, [], ◌∷◌, map, length, slice_set}
 use Rattle.netlist_core.specs.declared.bit.Bit.{Bit}
 use Rattle.netlist_core.specs.declared.bit.Bit.TheVariants.{Fixed, Net}
 use Rattle.netlist_core.specs.declared.port.Register.{Register}
@@ -10,8 +10,9 @@ use Rattle.vlog_effects.specs.Expressions.{bits_of}
 use Rattle.vlog_effects.specs.Latches.{targets}
 use Rattle.vlog_effects.specs.Steps.{Steps}
 use Rattle.elab_expr.specs.declared.builder.Joint.{Joint}
-use Rattle.elab_expr.specs.Building.{Building, signal, with_signal, start_bits, declared_at}
+use Rattle.elab_expr.specs.Building.{Building, signal, with_signal, with_register, start_bits, declared_at}
 use Rattle.flat_runs.specs.Parts.{AllJoin, AreStored, with_joints, with_registers}
+use Rattle.proc_muxes.specs.declared.choice.Choice.{Choice}
 use Rattle.proc_muxes.specs.Builds.{Work, Builds, distinct, stands}
 use Rattle.proc_muxes.specs.Shows.{Conforms, last_held}
 use Rattle.process_cells.specs.declared.kept.Kept.{Kept}
@@ -125,3 +126,34 @@ all_rejoined (own ∷ owns) (last ∷ lasts) b = all_rejoined owns lasts (rejoin
 abbrev pub AllReturn : Building → List Kept → Type 0
 AllReturn b [] = Unit {0}
 AllReturn b (own ∷ owns) = (own.number < length b.signals) × (length own.bits ≡ length (signal b own.number)) × AllReturn b owns
+
+-- the own bits of variables wait
+abbrev pub all_waiting : Building → List ℕ → List (List Bit) → List (List Bit)
+all_waiting b [] waiting = waiting
+all_waiting b (k ∷ ks) waiting = all_waiting b ks (slice_set waiting k (signal b k))
+
+-- a variable can have a register that takes these bits
+pub record CanStore (b : Building) (x : Choice) : Type 0 where
+  pub known : x.number < length b.signals
+  pub wide : length x.bits ≡ length (signal b x.number)
+
+abbrev pub CanStoreAll : Building → List Choice → Type 0
+CanStoreAll b [] = Unit {0}
+CanStoreAll b (x ∷ more) = CanStore b x × CanStoreAll b more
+
+-- the register of a variable is added
+pub record StoresOne (old : Building) (x : Choice) (new : Building) : Type 0 where
+  pub register : Register
+  pub is : new ≡ with_register register old
+  pub q : register.q ≡ signal old x.number
+  pub d : register.d ≡ x.bits
+  pub name : register.name ≡ (declared_at old x.number).name
+  pub span : register.span ≡ (declared_at old x.number).span
+  pub start : register.start.bits ≡ start_bits old x.number
+
+-- the registers of variables are added
+pub record Stores (old : Building) (xs : List Choice) (new : Building) : Type 0 where
+  pub registers : List Register
+  pub is : new ≡ with_registers old registers
+  pub stored : AreStored old (map (λ x. x.number) xs) (map (λ x. x.bits) xs) registers
+  pub named : AreNamed old (map (λ x. x.number) xs) registers

@@ -1,11 +1,14 @@
-//! The cells and registers of a process: what its statements have to meet before they are built, and that they do where
-//! nothing in them is refused.
+//! The cells and registers of a process: of the body of a combinational one, and of a clocked one.
 #![tactic(auto)]
 
+mod clocked;
 mod combinational;
 mod joints;
 mod kept;
 mod laws;
+mod registers;
+mod waiting;
 
+pub use clocked::build_clocked;
 pub use combinational::build_combinational;
 pub use laws::{accepted_statements_are_ready, processes_are_added};

@@ -1,0 +1,37 @@
+//! The own bits of variables wait before the statements of a clocked process.
+ghost use Rattle.std.specs.Prelude.{◌≡◌, ◌<◌, length, slice_set, OnOk};
+ghost use Rattle.elab_expr.specs.Building.{signal};
+ghost use Rattle.process_cells.specs.Processes.{AllKnown, all_waiting};
+
+use elab_expr::{Builder, copied_bits};
+use proc_muxes::Variables;
+use std::alloc::AllocError;
+
+/// The own bits of a variable wait.
+fn set_waiting(builder: &Builder, waiting: &mut Variables, number: u32) -> Result<(), AllocError>
+    requires known { number < length builder.now.signals }
+    requires place { number < length waiting.old }
+    ensures { OnOk result (waiting.new ≡ slice_set waiting.old number (signal builder.now number)) }
+{
+    let bits = copied_bits(builder.alloc(), builder.bits(number))?;
+    waiting.set(number, bits);
+    Ok(())
+}
+
+/// The own bits of variables wait.
+pub(crate) fn all_waiting(
+    builder: &Builder,
+    waiting: &mut Variables,
+    numbers: &[u32],
+) -> Result<(), AllocError>
+    requires known { AllKnown (length builder.now.signals) numbers.now }
+    requires places { length waiting.old ≡ length builder.now.signals }
+    ensures { OnOk result (waiting.new ≡ all_waiting builder.now numbers.now waiting.old) }
+{
+    let mut rest = numbers;
+    while let [number, more @ ..] = rest {
+        set_waiting(builder, waiting, *number)?;
+        rest = more;
+    }
+    Ok(())
+}
