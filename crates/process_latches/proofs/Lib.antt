@@ -7,3 +7,4 @@ pub mod Following
 pub mod Choosing
 pub mod Turning
 pub mod Walking
+pub mod Latching

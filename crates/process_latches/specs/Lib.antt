@@ -2,3 +2,4 @@ pub mod Sound
 pub mod Writes
 pub mod Marking
 pub mod Turning
+pub mod Latching

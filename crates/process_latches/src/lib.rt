@@ -2,10 +2,12 @@
 #![tactic(auto)]
 
 mod assignments;
+mod latches;
 mod left;
 mod marks;
 mod walk;
 
 pub use assignments::mark_assignment;
+pub use latches::latch_of;
 pub use marks::{Marks, Write};
 pub use walk::mark;

@@ -2,7 +2,7 @@
 //!
 //! The parts of a choice begin with marks of their own, which are added to those before the choice: so each costs what its
 //! statements touch, and no set is copied.
-ghost use Rattle.std.specs.Prelude.{true, false, [], OnOk};
+ghost use Rattle.std.specs.Prelude.{◌≡◌, ◌<◌, ◌-◌, true, false, [], length, slice_index_or, OnOk};
 ghost use Rattle.vlog_meaning.specs.Scopes.{names_of};
 ghost use Rattle.vlog_meaning.specs.Senses.{no_bits, IsWhole};
 ghost use Rattle.vlog_effects.specs.Expressions.{reads};
@@ -23,6 +23,14 @@ pub struct Write {
     pub place: Span,
     pub first: Span,
     pub is_blocking: bool,
+}
+
+/// The assignment after which so many others stand.
+pub(crate) fn from_end(writes: &[Write], passed: usize) -> Write
+    requires { passed < length writes.now }
+    ensures { result ≡ slice_index_or writes.now (length writes.now - 1 - passed) result }
+{
+    writes[writes.len() - 1 - passed]
 }
 
 /// What is known after some of the statements: the bits that are assigned on every path, those that are read before, the variables
