@@ -8,3 +8,4 @@ pub mod Choosing
 pub mod Turning
 pub mod Walking
 pub mod Latching
+pub mod Mixing

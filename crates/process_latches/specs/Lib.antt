@@ -3,3 +3,4 @@ pub mod Writes
 pub mod Marking
 pub mod Turning
 pub mod Latching
+pub mod Mixed

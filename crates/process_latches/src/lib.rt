@@ -5,9 +5,11 @@ mod assignments;
 mod latches;
 mod left;
 mod marks;
+mod mixed;
 mod walk;
 
 pub use assignments::mark_assignment;
 pub use latches::latch_of;
 pub use marks::{Marks, Write};
+pub use mixed::mixed_refusal;
 pub use walk::mark;
