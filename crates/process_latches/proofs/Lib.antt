@@ -9,3 +9,4 @@ pub mod Turning
 pub mod Walking
 pub mod Latching
 pub mod Mixing
+pub mod Refusing

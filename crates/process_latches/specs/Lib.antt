@@ -4,3 +4,4 @@ pub mod Marking
 pub mod Turning
 pub mod Latching
 pub mod Mixed
+pub mod Refused

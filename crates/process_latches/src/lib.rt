@@ -6,10 +6,12 @@ mod latches;
 mod left;
 mod marks;
 mod mixed;
+mod process;
 mod walk;
 
 pub use assignments::mark_assignment;
 pub use latches::latch_of;
 pub use marks::{Marks, Write};
 pub use mixed::mixed_refusal;
+pub use process::process_refusal;
 pub use walk::mark;
