@@ -30,6 +30,7 @@ use Rattle.elab_expr.specs.Expressions.{refusals}
 use Rattle.elab_expr.specs.Made.{plan, plans, all_unsupported}
 use Rattle.elab_expr.proofs.Facts.{bit_parts, indexed_parts, join_supported}
 use Rattle.elab_proc.specs.Refusals.{same_form, form_step, name_refusals, part_refusals}
+use Rattle.process_latches.specs.Sound.{part_form}
 use Rattle.proc_muxes.specs.Builds.{Index}
 use Rattle.proc_muxes.specs.Clear.{IsClearPart, CanWriteAll}
 
@@ -59,12 +60,18 @@ abbrev pub NameSignals : Names → List Part → Type 0
 NameSignals names [] = Unit {0}
 NameSignals names (p ∷ ps) = NamesSignal (names p.name.name) × NameSignals names ps
 
+-- the expressions of their forms have shapes
+abbrev pub HaveForms : Names → List Part → Type 0
+HaveForms names [] = Unit {0}
+HaveForms names (p ∷ ps) = IsWhole names (part_form p.name p.select) × HaveForms names ps
+
 -- the parts can be written, and have as many bits as the expression, at most 128
 pub record Writes (names : Names) (e : Expr) (ps : List Part) : Type 0 where
   pub width : (sense names e).shape.width ≡ parts_width names ps
   pub narrow : (sense names e).shape.width ≤ 128
   pub can : CanWriteAll names ps
   pub signals : NameSignals names ps
+  pub forms : HaveForms names ps
 
 -- where nothing is refused
 abbrev IsRight : Names → List Bool → Expr → List Part → Type 0
@@ -96,11 +103,11 @@ low_zero span None s w is e varies = absurd cc
 width_at : (names : Names) (select : Select) (o : Option Vector) (w : Vector) → o ≡ Some w → width_by names select o ≡ select_width names w select
 width_at names select o w e = ap (width_by names select) e
 
-one : (names : Names) (e : Expr) (p : Part) (s : NamesSignal (names p.name.name)) → (sense names e).shape.width ≡ select_width names s.vector p.select → IsClearPart names p s.vector → Writes names e (p ∷ [])
-one names e p s width c =
+one : (names : Names) (e : Expr) (p : Part) (s : NamesSignal (names p.name.name)) → (sense names e).shape.width ≡ select_width names s.vector p.select → IsClearPart names p s.vector → IsWhole names (part_form p.name p.select) → Writes names e (p ∷ [])
+one names e p s width c form =
     let here = width_at names p.select (part_vector names p) s.vector s.is in
     let narrow = c.narrow in
-    record { width = omega (arith, width, here); narrow = omega (arith, width, narrow); can = ((s.vector, c), tt); signals = (s, tt) }
+    record { width = omega (arith, width, here); narrow = omega (arith, width, narrow); can = ((s.vector, c), tt); signals = (s, tt); forms = (form, tt) }
 
 signal_in : (names : Names) (written : List Bool) (p : Part) → name_faults p.name.span (names p.name.name) ≡ [] → flat_map (part_refusals names written) (p ∷ []) ≡ [] → NamesSignal (names p.name.name)
 signal_in names written p e f = names_signal written p.name.span (names p.name.name) e (left_nil (part_refusals names written p) [] f)
@@ -122,7 +129,7 @@ right_name names written n whole supported zeros free =
       whole = tt;
       low = λ i e. no_index _ i e;
       index = λ i e. no_index _ i e;
-    })
+    }) whole
 
 right_bit : (names : Names) (written : List Bool) (n : Identifier) (at : Span) (i : Expr) → IsRight names written (v.BitSelect n at i) (record { name = n; select = Bit at i } ∷ [])
 right_bit names written n at i whole supported zeros free =
@@ -140,7 +147,7 @@ right_bit names written n at i whole supported zeros free =
       whole = inner;
       low = λ j e. low_zero at (names n.name) (sense names i) s.vector s.is parts.0 (index_varies (is_constant names i) x j e).0;
       index = λ j e. subst (λ (k : Index). refusals names k.expr (sense names k.expr).shape ≡ []) (index_varies (is_constant names i) x j e).1 (clear names i (sense names i).shape inner parts.1 none);
-    })
+    }) whole
 
 right_range : (names : Names) (written : List Bool) (n : Identifier) (at : Span) (msb lsb : Expr) → IsRight names written (v.PartSelect n at msb lsb) (record { name = n; select = Range at msb lsb } ∷ [])
 right_range names written n at msb lsb whole supported zeros free =
@@ -155,7 +162,7 @@ right_range names written n at msb lsb whole supported zeros free =
       whole = (inner.msb, inner.lsb);
       low = λ i e. no_index _ i e;
       index = λ i e. no_index _ i e;
-    })
+    }) whole
 
 right_indexed : (names : Names) (written : List Bool) (n : Identifier) (at : Span) (base count : Expr) → IsRight names written (v.IndexedPartSelect n at base count) (record { name = n; select = Indexed at base count } ∷ [])
 right_indexed names written n at base count whole supported zeros free =
@@ -173,7 +180,7 @@ right_indexed names written n at base count whole supported zeros free =
       whole = (inner.base, inner.width);
       low = λ j e. low_zero at (names n.name) (sense names base) s.vector s.is parts.0 (index_varies (is_constant names base) x j e).0;
       index = λ j e. subst (λ (k : Index). refusals names k.expr (sense names k.expr).shape ≡ []) (index_varies (is_constant names base) x j e).1 (clear names base (sense names base).shape inner.base parts.1 none);
-    })
+    }) whole
 
 -- Parts one after the other.
 
@@ -189,6 +196,10 @@ signals_both : (names : Names) (ps qs : List Part) → NameSignals names ps → 
 signals_both names [] qs h k = k
 signals_both names (p ∷ ps) qs h k = (h.0, signals_both names ps qs h.1 k)
 
+forms_both : (names : Names) (ps qs : List Part) → HaveForms names ps → HaveForms names qs → HaveForms names (ps ++ qs)
+forms_both names [] qs h k = k
+forms_both names (p ∷ ps) qs h k = (h.0, forms_both names ps qs h.1 k)
+
 sum_width : (a b c d e : ℕ) → a ≡ c → b ≡ d → e ≡ c + d → a + b ≡ e
 sum_width a b c d e f g h = omega arith
 
@@ -201,13 +212,14 @@ pub record Join (names : Names) (es : List Expr) (ps : List Part) : Type 0 where
   pub width : total_width (senses names es) ≡ parts_width names ps
   pub can : CanWriteAll names ps
   pub signals : NameSignals names ps
+  pub forms : HaveForms names ps
 
 abbrev lefts : (names : Names) (written : List Bool) → List (Proved names written) → List LeftSide
 lefts names written ws = map (λ (w : Proved names written). w.0) ws
 
 joins : (names : Names) (written : List Bool) (ws : List (Proved names written)) → all_faults (senses names (map same_form (lefts names written ws))) ≡ [] → all_unsupported (plans names (map same_form (lefts names written ws))) ≡ [] → all_zeros (senses names (map same_form (lefts names written ws))) ≡ []
     → flat_map (part_refusals names written) (concatenated (map parts_of (lefts names written ws))) ≡ [] → Join names (map same_form (lefts names written ws)) (concatenated (map parts_of (lefts names written ws)))
-joins names written [] whole supported zeros free = record { width = refl; can = tt; signals = tt }
+joins names written [] whole supported zeros free = record { width = refl; can = tt; signals = tt; forms = tt }
 joins names written (w ∷ ws) whole supported zeros free =
     let ps : List Part = parts_of w.0 in
     let qs : List Part = concatenated (map parts_of (lefts names written ws)) in
@@ -219,6 +231,7 @@ joins names written (w ∷ ws) whole supported zeros free =
       width = sum_width (sense names (same_form w.0)).shape.width (total_width (senses names es)) (parts_width names ps) (parts_width names qs) (parts_width names (ps ++ qs)) here.width more.width (width_both names ps qs);
       can = can_both names ps qs here.can more.can;
       signals = signals_both names ps qs here.signals more.signals;
+      forms = forms_both names ps qs here.forms more.forms;
     }
 
 right_join : (names : Names) (written : List Bool) (at : Span) (ws : List (Proved names written)) → IsRight names written (v.Concatenation at (map same_form (lefts names written ws))) (concatenated (map parts_of (lefts names written ws)))
@@ -231,7 +244,7 @@ right_join names written at ws whole supported zeros free =
     let j = joins names written ws facts.parts (join_supported names e (sense names e).shape at es refl supported) none free in
     let width : (sense names e).shape.width ≡ total_width (senses names es) = ap (λ (x : Sense). x.shape.width) is in
     let narrow = facts.narrow in
-    record { width = width ∙ j.width; narrow = omega (arith, width, narrow); can = j.can; signals = j.signals }
+    record { width = width ∙ j.width; narrow = omega (arith, width, narrow); can = j.can; signals = j.signals; forms = j.forms }
 
 layer : (names : Names) (written : List Bool) (y : LeftSide-F (Proved names written)) → IsRight names written (form_step (map-LeftSide LeftSide Expr same_form (map-LeftSide (Proved names written) LeftSide (λ (w : Proved names written). w.0) y))) (parts_step (map-LeftSide LeftSide (List Part) parts_of (map-LeftSide (Proved names written) LeftSide (λ (w : Proved names written). w.0) y)))
 layer names written (l.Name n) = right_name names written n

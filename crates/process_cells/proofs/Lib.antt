@@ -1,6 +1,7 @@
 mod Lists
 mod Lefts
 pub mod Accepted
+mod Sounding
 mod Widths
 mod Assigned
 mod Blanking
@@ -11,3 +12,4 @@ mod Begun
 mod Finished
 mod Holding
 mod Clocking
+mod Firsts

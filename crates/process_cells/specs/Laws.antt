@@ -1,6 +1,6 @@
 -- Laws of processes: from what is refused in their statements to what is asked where they are built, and that what is built is
 -- the process.
-use Rattle.std.specs.Prelude.{◌≡◌, Bool, List, None}
+use Rattle.std.specs.Prelude.{◌≡◌, Bool, false, List, [], None}
 use Rattle.vlog_syntax.specs.declared.stmt.Stmt.{Stmt}
 use Rattle.vlog_meaning.specs.Scopes.{Names}
 use Rattle.vlog_effects.specs.Effects.{IsBlocking}
@@ -12,6 +12,7 @@ use Rattle.flat_runs.specs.Adding.{HasOwnNets, AddsItem}
 use Rattle.flat_runs.specs.Parts.{StandsBelow as Stands}
 use Rattle.elab_proc.specs.Order.{IsFirst}
 use Rattle.elab_proc.specs.Refusals.{step_refusals}
+use Rattle.process_latches.specs.Sound.{sound, has_stop}
 use Rattle.proc_muxes.specs.Builds.{Work}
 use Rattle.proc_muxes.specs.Clear.{IsReady}
 use Rattle.proc_muxes.specs.Shows.{StandsBelow}
@@ -22,6 +23,11 @@ use Rattle.process_cells.specs.Processes.{variables, process_effect, Combines, H
 -- variables that it assigns have their bits.
 abbrev pub AcceptedAreReady : Type 0
 AcceptedAreReady = (is_combinational : Bool) (written : List Bool) (s : Stmt) (names : Names) (a : Work) → IsFirst (step_refusals is_combinational written (steps_of s names)) None → HasNoCase (steps_of s names) → HasSignals names a.building → StandsBelow a → AllWait a (targets (steps_of s names)) → IsReady names (steps_of s names) a
+
+-- Statements in which nothing is refused are sound as they stand: they assign the same variables, have the same latch, and no
+-- loop or case in them is refused.
+abbrev pub AcceptedAreSound : Type 0
+AcceptedAreSound = (is_combinational : Bool) (written : List Bool) (steps : Steps) → step_refusals is_combinational written steps ≡ [] → HasNoCase steps → (targets (sound steps) ≡ targets steps) × (latch_of (sound steps) ≡ latch_of steps) × (has_stop (sound steps) ≡ false)
 
 -- A combinational process without a latch that was built is added as an item.
 abbrev pub CombinationalAreAdded : Type 0

@@ -1,6 +1,6 @@
 -- What a process adds to a builder (IEEE 1364-2005, 9.9): the cells of its statements, and then joints of the variables of a
 -- combinational process, or registers of those of a clocked one.
-use Rattle.std.specs.Prelude.{◌≡◌, ℕ, ◌<◌, Bool, false, not, List, [], ◌∷◌, map, length, slice_set}
+use Rattle.std.specs.Prelude.{◌≡◌, ℕ, ◌<◌, Bool, false, not, List, [], ◌∷◌, ◌++◌, map, length, slice_set, if◌then◌else◌}
 use Rattle.netlist_core.specs.declared.bit.Bit.{Bit}
 use Rattle.netlist_core.specs.declared.bit.Bit.TheVariants.{Fixed, Net}
 use Rattle.netlist_core.specs.declared.port.Register.{Register}
@@ -12,6 +12,8 @@ use Rattle.vlog_effects.specs.Steps.{Steps}
 use Rattle.elab_expr.specs.declared.builder.Joint.{Joint}
 use Rattle.elab_expr.specs.Building.{Building, signal, with_signal, with_register, start_bits, declared_at}
 use Rattle.flat_runs.specs.Parts.{AllJoin, AreStored, with_joints, with_registers}
+use Rattle.process_latches.specs.declared.marks.Write.{Write}
+use Rattle.process_latches.specs.Writes.{target_of}
 use Rattle.proc_muxes.specs.declared.choice.Choice.{Choice}
 use Rattle.proc_muxes.specs.Builds.{Work, Builds, distinct, stands}
 use Rattle.proc_muxes.specs.Shows.{Conforms, last_held}
@@ -157,3 +159,7 @@ pub record Stores (old : Building) (xs : List Choice) (new : Building) : Type 0 
   pub is : new ≡ with_registers old registers
   pub stored : AreStored old (map (λ x. x.number) xs) (map (λ x. x.bits) xs) registers
   pub named : AreNamed old (map (λ x. x.number) xs) registers
+
+-- an assignment, where none of its variable and kind is there
+abbrev pub with_write : List Write → Write → List Write
+with_write found w = if stands w.is_blocking (map target_of found) w.number then found else found ++ w ∷ []

@@ -1,9 +1,14 @@
 //! Laws of processes.
-ghost use Rattle.process_cells.specs.Laws.{AcceptedAreReady, CombinationalAreAdded, ClockedAreAdded};
+ghost use Rattle.process_cells.specs.Laws.{AcceptedAreReady, AcceptedAreSound, CombinationalAreAdded, ClockedAreAdded};
 
 /// A statement in which nothing is refused can be built, where the builder has the signals of the scope.
 pub fn accepted_statements_are_ready()
     ensures { AcceptedAreReady }
+{}
+
+/// Statements in which nothing is refused are those that latches are looked for in.
+pub fn accepted_statements_are_sound()
+    ensures { AcceptedAreSound }
 {}
 
 /// A process is added by the cells of its statements, and then by the joints of its variables, which a combinational one

@@ -7,8 +7,10 @@ mod joints;
 mod kept;
 mod laws;
 mod registers;
+mod variables;
 mod waiting;
 
 pub use clocked::build_clocked;
 pub use combinational::build_combinational;
-pub use laws::{accepted_statements_are_ready, processes_are_added};
+pub use laws::{accepted_statements_are_ready, accepted_statements_are_sound, processes_are_added};
+pub use variables::variables_of;

@@ -1,0 +1,7 @@
+use Rattle.std.proofs.Common.{◌≡◌, drop, map}
+use Rattle.proc_muxes.specs.Builds.{stands}
+use Rattle.process_latches.specs.Writes.{target_of}
+use Rattle.process_cells.proofs.variables.is_among.Given as goal
+
+abbrev pub invariant-loop-write : goal.invariant-loop-write
+invariant-loop-write l = stands l.is_blocking (map target_of l.found) l.number ≡ stands l.is_blocking (map target_of (drop l.write-index l.found)) l.number
