@@ -1,6 +1,5 @@
 -- The pieces of a left side are written from the last one on, and what an assignment has changed.
-use Rattle.std.proofs.Common.{◌≡◌, ℕ, suc, ◌+◌, ◌-◌, ◌<◌, ◌≤◌, max, ℤ, Bool, true, false, List, [], ◌∷◌, ◌++◌, take, drop, length, get_or, Option, Some, None, refl, sym, ◌∙◌, ap, subst, arith, append-nil}
-use Rattle.std.specs.Prelude.{if◌then◌else◌}
+use Rattle.std.proofs.Common.{◌≡◌, ℕ, suc, ◌+◌, ◌-◌, ◌<◌, ◌≤◌, max, ℤ, Bool, List, [], ◌∷◌, ◌++◌, take, drop, length, get_or, Option, Some, None, refl, sym, ◌∙◌, ap, subst, arith, append-nil}
 use Rattle.std.proofs.Math.Seq.{take-length}
 use Rattle.std.proofs.lemmas.List.{length-take-le, length-drop}
 use Rattle.mcy_base.specs.declared.span.Span.{Span}
@@ -25,18 +24,17 @@ use Rattle.proc_muxes.specs.declared.change.Change.{Change}
 use Rattle.proc_muxes.specs.declared.piece.Piece.{Piece}
 use Rattle.proc_muxes.specs.declared.piece.Place.{Place}
 use Rattle.proc_muxes.specs.declared.piece.Place.TheVariants.{From, At}
-use Rattle.proc_muxes.specs.Builds.{Work, held, with_held, Index, variable_index, PutsBits, PutsPart, PutsParts, BuildsIndices, distinct}
+use Rattle.proc_muxes.specs.Builds.{Work, held, with_held, Index, variable_index, PutsPart, PutsParts, BuildsIndices, distinct}
 use Rattle.proc_muxes.specs.Clear.{AreHeld}
-use Rattle.proc_muxes.specs.Counts.{put_cells, puts_cells, place_cells, pieces_cells, indices_cells, assign_cells}
-use Rattle.proc_muxes.specs.Pieces.{vector_at, IsPlace, index_bits, indices_of, IsPiece, ArePieces, CanBePlaced, IsFitPiece, AreFitPieces, IsHeldPiece, AreHeldPieces, sizes, piece_target, piece_targets, MakesPieces}
+use Rattle.proc_muxes.specs.Counts.{put_cells, puts_cells, place_cells, pieces_cells, assign_cells}
+use Rattle.proc_muxes.specs.Pieces.{vector_at, IsPlace, index_bits, indices_of, IsPiece, ArePieces, IsHeldPiece, AreHeldPieces, sizes, piece_target, piece_targets, MakesPieces}
 use Rattle.proc_muxes.specs.Shows.{Keeps}
-use Rattle.proc_muxes.specs.Working.{AreBits, PutsAt, change_of, changes_of, is_changed, joined, Built}
+use Rattle.proc_muxes.specs.Working.{PutsAt, change_of, changes_of, joined, Built}
 use Rattle.proc_muxes.proofs.Bits.{length-written, below-written, below-take, below-drop}
 use Rattle.proc_muxes.proofs.Frames.{keeps-grown, keeps-again, keeps-turned, keeps-widths, keeps-held, stands-held, held-grown}
 use Rattle.proc_muxes.proofs.Keeping.{keeps-cell, grows-indices}
 use Rattle.proc_muxes.proofs.Joining.{join-all}
 use Rattle.proc_muxes.proofs.Merging.{changes-same}
-use Rattle.proc_muxes.proofs.Putting.{puts-write}
 use Rattle.proc_muxes.proofs.Piecing.{makes-grows, makes-counted}
 
 -- One piece at a known place.
@@ -53,19 +51,6 @@ keeps-from kind x base bits a b h below f =
     subst (λ (w : Work). Keeps (piece_target kind x ∷ []) a w) (sym (f v refl refl))
     (keeps-held (piece_target kind x) (written old ps bits) a h.known (length-written old ps bits) (λ s. below-written a.building.nets old ps bits (stands-held a kind x.number s) below))
 
-pub puts-from : (kind : Bool) (x : Piece) (base : Bound) (bits : List Bit) (a b : Work) → x.place ≡ From base → IsHeldPiece a kind x → length bits ≡ x.size → WritesFrom kind x base bits a b → (names : Names) (p : Part) → IsPiece names p x → PutsPart kind names p (part_vector names p) bits (index_bits x.place) a b
-puts-from kind x base bits a b is h long f names p piece =
-    subst (λ (o : Option Vector). PutsPart kind names p o bits (index_bits x.place) a b) (sym piece.vector)
-    (h.known, h.long, go (variable_index names p.select) (subst (λ (q : Place). IsPlace (variable_index names p.select) (select_base names nothing (vector_at x) p.select) q) is piece.place)) where
-      go : (o : Option Index) → IsPlace o (select_base names nothing (vector_at x) p.select) (From base) → PutsBits kind names (vector_at x) p.select bits (index_bits x.place) o a b
-      go None e =
-          let v : Vector = vector_at x in
-          let old : List Bit = held a kind x.number in
-          f v refl (sym h.long)
-          ∙ ap (λ (z : ℤ). with_held kind x.number (written old (bits_from v z (length bits)) bits) a) (sym e)
-          ∙ ap (λ (n : ℕ). with_held kind x.number (written old (bits_from v (select_base names nothing v p.select) n) bits) a) (long ∙ sym piece.size)
-      go (Some i) e = absurd e
-
 -- One piece at an index.
 
 pub keeps-at : (kind : Bool) (x : Piece) (span : Span) (index bits : List Bit) (a b : Work) → IsHeldPiece a kind x → PutsAt span kind x.number index bits a b → Keeps (piece_target kind x ∷ []) a b
@@ -73,29 +58,6 @@ keeps-at kind x span index bits a b h f =
     let old : List Bit = held a kind x.number in
     subst (λ (w : Work). Keeps (piece_target kind x ∷ []) a w) (sym f.2)
     (keeps-cell (piece_target kind x) Put (old ∷ index ∷ bits ∷ []) (length old) span a f.0 h.known refl f.1)
-
-pub puts-index : (kind : Bool) (x : Piece) (span : Span) (index i bits ds : List Bit) (a b : Work) → x.place ≡ At index span → IsHeldPiece a kind x → IsFitPiece a.building.nets x → i ≡ index → ds ≡ bits → PutsAt span kind x.number i ds a b → (names : Names) (p : Part) → IsPiece names p x → PutsPart kind names p (part_vector names p) bits (index_bits x.place) a b
-puts-index kind x span index i bits ds a b is h fit is_i is_ds f names p piece =
-    subst (λ (o : Option Vector). PutsPart kind names p o bits (index_bits x.place) a b) (sym piece.vector) (
-      h.known,
-      h.long,
-      subst (λ (q : Place). PutsBits kind names (vector_at x) p.select bits (index_bits q) (variable_index names p.select) a b) (sym is)
-          (go (variable_index names p.select) (subst (λ (q : Place). IsPlace (variable_index names p.select) (select_base names nothing (vector_at x) p.select) q) is piece.place)),
-    ) where
-      low : x.low ≡ 0
-      low = (subst (λ (q : Place). CanBePlaced a.building.nets x.low q) is fit.place).0
-
-      puts : PutsAt span kind x.number index bits a b
-      puts = subst (λ (l : List Bit). PutsAt span kind x.number index l a b) is_ds (subst (λ (l : List Bit). PutsAt span kind x.number l ds a b) is_i f)
-
-      go : (o : Option Index) → IsPlace o (select_base names nothing (vector_at x) p.select) (At index span) → PutsBits kind names (vector_at x) p.select bits index o a b
-      go None e = absurd e
-      go (Some j) e = puts-write kind names (vector_at x) p.select bits index j a b low h.long (subst (λ (s : Span). PutsAt s kind x.number index bits a b) (sym e) puts)
-
--- what a `put` asks of its index
-pub index-bits : (nets : ℕ) (x : Piece) (index i : List Bit) (span : Span) → x.place ≡ At index span → IsFitPiece nets x → i ≡ index → AreBits nets i
-index-bits nets x index i span is fit e =
-    subst (λ (l : List Bit). AreBits nets l) (sym e) (subst (λ (q : Place). CanBePlaced nets x.low q) is fit.place).1
 
 -- Pieces.
 
@@ -185,13 +147,6 @@ changes-pieces names kind a (p ∷ ps) (x ∷ xs) f =
     subst (λ (o : Option Vector). changes_of a (piece_targets kind (x ∷ xs)) ≡ changes_of a (part_targets kind p o ++ parts_targets kind names ps)) (sym f.0.vector)
     (ap (λ (l : List Change). change_of a (piece_target kind x) ∷ l) (changes-pieces names kind a ps xs f.1))
 
--- one change more
-pub joined-first : (cs more : List Change) (d : Change) → joined (joined cs (d ∷ [])) more ≡ joined cs (d ∷ more)
-joined-first cs more d = go (is_changed d.is_blocking cs d.number) where
-  go : (b : Bool) → joined (if b then cs else cs ++ d ∷ []) more ≡ (if b then joined cs more else joined (cs ++ d ∷ []) more)
-  go true = refl
-  go false = refl
-
 -- An assignment.
 
 pub assignment-built : (s : Assigning) (a b : Work) (mid last : Building) (right : List Bit) (xs : List Piece) (cs : List Change) → Evaluates s.names s.right (assigned (sense s.names s.right) (parts_width s.names (parts_of s.left))) a.building mid right → MakesPieces s.names (parts_of s.left) mid last [] xs → ((names : Names) (ps : List Part) → ArePieces names ps xs → PutsParts s.is_blocking names ps (take (parts_width s.names (parts_of s.left)) right) (indices_of xs) (record a { building = last }) b) → cs ≡ joined [] (changes_of (record a { building = last }) (piece_targets s.is_blocking xs)) → Built (Assign s Done) a b cs
@@ -211,10 +166,6 @@ assignment-built s a b mid last right xs cs ev makes puts is =
           ∙ ap (λ (l : List Target). changes_of a (distinct l)) (sym (append-nil ts));
     }
 
--- the bits that are written
-pub right-long : (own width : ℕ) (right : List Bit) → length right ≡ max own width → width ≤ length right
-right-long own width right e = omega (arith, e)
-
 pub right-below : (names : Names) (ps : List Part) (a mid last : Building) (w width : ℕ) (right : List Bit) (xs ys : List Piece) → AllBelow mid.nets right → MakesPieces names ps mid last xs ys → AllBelow last.nets (take width right)
 right-below names ps a mid last w width right xs ys below makes =
     below_later mid.nets last.nets (take width right) (grown_nets mid last (makes-grows names ps mid last xs ys makes)) (below-take mid.nets width right below)
@@ -228,16 +179,8 @@ RightIs s a mid right = Evaluates s.names s.right (assigned (sense s.names s.rig
 abbrev pub right_cells : Assigning → ℕ
 right_cells s = length (made s.names s.right (assigned (sense s.names s.right) (parts_width s.names (parts_of s.left))))
 
-pub short-right : (s : Assigning) (n : ℕ) (e : ElabError) → IsShort (n + right_cells s) e → IsShort (n + assign_cells s) e
-short-right s n e h = more_short (n + right_cells s) (n + assign_cells s) e (omega arith) h
-
 right-counted : (s : Assigning) (a mid : Building) (right : List Bit) → RightIs s a mid right → length mid.cells ≡ length a.cells + right_cells s
 right-counted s a mid right f = count a mid right _ _ (made s.names s.right (assigned (sense s.names s.right) (parts_width s.names (parts_of s.left)))) f
-
-pub short-indices : (s : Assigning) (a mid : Building) (right : List Bit) (e : ElabError) → RightIs s a mid right → IsShort (length mid.cells + indices_cells s.names (parts_of s.left)) e → IsShort (length a.cells + assign_cells s) e
-short-indices s a mid right e f h =
-    let n = right-counted s a mid right f in
-    more_short (length mid.cells + indices_cells s.names (parts_of s.left)) (length a.cells + assign_cells s) e (omega (arith, n)) h
 
 pub short-puts : (s : Assigning) (a mid last : Building) (right : List Bit) (xs : List Piece) (e : ElabError) → RightIs s a mid right → MakesPieces s.names (parts_of s.left) mid last [] xs → IsShort (length last.cells + pieces_cells xs) e → IsShort (length a.cells + assign_cells s) e
 short-puts s a mid last right xs e f g h =
@@ -252,9 +195,6 @@ short-puts s a mid last right xs e f g h =
 -- pieces that were made from no others
 pub made-pieces : (names : Names) (ps : List Part) (a b : Building) (xs : List Piece) → MakesPieces names ps a b [] xs → ArePieces names ps xs
 made-pieces names ps a b xs f = subst (λ (l : List Piece). ArePieces names ps l) (sym f.joined) f.are
-
-pub made-fit : (names : Names) (ps : List Part) (a b : Building) (xs : List Piece) → MakesPieces names ps a b [] xs → AreFitPieces b.nets xs
-made-fit names ps a b xs f = subst (λ (l : List Piece). AreFitPieces b.nets l) (sym f.joined) f.fit
 
 -- the variables after the cells of the right side and the indices
 pub grown-work : (s : Assigning) (a : Work) (mid last : Building) (right : List Bit) (xs : List Piece) → RightIs s a.building mid right → MakesPieces s.names (parts_of s.left) mid last [] xs → Keeps [] a (record a { building = last })

@@ -17,21 +17,19 @@ use Rattle.elab_expr.specs.Expressions.{refusals}
 use Rattle.elab_expr.specs.Refusals.{IsShort}
 use Rattle.elab_expr.specs.declared.error.ElabError.{ElabError}
 use Rattle.elab_expr.proofs.Growing.{more_short}
-use Rattle.elab_expr.proofs.Parts.{below_later}
 use Rattle.proc_muxes.specs.declared.change.Change.{Change}
 use Rattle.proc_muxes.specs.declared.choice.Choice.{Choice}
 use Rattle.proc_muxes.specs.Builds.{Work, BuildsTest, ChoosesAll}
 use Rattle.proc_muxes.specs.Clear.{IsReady, has_loop, have_loops, else_has_loop}
 use Rattle.proc_muxes.specs.Counts.{cells_of}
-use Rattle.proc_muxes.specs.Shows.{Keeps, StandsBelow}
+use Rattle.proc_muxes.specs.Shows.{StandsBelow}
 use Rattle.proc_muxes.specs.Working.{AllFit, AllChoicesFit, joined, all_have, given_back, chosen, Built, test_cells}
 use Rattle.proc_muxes.proofs.Counting.{builds-counted, test-counted}
-use Rattle.proc_muxes.proofs.Frames.{keeps-again, nets-added}
-use Rattle.proc_muxes.proofs.Keeping.{keeps, keeps-test}
+use Rattle.proc_muxes.proofs.Keeping.{keeps-test}
 use Rattle.proc_muxes.proofs.Merging.{built-choice}
-use Rattle.proc_muxes.proofs.Fitting.{changes-fit, choices-fit}
+use Rattle.proc_muxes.proofs.Fitting.{leaves-steps, both-keep, parts-counted, later-below, changes-fit, choices-fit}
 use Rattle.proc_muxes.proofs.Loopless.{loops-block, loops-conditional}
-use Rattle.proc_muxes.proofs.Walking.{block-is, choice-is, ready-later, held-wide, choice-ready, back-keeps, back-counted, chosen-counted}
+use Rattle.proc_muxes.proofs.Walking.{block-is, choice-is, ready-later, held-wide, choice-ready, back-keeps, back-counted}
 
 -- Statements by what the code reads of them.
 
@@ -90,20 +88,16 @@ pub second-ready : (names : Names) (at : Span) (x : Expr) (p q : Steps) (a t y w
 second-ready names at x p q a t y w test cs h f g back =
     ready-later names q [] t w (back-keeps p t y w cs g back) (choice-ready names at (test_of names x) p q a t test h f).1
 
-both-keep : (p q : Steps) (t y w n : Work) (cs ds : List Change) → Built p t y cs → w ≡ given_back cs y → Built q w n ds → Keeps (targets q) t n
-both-keep p q t y w n cs ds g back k = keeps-again [] (targets q) t w n (back-keeps p t y w cs g back) (keeps q w n k.builds)
-
 pub choices-ready : (names : Names) (at : Span) (x : Expr) (p q : Steps) (a t y w n : Work) (test : List Bit) (cs ds : List Change) (xs : List Choice) → IsReady names (Choose at (test_of names x) p q Done) a → BuildsTest (test_of names x) a t test → Built p t y cs → w ≡ given_back cs y → Built q w n ds → xs ≡ all_have y cs → AllChoicesFit n (chosen xs cs ds)
 choices-ready names at x p q a t y w n test cs ds xs h f g back k have =
     let r = choice-ready names at (test_of names x) p q a t test h f in
     subst (λ (l : List Choice). AllChoicesFit n (chosen l cs ds)) (sym have) (choices-fit p q t y w n cs ds g back k r.0.stands r.2)
 
 pub test-below : (p q : Steps) (t y w n : Work) (test : List Bit) (cs ds : List Change) → Built p t y cs → w ≡ given_back cs y → Built q w n ds → AllBelow t.building.nets test → AllBelow n.building.nets test
-test-below p q t y w n test cs ds g back k h =
-    below_later t.building.nets n.building.nets test (nets-added t.building n.building (both-keep p q t y w n cs ds g back k).adds) h
+test-below p q t y w n test cs ds g back k h = later-below p (targets q) t y w n cs ds g back (leaves-steps q w n ds k) test h
 
 pub both-stand : (p q : Steps) (t y w n : Work) (cs ds : List Change) → Built p t y cs → w ≡ given_back cs y → Built q w n ds → StandsBelow t → StandsBelow n
-both-stand p q t y w n cs ds g back k h = (both-keep p q t y w n cs ds g back k).below h
+both-stand p q t y w n cs ds g back k h = (both-keep p (targets q) t y w n cs ds g back (leaves-steps q w n ds k)).below h
 
 -- What is built in the end.
 
@@ -138,5 +132,5 @@ muxes-short names at x p q s a t y w n test cs ds xs e is f g back k have h =
     let i = test-counted (test_of names x) a t test f in
     let j = back-counted p t y w cs g back in
     let l = builds-counted q w n k.builds in
-    let m : length (chosen xs cs ds) ≡ _ = ap (λ (z : List Choice). length (chosen z cs ds)) have ∙ chosen-counted p q t y w n cs ds g back k in
+    let m : length (chosen xs cs ds) ≡ _ = ap (λ (z : List Choice). length (chosen z cs ds)) have ∙ parts-counted p (targets q) t y w n cs ds g back (leaves-steps q w n ds k) in
     short-as s (Choose at (test_of names x) p q Done) (length a.building.cells) e is (more_short (length n.building.cells + length (chosen xs cs ds)) (length a.building.cells + cells_of (Choose at (test_of names x) p q Done)) e (omega (arith, i, j, l, m)) h)

@@ -23,7 +23,7 @@ use Rattle.proc_muxes.specs.Counts.{put_cells, puts_cells, assign_cells, labels_
 use Rattle.proc_muxes.specs.Working.{test_cells}
 use Rattle.proc_muxes.proofs.Piecing.{indices-counted}
 
-cell-counted : (kind : CellKind) (ports : List (List Bit)) (w : ℕ) (at : Span) (a b : Building) → AddsCell kind ports w at a b → length b.cells ≡ length a.cells + 1
+pub cell-counted : (kind : CellKind) (ports : List (List Bit)) (w : ℕ) (at : Span) (a b : Building) → AddsCell kind ports w at a b → length b.cells ≡ length a.cells + 1
 cell-counted kind ports w at a b f = ap (λ (m : Building). length m.cells) f.1 ∙ simp length-append
 
 held-counted : (kind : Bool) (n : ℕ) (bits : List Bit) (a : Work) → length (with_held kind n bits a).building.cells ≡ length a.building.cells
@@ -96,7 +96,7 @@ choices-counted at test y (x ∷ more) a b f =
 
 -- Labels.
 
-label-counted : (c : Selection) (selector : List Bit) (x : Expr) (a b : Building) (test : List Bit) → BuildsLabel c selector x a b test → length b.cells ≡ length a.cells + (length (made c.names x (case_shape c)) + 1)
+pub label-counted : (c : Selection) (selector : List Bit) (x : Expr) (a b : Building) (test : List Bit) → BuildsLabel c selector x a b test → length b.cells ≡ length a.cells + (length (made c.names x (case_shape c)) + 1)
 label-counted c selector x a b test f =
     let own = count a f.0 f.1 _ _ (made c.names x (case_shape c)) f.2 in
     let ignored : List Bool = bits_of c.width (dont_care c.kind x) in
@@ -113,7 +113,7 @@ more-counted c selector (x ∷ more) before a b test f =
     let later = more-counted c selector more (fresh_bits f.0.nets 1) f.1 b test f.5 in
     omega (arith, here, cell, later)
 
-match-counted : (c : Selection) (selector : List Bit) (xs : List Expr) (a b : Building) (test : List Bit) → BuildsMatch c selector xs a b test → length b.cells ≡ length a.cells + match_cells c xs
+pub match-counted : (c : Selection) (selector : List Bit) (xs : List Expr) (a b : Building) (test : List Bit) → BuildsMatch c selector xs a b test → length b.cells ≡ length a.cells + match_cells c xs
 match-counted c selector [] a b test f = absurd f
 match-counted c selector (x ∷ more) a b test f =
     let here = label-counted c selector x a f.0 f.1 f.2 in

@@ -1,14 +1,20 @@
 -- What the calls for a choice ask of changes and choices holds after its parts.
 use Rattle.std.proofs.Common.{◌≡◌, ℕ, ◌≤◌, Bool, true, false, List, [], ◌∷◌, ◌++◌, length, refl, sym, ◌∙◌, ap, subst}
 use Rattle.std.specs.Prelude.{if◌then◌else◌}
+use Rattle.std.proofs.lemmas.List.{length-map}
+use Rattle.netlist_core.specs.declared.bit.Bit.{Bit}
+use Rattle.vlog_effects.specs.Steps.{Steps}
 use Rattle.vlog_effects.specs.Latches.{Target, targets}
+use Rattle.elab_expr.specs.Building.{AllBelow}
 use Rattle.elab_expr.proofs.Parts.{below_later}
 use Rattle.proc_muxes.specs.declared.change.Change.{Change}
+use Rattle.proc_muxes.specs.declared.choice.Choice.{Choice}
 use Rattle.proc_muxes.specs.Builds.{Work, held, choices, restored, stands, distinct_after, distinct}
 use Rattle.proc_muxes.specs.Shows.{Known, Keeps, StandsBelow}
-use Rattle.proc_muxes.specs.Working.{changes_of, all_have, AllFit, AllChoicesFit, AreWide, given_back, chosen, Built}
+use Rattle.proc_muxes.specs.Working.{changes_of, joined, all_have, AllFit, AllChoicesFit, AreWide, given_back, chosen, Built}
 use Rattle.proc_muxes.specs.Laws.{ChangesFit, ChoicesFit}
 use Rattle.proc_muxes.proofs.Frames.{known-append, known-distinct, keeps-again, keeps-restored, keeps-widths, stands-held, nets-added}
+use Rattle.proc_muxes.proofs.Joining.{changes-joined}
 use Rattle.proc_muxes.proofs.Keeping.{keeps}
 use Rattle.proc_muxes.proofs.Merging.{fit-still, given-restores, chosen-is}
 
@@ -43,17 +49,50 @@ choices-first t y n (x ∷ more) k wy wn s le w = (
   choices-first t y n more k.1 wy wn s le w.2,
 )
 
+-- What the second part of a choice leaves: steps, or the arms of a case.
+pub record Leaves (qs : List Target) (w n : Work) (ds : List Change) : Type 0 where
+  pub keeps : Keeps qs w n
+  pub changes_are : ds ≡ changes_of w (distinct qs)
+
+pub leaves-steps : (q : Steps) (w n : Work) (ds : List Change) → Built q w n ds → Leaves (targets q) w n ds
+leaves-steps q w n ds f = record { keeps = keeps q w n f.builds; changes_are = f.changes_are }
+
+-- what was given back is the builder with what it had
+pub back-is : (p : Steps) (t y w : Work) (cs : List Change) → Built p t y cs → w ≡ given_back cs y → w ≡ restored t y
+back-is p t y w cs f e = e ∙ ap (λ (l : List Change). given_back l y) f.changes_are ∙ given-restores (targets p) t y (keeps p t y f.builds)
+
+module _ (p : Steps) (qs : List Target) (t y w n : Work) (cs ds : List Change) (f : Built p t y cs) (back : w ≡ given_back cs y) (g : Leaves qs w n ds) where
+  first-keeps : Keeps (targets p) t y
+  first-keeps = keeps p t y f.builds
+
+  pub leaves-restored : Leaves qs (restored t y) n ds
+  leaves-restored = subst (λ (u : Work). Leaves qs u n ds) (back-is p t y w cs f back) g
+
+  pub both-keep : Keeps qs t n
+  both-keep = keeps-again [] qs t (restored t y) n (keeps-restored (targets p) t y first-keeps) leaves-restored.keeps
+
+  pub chosen-are : chosen (all_have y cs) cs ds ≡ choices y (distinct (targets p ++ qs))
+  chosen-are = rw (f.changes_are, leaves-restored.changes_are) (chosen-is (targets p) qs t y first-keeps)
+
+  pub joined-are : joined cs ds ≡ changes_of t (distinct (targets p ++ qs))
+  joined-are = rw (f.changes_are, leaves-restored.changes_are) (changes-joined (targets p) qs t (restored t y) (λ kind m i. restored-held kind m)) where
+    restored-held : (kind : Bool) (m : ℕ) → held (restored t y) kind m ≡ held t kind m
+    restored-held true m = refl
+    restored-held false m = refl
+
+  pub parts-fit : StandsBelow t → AreWide t (targets p ++ qs) → AllChoicesFit n (chosen (all_have y cs) cs ds)
+  parts-fit s wide =
+      let all : List Target = distinct (targets p ++ qs) in
+      let known : Known (length n.building.signals) all = rw both-keep.adds.count (known-distinct (length t.building.signals) [] (targets p ++ qs) (known-append (length t.building.signals) (targets p) qs first-keeps.known leaves-restored.keeps.known)) in
+      let fit : AllChoicesFit n (choices y all) = choices-first t y n all known (keeps-widths (targets p) t y first-keeps) (keeps-widths qs t n both-keep) (first-keeps.below s) (nets-added (restored t y).building n.building leaves-restored.keeps.adds) (wide-distinct t [] (targets p ++ qs) wide) in
+      subst (AllChoicesFit n) (sym chosen-are) fit
+
+  -- a choice has as many muxes as it has targets
+  pub parts-counted : length (chosen (all_have y cs) cs ds) ≡ length (distinct (targets p ++ qs))
+  parts-counted = ap (λ (l : List Choice). length l) chosen-are ∙ length-map (distinct (targets p ++ qs)) _
+
+  pub later-below : (bits : List Bit) → AllBelow t.building.nets bits → AllBelow n.building.nets bits
+  later-below bits h = below_later t.building.nets n.building.nets bits (nets-added t.building n.building both-keep.adds) h
+
 pub choices-fit : ChoicesFit
-choices-fit p q t y w n cs ds f back g s wide =
-    let ps : List Target = targets p in
-    let qs : List Target = targets q in
-    let r : Work = restored t y in
-    let kp : Keeps ps t y = keeps p t y f.builds in
-    let w_is : w ≡ r = back ∙ ap (λ (l : List Change). given_back l y) f.changes_are ∙ given-restores ps t y kp in
-    let other : Built q r n ds = subst (λ (u : Work). Built q u n ds) w_is g in
-    let kq : Keeps qs r n = keeps q r n other.builds in
-    let to_n : Keeps qs t n = keeps-again [] qs t r n (keeps-restored ps t y kp) kq in
-    let chosen_are : chosen (all_have y cs) cs ds ≡ choices y (distinct (ps ++ qs)) = rw (f.changes_are, other.changes_are) (chosen-is ps qs t y kp) in
-    let known : Known (length n.building.signals) (distinct (ps ++ qs)) = rw to_n.adds.count (known-distinct (length t.building.signals) [] (ps ++ qs) (known-append (length t.building.signals) ps qs kp.known kq.known)) in
-    let fit : AllChoicesFit n (choices y (distinct (ps ++ qs))) = choices-first t y n (distinct (ps ++ qs)) known (keeps-widths ps t y kp) (keeps-widths qs t n to_n) (kp.below s) (nets-added r.building n.building kq.adds) (wide-distinct t [] (ps ++ qs) wide) in
-    subst (AllChoicesFit n) (sym chosen_are) fit
+choices-fit p q t y w n cs ds f back g = parts-fit p (targets q) t y w n cs ds f back (leaves-steps q w n ds g)

@@ -17,3 +17,6 @@ pub mod Counting
 pub mod Walking
 pub mod Loopless
 pub mod Branching
+pub mod Labelling
+pub mod Opening
+pub mod Closing

@@ -1,21 +1,15 @@
 -- The pieces of a left side, with the cells of its indices.
-use Rattle.std.proofs.Common.{◌≡◌, ℕ, zero, suc, ◌+◌, ◌<◌, ◌≤◌, ◌^◌, pos, ◌+ℤ◌, ◌-ℤ◌, Bool, true, false, List, [], ◌∷◌, ◌++◌, map, take, length, get_or, Option, Some, None, refl, sym, ◌∙◌, ap, subst, arith, append-nil, append_assoc}
-use Rattle.std.specs.Prelude.{IsTrue}
+use Rattle.std.proofs.Common.{◌≡◌, ℕ, zero, suc, ◌+◌, ◌<◌, ◌≤◌, pos, false, List, [], ◌∷◌, ◌++◌, map, take, length, get_or, Option, Some, None, refl, sym, ◌∙◌, ap, subst, arith, append-nil, append_assoc}
 use Rattle.std.proofs.lemmas.List.{map-append}
 use Rattle.mcy_base.specs.declared.span.Span.{Span}
-use Rattle.mcy_base.specs.declared.word.Word.{Word}
 use Rattle.netlist_core.specs.declared.bit.Bit.{Bit}
 use Rattle.vlog_syntax.specs.declared.expr.Expr.{Expr}
 use Rattle.vlog_syntax.specs.declared.identifier.Identifier.{Identifier}
 use Rattle.vlog_syntax.specs.declared.left_side.LeftSide.{LeftSide}
-use Rattle.vlog_meaning.specs.declared.bound.Bound.{Bound}
-use Rattle.vlog_meaning.specs.declared.scope.Decl.{Decl}
-use Rattle.vlog_meaning.specs.declared.scope.Decl.TheVariants.{Signal, Constant}
-use Rattle.vlog_meaning.specs.Integers.{natural, bound_integer}
 use Rattle.vlog_meaning.specs.Scopes.{Names, nothing}
-use Rattle.vlog_meaning.specs.Senses.{sense, own, constant_integer}
+use Rattle.vlog_meaning.specs.Senses.{sense, own}
 use Rattle.vlog_effects.specs.Expressions.{is_constant}
-use Rattle.vlog_effects.specs.LeftSides.{Whole, Bit as BitOf, Range, Indexed, Part, Vector, vector_of, part_vector, part_width, width_by, parts_of, parts_width, select_base, select_width, concatenated}
+use Rattle.vlog_effects.specs.LeftSides.{Bit as BitOf, Indexed, Part, Vector, part_vector, parts_of, parts_width, select_base, select_width, concatenated}
 use Rattle.elab_expr.specs.Building.{Building, Grows, HasSignals}
 use Rattle.elab_expr.specs.Evaluates.{Evaluates}
 use Rattle.elab_expr.specs.Expressions.{refusals}
@@ -35,20 +29,8 @@ use Rattle.proc_muxes.proofs.Keeping.{grows-indices}
 
 -- An index.
 
-index-none : (names : Names) (span : Span) (i : Expr) → is_constant names i ≡ true → index_at names span i ≡ None
-index-none names span i e = rw e refl
-
 index-some : (names : Names) (span : Span) (i : Expr) → is_constant names i ≡ false → index_at names span i ≡ Some (record { place = span; expr = i })
 index-some names span i e = rw e refl
-
-pub placed-constant : (names : Names) (span : Span) (i : Expr) (a : Building) (base : Bound) → is_constant names i ≡ true → bound_integer base ≡ pos (own nothing (sense names i)) → (IsTrue base.is_negative → base.magnitude ≤ 2 ^ 127) → IsPlaced names span i a a (From base)
-placed-constant names span i a base e is small =
-    let none : None ≡ index_at names span i = sym (index-none names span i e) in
-    record {
-      is = subst (λ (o : Option Index). IsPlace o (pos (own nothing (sense names i))) (From base)) none (sym is);
-      fit = λ low h. small;
-      built = subst (λ (o : Option Index). BuildsIndex names o a a []) none (refl, refl);
-    }
 
 pub placed-variable : (names : Names) (span : Span) (i : Expr) (a b : Building) (bits : List Bit) → is_constant names i ≡ false → 1 ≤ (sense names i).shape.width → (sense names i).shape.width ≤ 128 → Evaluates names i (sense names i).shape a b bits → IsPlaced names span i a b (At bits span)
 placed-variable names span i a b bits e some narrow f =
@@ -63,10 +45,6 @@ placed-variable names span i a b bits e some narrow f =
 pub index-counted : (names : Names) (i : Option Index) (a b : Building) (bits : List Bit) → BuildsIndex names i a b bits → length b.cells ≡ length a.cells + index_cells names i
 index-counted names None a b bits f = ap (λ (m : Building). length m.cells) f.0 ∙ omega arith
 index-counted names (Some i) a b bits f = count a b bits _ _ (made names i.expr (sense names i.expr).shape) f
-
--- the cells of an index that is no constant are those of its expression
-pub index-short : (names : Names) (span : Span) (i : Expr) (n : ℕ) (e : ElabError) → is_constant names i ≡ false → IsShort (n + length (made names i (sense names i).shape)) e → IsShort (n + index_cells names (index_at names span i)) e
-index-short names span i n e f h = subst (λ (o : Option Index). IsShort (n + index_cells names o) e) (sym (index-some names span i f)) h
 
 -- One part.
 
@@ -85,12 +63,6 @@ makes names p a b x can vector size place fit built =
       };
       built = built;
     }
-
--- the same of a piece that is given by its parts
-pub makes-at : (names : Names) (p : Part) (a b : Building) (x : Piece) (number width low size : ℕ) (place : Place) → x ≡ record { number = number; width = width; low = low; size = size; place = place } → CanWrite names p → part_vector names p ≡ Some (record { number = number; width = width; low = low }) → select_width names (record { number = number; width = width; low = low }) p.select ≡ size → IsPlace (variable_index names p.select) (select_base names nothing (record { number = number; width = width; low = low }) p.select) place → ((low : ℕ) → ((index : Index) → variable_index names p.select ≡ Some index → low ≡ 0) → CanBePlaced b.nets low place) → BuildsIndex names (variable_index names p.select) a b (index_bits place) → MakesPiece names p a b x
-makes-at names p a b x number width low size place is can vector sized placed fit built =
-    let y : Piece = record { number = number; width = width; low = low; size = size; place = place } in
-    subst (λ (z : Piece). MakesPiece names p a b z) (sym is) (makes names p a b y can vector sized placed fit built)
 
 -- Several parts.
 
@@ -127,9 +99,6 @@ pieces-later n m (x ∷ xs) le h = (piece-later n m x le h.0, pieces-later n m x
 fit-append : (n : ℕ) (xs ys : List Piece) → AreFitPieces n xs → AreFitPieces n ys → AreFitPieces n (xs ++ ys)
 fit-append n [] ys h k = k
 fit-append n (x ∷ xs) ys h k = (h.0, fit-append n xs ys h.1 k)
-
-pub makes-none : (names : Names) (a : Building) (xs : List Piece) → MakesPieces names [] a a xs xs
-makes-none names a xs = record { more = []; joined = sym (append-nil xs); are = tt; fit = tt; built = (refl, refl) }
 
 pub makes-one : (names : Names) (ps : List Part) (p : Part) (a b : Building) (x : Piece) (xs ys : List Piece) → ps ≡ p ∷ [] → MakesPiece names p a b x → ys ≡ xs ++ x ∷ [] → MakesPieces names ps a b xs ys
 makes-one names ps p a b x xs ys is f e =
@@ -179,9 +148,6 @@ can-element names [] k x is h can = absurd (omega arith)
 can-element names (y ∷ ys) zero x is h can = subst (λ (z : LeftSide). CanWriteAll names (parts_of z)) (sym is) (can-left names (parts_of y) (concatenated (map parts_of ys)) can)
 can-element names (y ∷ ys) (suc k) x is h can = can-element names ys k x is (omega arith) (can-right names (parts_of y) (concatenated (map parts_of ys)) can)
 
-pub can-one : (names : Names) (ps : List Part) (p : Part) → ps ≡ p ∷ [] → CanWriteAll names ps → CanWrite names p
-can-one names ps p is can = (subst (λ (l : List Part). CanWriteAll names l) is can).0
-
 cells-append : (names : Names) (ps qs : List Part) → indices_cells names (ps ++ qs) ≡ indices_cells names ps + indices_cells names qs
 cells-append names [] qs = omega arith
 cells-append names (p ∷ ps) qs = let e = cells-append names ps qs in omega (arith, e)
@@ -229,50 +195,10 @@ element-short names parts k x a m xs ys e is h f short =
     let within = cells-within names parts (suc k) in
     more_short (length m.cells + indices_cells names (parts_of x)) (length a.cells + indices_cells names (concatenated (map parts_of parts))) e (omega (arith, n, next, within)) short
 
--- the width of one part
-pub width-one : (names : Names) (ps : List Part) (p : Part) (v : Vector) (n : ℕ) → ps ≡ p ∷ [] → part_vector names p ≡ Some v → select_width names v p.select ≡ n → n ≡ parts_width names ps
-width-one names ps p v n is vector size =
-    let one : part_width names p ≡ n = ap (λ (o : Option Vector). width_by names p.select o) vector ∙ size in
-    let all : parts_width names ps ≡ part_width names p + 0 = ap (parts_width names) is in
-    omega (arith, one, all)
-
-pub short-one : (names : Names) (ps : List Part) (p : Part) (n : ℕ) (e : ElabError) → ps ≡ p ∷ [] → IsShort (n + index_cells names (variable_index names p.select)) e → IsShort (n + indices_cells names ps) e
-short-one names ps p n e is h =
-    let all : indices_cells names ps ≡ index_cells names (variable_index names p.select) + 0 = ap (indices_cells names) is in
-    more_short (n + index_cells names (variable_index names p.select)) (n + indices_cells names ps) e (omega (arith, all)) h
-
 -- What the code of one part asks and gives.
-
-pub vector-signal : (o : Option Decl) (width low number : ℕ) (is_signed : Bool) → o ≡ Some (Signal width low is_signed number) → vector_of o ≡ Some (record { number = number; width = width; low = low })
-vector-signal o width low number is_signed e = ap vector_of e
-
-pub no-constant : (o : Option Decl) (value : Word) (is_signed : Bool) → o ≡ Some (Constant value is_signed) → (v : Vector) × (vector_of o ≡ Some v) → ⊥
-no-constant o value is_signed e h = let g : None ≡ Some h.0 = sym (ap vector_of e) ∙ h.1 in cc
-
-pub not-none : (o : Option Decl) → o ≡ None → (v : Vector) × (vector_of o ≡ Some v) → ⊥
-not-none o e h = let g : None ≡ Some h.0 = sym (ap vector_of e) ∙ h.1 in cc
 
 pub clear-bit : (names : Names) (n : Identifier) (span : Span) (i : Expr) → CanWrite names (record { name = n; select = BitOf span i }) → is_constant names i ≡ false → refusals names i (sense names i).shape ≡ []
 clear-bit names n span i can e = can.1.index (record { place = span; expr = i }) (rw e refl)
 
 pub clear-indexed : (names : Names) (n : Identifier) (span : Span) (base count : Expr) → CanWrite names (record { name = n; select = Indexed span base count }) → is_constant names base ≡ false → refusals names base (sense names base).shape ≡ []
 clear-indexed names n span base count can e = can.1.index (record { place = span; expr = base }) (rw e refl)
-
--- the width of a select of a part that can be written
-pub size-some : (names : Names) (p : Part) (size : ℕ) → CanWrite names p → ((v : Vector) → select_width names v p.select ≡ size) → 1 ≤ size
-size-some names p size can e = subst (λ (k : ℕ). 1 ≤ k) (e can.0) can.1.some
-
-pub size-narrow : (names : Names) (p : Part) (size : ℕ) → CanWrite names p → ((v : Vector) → select_width names v p.select ≡ size) → size ≤ 128
-size-narrow names p size can e = subst (λ (k : ℕ). k ≤ 128) (e can.0) can.1.narrow
-
-pub makes-whole : (names : Names) (n : Identifier) (b : Building) (x : Piece) (number width low : ℕ) (base : Bound) → CanWrite names (record { name = n; select = Whole }) → vector_of (names n.name) ≡ Some (record { number = number; width = width; low = low }) → pos low ≡ bound_integer base → (IsTrue base.is_negative → base.magnitude ≤ 2 ^ 127) → x ≡ record { number = number; width = width; low = low; size = width; place = From base } → MakesPiece names (record { name = n; select = Whole }) b b x
-makes-whole names n b x number width low base can vector is small e = makes-at names (record { name = n; select = Whole }) b b x number width low width (From base) e can vector refl is (λ m h. small) (refl, refl)
-
-pub makes-range : (names : Names) (n : Identifier) (span : Span) (msb lsb : Expr) (b : Building) (x : Piece) (number width low size : ℕ) (base : Bound) → CanWrite names (record { name = n; select = Range span msb lsb }) → vector_of (names n.name) ≡ Some (record { number = number; width = width; low = low }) → bound_integer base ≡ constant_integer (sense names lsb) → (IsTrue base.is_negative → base.magnitude ≤ 2 ^ 127) → size ≡ natural (constant_integer (sense names msb) -ℤ constant_integer (sense names lsb) +ℤ pos 1) → x ≡ record { number = number; width = width; low = low; size = size; place = From base } → MakesPiece names (record { name = n; select = Range span msb lsb }) b b x
-makes-range names n span msb lsb b x number width low size base can vector is small sized e = makes-at names (record { name = n; select = Range span msb lsb }) b b x number width low size (From base) e can vector (sym sized) (sym is) (λ m h. small) (refl, refl)
-
-pub makes-bit : (names : Names) (n : Identifier) (span : Span) (i : Expr) (a b : Building) (x : Piece) (number width low : ℕ) (place : Place) → CanWrite names (record { name = n; select = BitOf span i }) → vector_of (names n.name) ≡ Some (record { number = number; width = width; low = low }) → IsPlaced names span i a b place → x ≡ record { number = number; width = width; low = low; size = 1; place = place } → MakesPiece names (record { name = n; select = BitOf span i }) a b x
-makes-bit names n span i a b x number width low place can vector f e = makes-at names (record { name = n; select = BitOf span i }) a b x number width low 1 place e can vector refl f.is f.fit f.built
-
-pub makes-indexed : (names : Names) (n : Identifier) (span : Span) (base count : Expr) (a b : Building) (x : Piece) (number width low size : ℕ) (place : Place) → CanWrite names (record { name = n; select = Indexed span base count }) → vector_of (names n.name) ≡ Some (record { number = number; width = width; low = low }) → IsPlaced names span base a b place → size ≡ natural (constant_integer (sense names count)) → x ≡ record { number = number; width = width; low = low; size = size; place = place } → MakesPiece names (record { name = n; select = Indexed span base count }) a b x
-makes-indexed names n span base count a b x number width low size place can vector f sized e = makes-at names (record { name = n; select = Indexed span base count }) a b x number width low size place e can vector (sym sized) f.is f.fit f.built

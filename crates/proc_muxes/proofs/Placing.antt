@@ -1,59 +1,10 @@
 -- The places of bits that are written from a declared number on, and the writes one after the other.
-use Rattle.std.proofs.Common.{◌≡◌, ℕ, zero, suc, ◌+◌, ◌-◌, ◌<◌, ◌≤◌, min, true, false, ℤ, pos, negsuc, ◌+ℤ◌, List, [], ◌∷◌, drop, length, get_or, set, Option, Some, None, refl, sym, ◌∙◌, ap, inl, inr, arith}
+use Rattle.std.proofs.Common.{◌≡◌, ℕ, zero, suc, ◌+◌, ◌-◌, ◌<◌, ℤ, pos, ◌+ℤ◌, List, [], ◌∷◌, drop, length, get_or, set, Option, Some, None, refl, sym, ◌∙◌, ap, arith}
 use Rattle.std.proofs.Math.Seq.{drop-cons}
 use Rattle.std.proofs.lemmas.Int.{ints}
 use Rattle.std.proofs.lemmas.List.{length-set}
-use Rattle.std.proofs.lemmas.Bool.Decides.{leb_tells}
 use Rattle.netlist_core.specs.declared.bit.Bit.{Bit}
-use Rattle.vlog_meaning.specs.declared.bound.Bound.{Bound}
-use Rattle.vlog_meaning.specs.Integers.{bound_integer}
 use Rattle.vlog_effects.specs.LeftSides.{Vector, bit_at, bits_from, written}
-
-pub place-below : (v : Vector) (n low : ℕ) → v.low ≡ low → n < low → bit_at v (pos n) ≡ None
-place-below v n low e h = elim (leb_tells v.low n) [
-  | inl a ↦ absurd (let g = a.1 in omega arith)
-  | inr a ↦ rw a.0 refl
-]
-
-pub place-past : (v : Vector) (n low width : ℕ) → v.low ≡ low → v.width ≡ width → low + width ≤ n → bit_at v (pos n) ≡ None
-place-past v n low width e f h = elim (leb_tells v.low n) [
-  | inl a ↦ elim (leb_tells (suc (n - v.low)) v.width) [
-    | inl b ↦ absurd (let g = b.1 in omega arith)
-    | inr b ↦ rw (a.0, b.0) refl
-  ]
-  | inr a ↦ rw a.0 refl
-]
-
-pub place-in : (v : Vector) (n low width place : ℕ) → v.low ≡ low → v.width ≡ width → low ≤ n → place ≡ n - low → place < width → bit_at v (pos n) ≡ Some place
-place-in v n low width place e f h is k = elim (leb_tells v.low n) [
-  | inl a ↦ elim (leb_tells (suc (n - v.low)) v.width) [
-    | inl b ↦ let g : n - v.low ≡ place = omega arith in rw (a.0, b.0, g) refl
-    | inr b ↦ absurd (let g = b.1 in omega arith)
-  ]
-  | inr a ↦ absurd (let g = a.1 in omega arith)
-]
-
--- a number that is counted up to the type's end
-pub place-saturated : (v : Vector) (p : Bound) (low width k at top : ℕ) → p.is_negative ≡ false → v.low ≡ low → v.width ≡ width → low + width ≤ top → at ≡ min (p.magnitude + k) top → bit_at v (pos at) ≡ bit_at v (bound_integer p +ℤ pos k)
-place-saturated v p low width k at top e is_low is_width small is =
-    let z : bound_integer p +ℤ pos k ≡ pos (p.magnitude + k) = rw e (omega (arith, ints)) in
-    elim (leb_tells (p.magnitude + k) top) [
-      | inl a ↦ let g = a.1 in let same : at ≡ p.magnitude + k = omega arith in ap (λ (n : ℕ). bit_at v (pos n)) same ∙ ap (λ (y : ℤ). bit_at v y) (sym z)
-      | inr a ↦
-          let g = a.1 in
-          place-past v at low width is_low is_width (omega arith) ∙ sym (place-past v (p.magnitude + k) low width is_low is_width (omega arith)) ∙ ap (λ (y : ℤ). bit_at v y) (sym z)
-    ]
-
--- a negative number has no place
-pub place-negative : (v : Vector) (p : Bound) (k : ℕ) → p.is_negative ≡ true → k < p.magnitude → bit_at v (bound_integer p +ℤ pos k) ≡ None
-place-negative v p k e h =
-    let z : bound_integer p +ℤ pos k ≡ negsuc (p.magnitude - k - 1) = rw e (omega (arith, ints)) in
-    ap (λ (y : ℤ). bit_at v y) z
-
-pub place-after : (v : Vector) (p : Bound) (k n : ℕ) → p.is_negative ≡ true → p.magnitude ≤ k → n ≡ k - p.magnitude → bit_at v (pos n) ≡ bit_at v (bound_integer p +ℤ pos k)
-place-after v p k n e h is =
-    let z : bound_integer p +ℤ pos k ≡ pos n = rw e (omega (arith, ints)) in
-    ap (λ (y : ℤ). bit_at v y) (sym z)
 
 -- One bit after the other.
 

@@ -1,13 +1,12 @@
 -- The put that the code adds.
-use Rattle.std.proofs.Common.{◌≡◌, ℕ, ℤ, Some, ◌≤◌, Bool, true, false, List, [], ◌∷◌, length, refl, sym, ◌∙◌, ap, subst}
+use Rattle.std.proofs.Common.{◌≡◌, ℕ, ℤ, ◌≤◌, Bool, true, false, List, [], ◌∷◌, length, refl, sym, ◌∙◌, ap}
 use Rattle.mcy_base.specs.declared.span.Span.{Span}
 use Rattle.netlist_core.specs.declared.bit.Bit.{Bit}
 use Rattle.netlist_core.specs.declared.cell.CellKind.TheVariants.{Put}
 use Rattle.elab_expr.specs.Building.{Building, Grows, fresh_bits, with_cell}
 use Rattle.elab_expr.proofs.Parts.{grown_by, length_fresh}
-use Rattle.vlog_meaning.specs.Scopes.{Names}
-use Rattle.vlog_effects.specs.LeftSides.{Select, Vector, bits_from, written}
-use Rattle.proc_muxes.specs.Builds.{Work, held, with_held, AddsCell, Index, PutsBits}
+use Rattle.vlog_effects.specs.LeftSides.{Vector, bits_from, written}
+use Rattle.proc_muxes.specs.Builds.{Work, held, with_held}
 use Rattle.proc_muxes.specs.Shows.{StandsBelow}
 use Rattle.proc_muxes.specs.Working.{AreBits, PutsAt}
 use Rattle.proc_muxes.proofs.Bits.{length-written}
@@ -30,15 +29,6 @@ put-wide a mid kind n h index bits y w at is_mid is_y is_w is_h =
       same : (k : Bool) → held (record a { building = with_cell a.building Put false (h ∷ index ∷ bits ∷ []) w at }) k n ≡ held a k n
       same true = refl
       same false = refl
-
--- such a put writes a part of a left side, where bit 0 of its vector is declared as 0
-pub puts-write : (kind : Bool) (names : Names) (v : Vector) (s : Select) (bits index : List Bit) (i : Index) (a b : Work) → v.low ≡ 0 → length (held a kind v.number) ≡ v.width → PutsAt i.place kind v.number index bits a b → PutsBits kind names v s bits index (Some i) a b
-puts-write kind names v s bits index i a b low wide f = (
-  low,
-  f.0,
-  subst (λ (w : ℕ). AddsCell Put (held a kind v.number ∷ index ∷ bits ∷ []) w i.place a.building f.0) wide f.1,
-  f.2 ∙ ap (λ (w : ℕ). with_held kind v.number (fresh_bits a.building.nets w) (record a { building = f.0 })) wide,
-)
 
 -- bits that were laid over others are as many as these
 pub laid-wide : (h old found target bits : List Bit) (low : ℕ) (z : ℤ) → ((v : Vector) → v.low ≡ low → v.width ≡ length old → found ≡ written old (bits_from v z (length bits)) bits) → old ≡ h → h ≡ target → length found ≡ length target

@@ -1,7 +1,7 @@
 -- What the code of statements has from one statement to the next.
 use Rattle.std.proofs.Common.{◌≡◌, ℕ, zero, suc, ◌+◌, ◌<◌, ◌≤◌, true, false, List, [], ◌∷◌, ◌++◌, map, take, length, get_or, Option, Some, None, refl, sym, ◌∙◌, ap, subst, arith}
 use Rattle.std.specs.Option.{option_map}
-use Rattle.std.proofs.lemmas.List.{length-map, map-append, take_more}
+use Rattle.std.proofs.lemmas.List.{map-append, take_more}
 use Rattle.mcy_base.specs.declared.span.Span.{Span}
 use Rattle.netlist_core.specs.declared.bit.Bit.{Bit}
 use Rattle.vlog_syntax.specs.declared.expr.Expr.{Expr}
@@ -23,17 +23,16 @@ use Rattle.elab_expr.specs.Refusals.{IsShort}
 use Rattle.elab_expr.specs.declared.error.ElabError.{ElabError}
 use Rattle.elab_expr.proofs.Growing.{more_short}
 use Rattle.proc_muxes.specs.declared.change.Change.{Change}
-use Rattle.proc_muxes.specs.declared.choice.Choice.{Choice}
-use Rattle.proc_muxes.specs.Builds.{Work, restored, distinct, choices, BuildsTest}
+use Rattle.proc_muxes.specs.Builds.{Work, BuildsTest}
 use Rattle.proc_muxes.specs.Clear.{CanAssign, IsClear, AreHeld, IsReady}
 use Rattle.proc_muxes.specs.Counts.{assign_cells, cells_of}
 use Rattle.proc_muxes.specs.Shows.{Keeps, StandsBelow}
-use Rattle.proc_muxes.specs.Working.{AreWide, joined, all_have, given_back, chosen, Built}
+use Rattle.proc_muxes.specs.Working.{AreWide, joined, given_back, Built}
 use Rattle.proc_muxes.proofs.Counting.{builds-counted}
 use Rattle.proc_muxes.proofs.Frames.{keeps-restored, keeps-widths}
 use Rattle.proc_muxes.proofs.Keeping.{keeps, keeps-test}
 use Rattle.proc_muxes.proofs.Joining.{targets-followed, in_turn-push, built-push}
-use Rattle.proc_muxes.proofs.Merging.{given-restores, chosen-is}
+use Rattle.proc_muxes.proofs.Fitting.{back-is}
 
 -- Parts of steps.
 
@@ -41,25 +40,25 @@ clear-first : (p q : Steps) → IsClear (followed p q) → IsClear p
 clear-first Done q h = tt
 clear-first (Assign s more) q h = (h.0, clear-first more q h.1)
 clear-first (Choose at c then_part else_part more) q h = (h.0, h.1, h.2, clear-first more q h.3)
-clear-first (Case c arms more) q h = absurd h
+clear-first (Case c arms more) q h = (h.0, h.1, clear-first more q h.2)
 clear-first (Refuse x more) q h = absurd h
 
 clear-next : (p q : Steps) → IsClear (followed p q) → IsClear q
 clear-next Done q h = h
 clear-next (Assign s more) q h = clear-next more q h.1
 clear-next (Choose at c then_part else_part more) q h = clear-next more q h.3
-clear-next (Case c arms more) q h = absurd h
+clear-next (Case c arms more) q h = clear-next more q h.2
 clear-next (Refuse x more) q h = absurd h
 
-held-first : (a : Work) (xs ys : List Target) → AreHeld a (xs ++ ys) → AreHeld a xs
+pub held-first : (a : Work) (xs ys : List Target) → AreHeld a (xs ++ ys) → AreHeld a xs
 held-first a [] ys h = tt
 held-first a (x ∷ xs) ys h = (h.0, held-first a xs ys h.1)
 
-held-next : (a : Work) (xs ys : List Target) → AreHeld a (xs ++ ys) → AreHeld a ys
+pub held-next : (a : Work) (xs ys : List Target) → AreHeld a (xs ++ ys) → AreHeld a ys
 held-next a [] ys h = h
 held-next a (x ∷ xs) ys h = held-next a xs ys h.1
 
-held-later : (ts : List Target) (a b : Work) (xs : List Target) → Keeps ts a b → AreHeld a xs → AreHeld b xs
+pub held-later : (ts : List Target) (a b : Work) (xs : List Target) → Keeps ts a b → AreHeld a xs → AreHeld b xs
 held-later ts a b [] k h = tt
 held-later ts a b (x ∷ xs) k h = (
   record { known = rw k.adds.count h.0.known; long = keeps-widths ts a b k x.is_blocking x.number ∙ h.0.long; some = h.0.some; narrow = h.0.narrow },
@@ -169,23 +168,10 @@ choice-ready names at c p q a t test h f =
 -- what was given back is the builder with what it had
 pub back-keeps : (p : Steps) (t y w : Work) (cs : List Change) → Built p t y cs → w ≡ given_back cs y → Keeps [] t w
 back-keeps p t y w cs f e =
-    let is : w ≡ restored t y = e ∙ ap (λ (l : List Change). given_back l y) f.changes_are ∙ given-restores (targets p) t y (keeps p t y f.builds) in
-    subst (λ (u : Work). Keeps [] t u) (sym is) (keeps-restored (targets p) t y (keeps p t y f.builds))
+    subst (λ (u : Work). Keeps [] t u) (sym (back-is p t y w cs f e)) (keeps-restored (targets p) t y (keeps p t y f.builds))
 
 pub back-counted : (p : Steps) (t y w : Work) (cs : List Change) → Built p t y cs → w ≡ given_back cs y → length w.building.cells ≡ length t.building.cells + cells_of p
-back-counted p t y w cs f e =
-    let is : w ≡ restored t y = e ∙ ap (λ (l : List Change). given_back l y) f.changes_are ∙ given-restores (targets p) t y (keeps p t y f.builds) in
-    ap (λ (u : Work). length u.building.cells) is ∙ builds-counted p t y f.builds
-
--- a choice has as many muxes as it has targets
-pub chosen-counted : (p q : Steps) (t y w n : Work) (cs ds : List Change) → Built p t y cs → w ≡ given_back cs y → Built q w n ds → length (chosen (all_have y cs) cs ds) ≡ length (distinct (targets p ++ targets q))
-chosen-counted p q t y w n cs ds f back g =
-    let ps : List Target = targets p in
-    let qs : List Target = targets q in
-    let is : w ≡ restored t y = back ∙ ap (λ (l : List Change). given_back l y) f.changes_are ∙ given-restores ps t y (keeps p t y f.builds) in
-    let other : Built q (restored t y) n ds = subst (λ (u : Work). Built q u n ds) is g in
-    let chosen_are : chosen (all_have y cs) cs ds ≡ choices y (distinct (ps ++ qs)) = rw (f.changes_are, other.changes_are) (chosen-is ps qs t y (keeps p t y f.builds)) in
-    ap (λ (l : List Choice). length l) chosen_are ∙ length-map (distinct (ps ++ qs)) _
+back-counted p t y w cs f e = ap (λ (u : Work). length u.building.cells) (back-is p t y w cs f e) ∙ builds-counted p t y f.builds
 
 -- Statements, by their variants.
 

@@ -1,16 +1,22 @@
 -- Statements in which nothing is refused, and variables that have bits for them.
-use Rattle.std.specs.Prelude.{◌≡◌, ◌<◌, ◌≤◌, Bool, true, false, ◌||◌, List, [], ◌∷◌, length, Option, Some, None}
+use Rattle.std.specs.Prelude.{◌≡◌, ◌<◌, ◌≤◌, ℕ, ◌+◌, Bool, true, false, ◌||◌, List, [], ◌∷◌, length, Option, Some, None}
+use Rattle.vlog_syntax.specs.declared.expr.Expr.{Expr}
+use Rattle.vlog_syntax.specs.declared.stmt.CaseKind.{CaseKind}
+use Rattle.vlog_syntax.specs.declared.stmt.CaseItem.{CaseItem}
 use Rattle.vlog_syntax.specs.declared.stmt.Stmt.{Stmt}
 use Rattle.vlog_syntax.specs.declared.stmt.Stmt.TheOpen as t
 use Rattle.vlog_syntax.specs.declared.stmt.Stmt.TheOpen.{Stmt-F, CaseItem-F}
-use Rattle.vlog_syntax.specs.declared.stmt.Stmt.TheFolds.{fold-Stmt}
+use Rattle.vlog_syntax.specs.declared.stmt.Stmt.TheFolds.{fold-Stmt, fold-CaseItem}
+use Rattle.vlog_meaning.specs.declared.shapes.Shape.{Shape}
 use Rattle.vlog_meaning.specs.Scopes.{Names}
-use Rattle.vlog_meaning.specs.Senses.{sense, assigned, IsWhole}
+use Rattle.vlog_meaning.specs.Senses.{sense, assigned, IsWhole, IsContext}
+use Rattle.vlog_effects.specs.Expressions.{bits_of}
 use Rattle.vlog_effects.specs.LeftSides.{Select, Whole, Bit as BitOf, Range, Indexed, Part, Vector, parts_of, part_vector, parts_width, select_width}
-use Rattle.vlog_effects.specs.Steps.{Assigning, Steps, Done, Assign, Choose, Case, Refuse}
+use Rattle.vlog_effects.specs.Steps.{Assigning, Selection, Steps, Done, Assign, Choose, Case, Refuse, Arms, Otherwise, Arm, dont_care}
 use Rattle.vlog_effects.specs.Latches.{Target, targets}
 use Rattle.elab_expr.specs.Building.{HasSignals}
 use Rattle.elab_expr.specs.Expressions.{refusals}
+use Rattle.elab_proc.specs.Refusals.{case_faults}
 use Rattle.proc_muxes.specs.Builds.{Work, held, Index, variable_index}
 use Rattle.proc_muxes.specs.Shows.{StandsBelow}
 
@@ -54,14 +60,41 @@ abbrev pub AreHeld : Work → List Target → Type 0
 AreHeld a [] = Unit {0}
 AreHeld a (x ∷ more) = IsHeld a x × AreHeld a more
 
--- Statements in which nothing is refused. A case is not among them, as it is not built yet.
+-- Labels of a case.
+
+-- how many bits of a label matter, where the others are marked
+abbrev pub mattering : List Bool → ℕ
+mattering [] = 0
+mattering (true ∷ ignored) = mattering ignored
+mattering (false ∷ ignored) = 1 + mattering ignored
+
+-- a label in which nothing is refused at the size of its case, and of which some bit matters
+pub record IsClearLabel (names : Names) (kind : CaseKind) (size : Shape) (x : Expr) : Type 0 where
+  pub within : IsContext (sense names x).shape size
+  pub allowed : refusals names x size ≡ []
+  pub matters : 1 ≤ mattering (bits_of size.width (dont_care kind x))
+
+abbrev pub AreClearLabels : Names → CaseKind → Shape → List Expr → Type 0
+AreClearLabels names kind size [] = Unit {0}
+AreClearLabels names kind size (x ∷ more) = IsClearLabel names kind size x × AreClearLabels names kind size more
+
+-- some bit of each label matters
+abbrev pub AllMatter : Selection → List Expr → Type 0
+AllMatter c [] = Unit {0}
+AllMatter c (x ∷ more) = (1 ≤ mattering (bits_of c.width (dont_care c.kind x))) × AllMatter c more
+
+-- Statements in which nothing is refused. A label of which no bit matters always matches, so its item is no arm.
 abbrev mutual
   pub IsClear : Steps → Type 0
   IsClear Done = Unit {0}
   IsClear (Assign s more) = CanAssign s × IsClear more
   IsClear (Choose at c then_part else_part more) = (refusals c.names c.condition (sense c.names c.condition).shape ≡ []) × IsClear then_part × IsClear else_part × IsClear more
-  IsClear (Case c arms more) = ⊥
+  IsClear (Case c arms more) = (case_faults c.names (c.selector ∷ c.labels) ≡ []) × AreClear c arms × IsClear more
   IsClear (Refuse x more) = ⊥
+
+  pub AreClear : Selection → Arms → Type 0
+  AreClear c (Otherwise body) = IsClear body
+  AreClear c (Arm at labels body others) = AllMatter c labels × IsClear body × AreClear c others
 
 -- what the code of statements asks of the builder and the variables
 pub record IsReady (names : Names) (steps : Steps) (a : Work) : Type 0 where
@@ -93,3 +126,7 @@ loop_item i = i.body
 -- there is a loop in the statement
 abbrev pub has_loop : Stmt → Bool
 has_loop = fold-Stmt Bool Bool loop_step loop_item
+
+-- there is a loop in the item of a case
+abbrev pub item_has_loop : CaseItem → Bool
+item_has_loop = fold-CaseItem Bool Bool loop_step loop_item

@@ -4,7 +4,7 @@ use Rattle.vlog_syntax.specs.declared.expr.Expr.{Expr}
 use Rattle.vlog_meaning.specs.Scopes.{Names}
 use Rattle.vlog_meaning.specs.Senses.{sense, assigned}
 use Rattle.vlog_effects.specs.LeftSides.{Part, parts_of, parts_width}
-use Rattle.vlog_effects.specs.Steps.{Assigning, Selection, Steps, Done, Assign, Choose, Case, Refuse, Arms, Otherwise, Arm}
+use Rattle.vlog_effects.specs.Steps.{Assigning, Selection, Steps, Done, Assign, Choose, Case, Refuse, Arms, Otherwise, Arm, Item}
 use Rattle.vlog_effects.specs.Latches.{targets, arms_targets}
 use Rattle.elab_expr.specs.Made.{made}
 use Rattle.proc_muxes.specs.declared.piece.Piece.{Piece}
@@ -67,3 +67,8 @@ abbrev mutual
   pub arms_cells : Selection → Arms → ℕ
   arms_cells c (Otherwise body) = cells_of body
   arms_cells c (Arm at labels body others) = match_cells c labels + (cells_of body + (arms_cells c others + length (distinct (targets body ++ arms_targets others))))
+
+-- the labels and bodies of items
+abbrev pub items_cells : Selection → List Item → ℕ
+items_cells c [] = 0
+items_cells c (i ∷ more) = match_cells c i.labels + (cells_of (i.body c.names) + items_cells c more)

@@ -5,3 +5,4 @@ pub mod Pieces
 pub mod Clear
 pub mod Counts
 pub mod Laws
+pub mod Cases

@@ -7,6 +7,8 @@ mod change;
 mod choice;
 mod condition;
 mod laws;
+mod matching;
+mod open_arms;
 mod piece;
 mod put;
 mod statement;

@@ -1,19 +1,161 @@
-use Rattle.std.proofs.Common.{◌+◌, List, length, true, false, IfOk, IfErr, sym, subst, rules, arith}
+use Rattle.std.proofs.Common.{◌+◌, ◌∙◌, [], List, map, take, length, true, false, IfOk, IfErr, refl, sym, subst, rules, arith}
 use Rattle.std.specs.Option.{option_map}
 use Rattle.std.proofs.lemmas.Result.{IfErr-weaker}
 use Rattle.vlog_syntax.specs.declared.stmt.Stmt.TheViews.{the_lemmas}
 use Rattle.vlog_meaning.specs.Scopes.{names_of}
-use Rattle.vlog_effects.specs.Steps.{Steps, assigning, steps_of, else_steps}
+use Rattle.vlog_effects.specs.Laws.{item_steps}
+use Rattle.vlog_effects.specs.Steps.{Steps, assigning, steps_of, else_steps, done_by, labelled}
+use Rattle.elab_expr.specs.Made.{made}
 use Rattle.elab_expr.specs.Refusals.{IsShort}
 use Rattle.elab_expr.specs.declared.error.ElabError.{ElabError}
+use Rattle.elab_expr.proofs.Growing.{signals_kept}
 use Rattle.elab_expr.proofs.Operands.{same_err}
+use Rattle.elab_expr.proofs.Parts.{below_later}
+use Rattle.case_arms.specs.Arms.{item_body}
 use Rattle.proc_muxes.specs.declared.change.Change.{Change}
-use Rattle.proc_muxes.specs.Counts.{cells_of}
+use Rattle.proc_muxes.specs.Counts.{cells_of, arms_cells}
 use Rattle.proc_muxes.specs.Working.{work, Built}
+use Rattle.proc_muxes.proofs.Closing.{case-is, case-of, case-arms, case-wrong, case-sized, case-keeps, case-held, case-stands, case-items-ready, case-last-ready, case-built, selector-allowed, selector-short, arms-short, items-short, last-short, close-start, closing-on, close-fit, close-one, close-below, close-stands, close-next, close-short, close-end}
+use Rattle.proc_muxes.proofs.Frames.{keeps-again, nets-added}
+use Rattle.proc_muxes.proofs.Opening.{ready-item, open-skip, open-more, open-one, arm-keeps, body-ready, grown-places, match-short, body-short, opened-keeps, last-is, within-some}
 use Rattle.proc_muxes.proofs.Walking.{ready-as, block-ready, block-built, block-short, null-built, none-built, blocking-is, nonblocking-is, assign-ready, alone-short}
-use Rattle.proc_muxes.proofs.Loopless.{loops-element, no-other}
+use Rattle.proc_muxes.proofs.Loopless.{loops-element, item-loops, no-other}
 use Rattle.proc_muxes.proofs.Branching.{else-as, else-loops, block-as, block-loops, choice-as, choice-loops, choice-clear, first-ready, test-places, first-fit, backs, haves, second-ready, choices-ready, test-below, both-stand, choice-built, test-short, first-short, second-short, muxes-short}
 use Rattle.proc_muxes.proofs.statement.+statement.Goals as goal
+
+pub build_case-arms_in-requires : goal.build_case-arms_in-requires
+build_case-arms_in-requires t c = case-wrong (names_of c.args.scope.now) c.args.kind c.args.selector.now c.args.items.now (work c.args.builder.now c.args.variables.now) c.requires.ready
+
+pub build_case-case_size-size-requires : goal.build_case-case_size-size-requires
+build_case-case_size-size-requires t c = case-wrong (names_of c.args.scope.now) c.args.kind c.args.selector.now c.args.items.now (work c.args.builder.now c.args.variables.now) c.requires.ready
+
+pub build_case-returns-in_err-bits-clause-short : goal.build_case-returns-in_err-bits-clause-short
+build_case-returns-in_err-bits-clause-short t c = same_err c.from_residual-in_err-bits.result c.in_err-bits.field-0.0 _ c.from_residual-in_err-bits.ensures.1 (selector-short (names_of c.args.scope.now) c.args.kind c.args.selector.now c.args.items.now c.case_size-size.result c.case_size-size.ensures.size c.case_size-size.ensures.sized (length c.args.builder.now.cells) (length c.args.builder.now.cells + length (made (names_of c.args.scope.now) c.args.selector.now c.case_size-size.result)) c.in_err-bits.field-0.0 (omega arith) (c.in_err-bits.ensures.short (selector-allowed (names_of c.args.scope.now) c.args.kind c.args.selector.now c.args.items.now c.case_size-size.result c.case_size-size.ensures.size c.case_size-size.ensures.sized (work c.args.builder.now c.args.variables.now) c.requires.ready)))
+
+pub build_case-build_arms-requires : goal.build_case-build_arms-requires
+build_case-build_arms-requires t c = (
+  search (rules, the_lemmas),
+  (
+    c.case_size-size.ensures.sized,
+    (
+      c.in_ok-bits.ensures.built.long,
+      (
+        c.in_ok-bits.ensures.built.below,
+        (
+          c.in_ok-chosen.ensures.before,
+          (
+            case-items-ready (names_of c.args.scope.now) c.args.kind c.args.selector.now c.args.items.now c.case_size-size.result c.case_size-size.ensures.size c.case_size-size.ensures.sized (work c.args.builder.now c.args.variables.now) c.requires.ready c.in_ok-chosen.chosen.before (done_by (option_map (item_body c.args.items.now) c.in_ok-chosen.chosen.last) (names_of c.args.scope.now)) c.in_ok-chosen.ensures.arms (work c.build_expr.new.builder c.args.variables.now) (case-keeps (names_of c.args.scope.now) c.args.kind c.args.selector.now c.args.items.now c.case_size-size.result c.case_size-size.ensures.size c.case_size-size.ensures.sized (work c.args.builder.now c.args.variables.now) c.requires.ready c.build_expr.new.builder c.in_ok-bits.bits c.in_ok-bits.ensures.built),
+            (
+              signals_kept (names_of c.args.scope.now) c.args.builder.now c.build_expr.new.builder c.in_ok-bits.ensures.built.grows c.requires.ready.signals,
+              (case-stands (names_of c.args.scope.now) c.args.kind c.args.selector.now c.args.items.now c.case_size-size.result c.case_size-size.ensures.size c.case_size-size.ensures.sized (work c.args.builder.now c.args.variables.now) c.requires.ready c.build_expr.new.builder c.in_ok-bits.bits c.in_ok-bits.ensures.built, (c.requires.loops, grown-places (work c.args.builder.now c.args.variables.now) c.build_expr.new.builder (length c.args.variables.now) c.in_ok-bits.ensures.built.grows c.requires.places)),
+            ),
+          ),
+        ),
+      ),
+    ),
+  ),
+)
+
+pub build_case-returns-in_err-arms-clause-short : goal.build_case-returns-in_err-arms-clause-short
+build_case-returns-in_err-arms-clause-short t c = same_err c.from_residual-in_err-arms.result c.in_err-arms.field-0.0 _ c.from_residual-in_err-arms.ensures.1 (items-short (names_of c.args.scope.now) c.args.kind c.args.selector.now c.args.items.now c.case_size-size.result c.case_size-size.ensures.size c.case_size-size.ensures.sized (work c.args.builder.now c.args.variables.now) c.build_expr.new.builder c.in_ok-bits.bits c.in_ok-bits.ensures.built c.in_ok-chosen.chosen.before (done_by (option_map (item_body c.args.items.now) c.in_ok-chosen.chosen.last) (names_of c.args.scope.now)) c.in_ok-chosen.ensures.arms c.in_err-arms.field-0.0 (c.in_err-arms.ensures.short (case-of (names_of c.args.scope.now) c.args.kind c.args.selector.now c.args.items.now) (case-sized (names_of c.args.scope.now) c.args.kind c.args.selector.now c.args.items.now c.case_size-size.result c.case_size-size.ensures.size c.case_size-size.ensures.sized)))
+
+pub build_case-build_last-requires : goal.build_case-build_last-requires
+build_case-build_last-requires t c = (
+  search (rules, the_lemmas),
+  (
+    c.in_ok-chosen.ensures.last,
+    (
+      case-last-ready (names_of c.args.scope.now) c.args.kind c.args.selector.now c.args.items.now c.case_size-size.result c.case_size-size.ensures.size c.case_size-size.ensures.sized (work c.args.builder.now c.args.variables.now) c.requires.ready c.in_ok-chosen.chosen.before (done_by (option_map (item_body c.args.items.now) c.in_ok-chosen.chosen.last) (names_of c.args.scope.now)) c.in_ok-chosen.ensures.arms (work c.build_arms.new.builder c.build_arms.new.variables) (keeps-again [] [] (work c.args.builder.now c.args.variables.now) (work c.build_expr.new.builder c.args.variables.now) (work c.build_arms.new.builder c.build_arms.new.variables) (case-keeps (names_of c.args.scope.now) c.args.kind c.args.selector.now c.args.items.now c.case_size-size.result c.case_size-size.ensures.size c.case_size-size.ensures.sized (work c.args.builder.now c.args.variables.now) c.requires.ready c.build_expr.new.builder c.in_ok-bits.bits c.in_ok-bits.ensures.built) (opened-keeps (case-of (names_of c.args.scope.now) c.args.kind c.args.selector.now c.args.items.now) c.in_ok-bits.bits (labelled (map item_steps (take c.in_ok-chosen.chosen.before c.args.items.now))) c.in_ok-arms.arms (work c.build_expr.new.builder c.args.variables.now) (work c.build_arms.new.builder c.build_arms.new.variables) (c.in_ok-arms.ensures.opened (case-of (names_of c.args.scope.now) c.args.kind c.args.selector.now c.args.items.now) (case-sized (names_of c.args.scope.now) c.args.kind c.args.selector.now c.args.items.now c.case_size-size.result c.case_size-size.ensures.size c.case_size-size.ensures.sized)))),
+      (c.requires.loops, c.in_ok-arms.ensures.places),
+    ),
+  ),
+)
+
+pub build_case-returns-in_err-changes-clause-short : goal.build_case-returns-in_err-changes-clause-short
+build_case-returns-in_err-changes-clause-short t c = same_err c.from_residual-in_err-changes.result c.in_err-changes.field-0.0 _ c.from_residual-in_err-changes.ensures.1 (last-short (names_of c.args.scope.now) c.args.kind c.args.selector.now c.args.items.now c.case_size-size.result c.case_size-size.ensures.size c.case_size-size.ensures.sized (work c.args.builder.now c.args.variables.now) c.build_expr.new.builder c.in_ok-bits.bits c.in_ok-bits.ensures.built c.in_ok-chosen.chosen.before (done_by (option_map (item_body c.args.items.now) c.in_ok-chosen.chosen.last) (names_of c.args.scope.now)) c.in_ok-chosen.ensures.arms (work c.build_arms.new.builder c.build_arms.new.variables) c.in_ok-arms.arms c.in_err-changes.field-0.0 (c.in_ok-arms.ensures.opened (case-of (names_of c.args.scope.now) c.args.kind c.args.selector.now c.args.items.now) (case-sized (names_of c.args.scope.now) c.args.kind c.args.selector.now c.args.items.now c.case_size-size.result c.case_size-size.ensures.size c.case_size-size.ensures.sized)) c.in_err-changes.ensures.short)
+
+pub build_case-loop-arm-init : goal.build_case-loop-arm-init
+build_case-loop-arm-init t c = record {
+  closing = (c.build_expr.new.builder, c.in_ok-bits.ensures.built, close-start (case-of (names_of c.args.scope.now) c.args.kind c.args.selector.now c.args.items.now) c.in_ok-bits.bits (case-arms (names_of c.args.scope.now) c.args.kind c.args.selector.now c.args.items.now) (labelled (map item_steps (take c.in_ok-chosen.chosen.before c.args.items.now))) (done_by (option_map (item_body c.args.items.now) c.in_ok-chosen.chosen.last) (names_of c.args.scope.now)) (work c.build_expr.new.builder c.args.variables.now) (work c.build_arms.new.builder c.build_arms.new.variables) (work c.build_last.new.builder c.build_last.new.variables) c.in_ok-arms.arms c.in_ok-changes.changes (sym c.in_ok-chosen.ensures.arms) (c.in_ok-arms.ensures.opened (case-of (names_of c.args.scope.now) c.args.kind c.args.selector.now c.args.items.now) (case-sized (names_of c.args.scope.now) c.args.kind c.args.selector.now c.args.items.now c.case_size-size.result c.case_size-size.ensures.size c.case_size-size.ensures.sized)) c.in_ok-changes.ensures.built);
+  places = c.in_ok-changes.ensures.places;
+}
+
+pub build_case-choose-requires-clause-fit : goal.build_case-choose-requires-clause-fit
+build_case-choose-requires-clause-fit t c = close-fit (case-of (names_of c.args.scope.now) c.args.kind c.args.selector.now c.args.items.now) c.in_ok-bits.bits (case-arms (names_of c.args.scope.now) c.args.kind c.args.selector.now c.args.items.now) (work c.loop-arm.invariant.closing.0 c.args.variables.now) (work c.loop-arm.builder c.loop-arm.variables) c.in-Some.arm c.pop.new.self c.loop-arm.changes (closing-on (case-of (names_of c.args.scope.now) c.args.kind c.args.selector.now c.args.items.now) c.in_ok-bits.bits (case-arms (names_of c.args.scope.now) c.args.kind c.args.selector.now c.args.items.now) (work c.loop-arm.invariant.closing.0 c.args.variables.now) (work c.loop-arm.builder c.loop-arm.variables) c.loop-arm.arms c.pop.new.self c.in-Some.arm c.loop-arm.changes c.in-Some.ensures c.loop-arm.invariant.closing.2) c.in-Some.arm.first.items refl (case-held (names_of c.args.scope.now) c.args.kind c.args.selector.now c.args.items.now c.case_size-size.result c.case_size-size.ensures.size c.case_size-size.ensures.sized (work c.args.builder.now c.args.variables.now) c.requires.ready c.loop-arm.invariant.closing.0 c.in_ok-bits.bits c.loop-arm.invariant.closing.1) (case-stands (names_of c.args.scope.now) c.args.kind c.args.selector.now c.args.items.now c.case_size-size.result c.case_size-size.ensures.size c.case_size-size.ensures.sized (work c.args.builder.now c.args.variables.now) c.requires.ready c.loop-arm.invariant.closing.0 c.in_ok-bits.bits c.loop-arm.invariant.closing.1)
+
+pub build_case-choose-requires-clause-places : goal.build_case-choose-requires-clause-places
+build_case-choose-requires-clause-places t c = c.loop-arm.invariant.places
+
+pub build_case-choose-requires-clause-one : goal.build_case-choose-requires-clause-one
+build_case-choose-requires-clause-one t c = close-one (case-of (names_of c.args.scope.now) c.args.kind c.args.selector.now c.args.items.now) c.in_ok-bits.bits (case-arms (names_of c.args.scope.now) c.args.kind c.args.selector.now c.args.items.now) (work c.loop-arm.invariant.closing.0 c.args.variables.now) (work c.loop-arm.builder c.loop-arm.variables) c.in-Some.arm c.pop.new.self c.loop-arm.changes (closing-on (case-of (names_of c.args.scope.now) c.args.kind c.args.selector.now c.args.items.now) c.in_ok-bits.bits (case-arms (names_of c.args.scope.now) c.args.kind c.args.selector.now c.args.items.now) (work c.loop-arm.invariant.closing.0 c.args.variables.now) (work c.loop-arm.builder c.loop-arm.variables) c.loop-arm.arms c.pop.new.self c.in-Some.arm c.loop-arm.changes c.in-Some.ensures c.loop-arm.invariant.closing.2)
+
+pub build_case-choose-requires-clause-test : goal.build_case-choose-requires-clause-test
+build_case-choose-requires-clause-test t c = close-below (case-of (names_of c.args.scope.now) c.args.kind c.args.selector.now c.args.items.now) c.in_ok-bits.bits (case-arms (names_of c.args.scope.now) c.args.kind c.args.selector.now c.args.items.now) (work c.loop-arm.invariant.closing.0 c.args.variables.now) (work c.loop-arm.builder c.loop-arm.variables) c.in-Some.arm c.pop.new.self c.loop-arm.changes (closing-on (case-of (names_of c.args.scope.now) c.args.kind c.args.selector.now c.args.items.now) c.in_ok-bits.bits (case-arms (names_of c.args.scope.now) c.args.kind c.args.selector.now c.args.items.now) (work c.loop-arm.invariant.closing.0 c.args.variables.now) (work c.loop-arm.builder c.loop-arm.variables) c.loop-arm.arms c.pop.new.self c.in-Some.arm c.loop-arm.changes c.in-Some.ensures c.loop-arm.invariant.closing.2)
+
+pub build_case-choose-requires-clause-stands : goal.build_case-choose-requires-clause-stands
+build_case-choose-requires-clause-stands t c = close-stands (case-of (names_of c.args.scope.now) c.args.kind c.args.selector.now c.args.items.now) c.in_ok-bits.bits (case-arms (names_of c.args.scope.now) c.args.kind c.args.selector.now c.args.items.now) (work c.loop-arm.invariant.closing.0 c.args.variables.now) (work c.loop-arm.builder c.loop-arm.variables) c.in-Some.arm c.pop.new.self c.loop-arm.changes (closing-on (case-of (names_of c.args.scope.now) c.args.kind c.args.selector.now c.args.items.now) c.in_ok-bits.bits (case-arms (names_of c.args.scope.now) c.args.kind c.args.selector.now c.args.items.now) (work c.loop-arm.invariant.closing.0 c.args.variables.now) (work c.loop-arm.builder c.loop-arm.variables) c.loop-arm.arms c.pop.new.self c.in-Some.arm c.loop-arm.changes c.in-Some.ensures c.loop-arm.invariant.closing.2) (case-stands (names_of c.args.scope.now) c.args.kind c.args.selector.now c.args.items.now c.case_size-size.result c.case_size-size.ensures.size c.case_size-size.ensures.sized (work c.args.builder.now c.args.variables.now) c.requires.ready c.loop-arm.invariant.closing.0 c.in_ok-bits.bits c.loop-arm.invariant.closing.1)
+
+pub build_case-returns-in_err-changes-2-clause-short : goal.build_case-returns-in_err-changes-2-clause-short
+build_case-returns-in_err-changes-2-clause-short t c = same_err c.from_residual-in_err-changes-2.result c.in_err-changes-2.field-0.0 _ c.from_residual-in_err-changes-2.ensures.1 (arms-short (names_of c.args.scope.now) c.args.kind c.args.selector.now c.args.items.now c.case_size-size.result c.case_size-size.ensures.size c.case_size-size.ensures.sized (work c.args.builder.now c.args.variables.now) c.loop-arm.invariant.closing.0 c.in_ok-bits.bits (length c.loop-arm.invariant.closing.0.cells + arms_cells (case-of (names_of c.args.scope.now) c.args.kind c.args.selector.now c.args.items.now) (case-arms (names_of c.args.scope.now) c.args.kind c.args.selector.now c.args.items.now)) c.in_err-changes-2.field-0.0 c.loop-arm.invariant.closing.1 (omega arith) (close-short (case-of (names_of c.args.scope.now) c.args.kind c.args.selector.now c.args.items.now) c.in_ok-bits.bits (case-arms (names_of c.args.scope.now) c.args.kind c.args.selector.now c.args.items.now) (work c.loop-arm.invariant.closing.0 c.args.variables.now) (work c.loop-arm.builder c.loop-arm.variables) c.in-Some.arm c.pop.new.self c.loop-arm.changes (closing-on (case-of (names_of c.args.scope.now) c.args.kind c.args.selector.now c.args.items.now) c.in_ok-bits.bits (case-arms (names_of c.args.scope.now) c.args.kind c.args.selector.now c.args.items.now) (work c.loop-arm.invariant.closing.0 c.args.variables.now) (work c.loop-arm.builder c.loop-arm.variables) c.loop-arm.arms c.pop.new.self c.in-Some.arm c.loop-arm.changes c.in-Some.ensures c.loop-arm.invariant.closing.2) c.in-Some.arm.first.items c.in_err-changes-2.field-0.0 refl c.in_err-changes-2.ensures.short))
+
+pub build_case-loop-arm-preserved : goal.build_case-loop-arm-preserved
+build_case-loop-arm-preserved t c = record {
+  closing = (c.loop-arm.invariant.closing.0, c.loop-arm.invariant.closing.1, close-next (case-of (names_of c.args.scope.now) c.args.kind c.args.selector.now c.args.items.now) c.in_ok-bits.bits (case-arms (names_of c.args.scope.now) c.args.kind c.args.selector.now c.args.items.now) (work c.loop-arm.invariant.closing.0 c.args.variables.now) (work c.loop-arm.builder c.loop-arm.variables) c.in-Some.arm c.pop.new.self c.loop-arm.changes (closing-on (case-of (names_of c.args.scope.now) c.args.kind c.args.selector.now c.args.items.now) c.in_ok-bits.bits (case-arms (names_of c.args.scope.now) c.args.kind c.args.selector.now c.args.items.now) (work c.loop-arm.invariant.closing.0 c.args.variables.now) (work c.loop-arm.builder c.loop-arm.variables) c.loop-arm.arms c.pop.new.self c.in-Some.arm c.loop-arm.changes c.in-Some.ensures c.loop-arm.invariant.closing.2) (work c.choose.new.builder c.choose.new.variables) c.in-Some.arm.first.items c.in_ok-changes-2.changes refl c.in_ok-changes-2.ensures.chooses c.in_ok-changes-2.ensures.joined);
+  places = c.in_ok-changes-2.ensures.places;
+}
+
+pub build_case-returns-clause-built : goal.build_case-returns-clause-built
+build_case-returns-clause-built t c = case-built (names_of c.args.scope.now) c.args.kind c.args.selector.now c.args.items.now c.case_size-size.result c.case_size-size.ensures.size c.case_size-size.ensures.sized (work c.args.builder.now c.args.variables.now) (work c.loop-arm.builder c.loop-arm.variables) c.loop-arm.invariant.closing.0 c.in_ok-bits.bits c.loop-arm.changes c.loop-arm.invariant.closing.1 (close-end (case-of (names_of c.args.scope.now) c.args.kind c.args.selector.now c.args.items.now) c.in_ok-bits.bits (case-arms (names_of c.args.scope.now) c.args.kind c.args.selector.now c.args.items.now) (work c.loop-arm.invariant.closing.0 c.args.variables.now) (work c.loop-arm.builder c.loop-arm.variables) c.loop-arm.arms c.loop-arm.changes c.in_default.ensures.0 c.loop-arm.invariant.closing.2)
+
+pub build_case-returns-clause-places : goal.build_case-returns-clause-places
+build_case-returns-clause-places t c = c.loop-arm.invariant.places
+
+pub build_arms-loop-place-preserved-then-is_default : goal.build_arms-loop-place-preserved-then-is_default
+build_arms-loop-place-preserved-then-is_default t c = record {
+  opened = λ s of. open-skip s c.args.selector.now.bits c.args.items.now c.loop-place.place c.index-items-place.result (work c.args.builder.now c.args.variables.now) (work c.loop-place.builder c.loop-place.variables) c.loop-place.arms c.index-items-place.is (omega arith) (sym c.is_default.ensures ∙ c.if-is_default.true) (c.loop-place.invariant.opened s of);
+  keeps = c.loop-place.invariant.keeps;
+  places = c.loop-place.invariant.places;
+}
+
+pub build_arms-build_match-requires-clause-below : goal.build_arms-build_match-requires-clause-below
+build_arms-build_match-requires-clause-below t c = below_later c.args.builder.now.nets c.loop-place.builder.nets c.args.selector.now.bits (nets-added c.args.builder.now c.loop-place.builder c.loop-place.invariant.keeps.adds) c.requires.below
+
+pub build_arms-build_match-requires-clause-clear : goal.build_arms-build_match-requires-clause-clear
+build_arms-build_match-requires-clause-clear t c = rw c.as_slice-labels.ensures (ready-item (names_of c.args.scope.now) c.args.selector.now.kind c.args.selector.now.size c.args.items.now c.args.before c.loop-place.place c.index-items-place.result (work c.args.builder.now c.args.variables.now) c.index-items-place.is (omega arith) (omega arith) (sym c.is_default.ensures ∙ c.if-is_default.false) c.requires.ready).0
+
+pub build_arms-returns-in_err-test-clause-short : goal.build_arms-returns-in_err-test-clause-short
+build_arms-returns-in_err-test-clause-short t c = same_err c.from_residual.result c.in_err-test.field-0.0 _ c.from_residual.ensures.1 (λ s of. match-short s c.args.selector.now.bits c.args.items.now c.args.before c.loop-place.place c.index-items-place.result (work c.args.builder.now c.args.variables.now) (work c.loop-place.builder c.loop-place.variables) c.loop-place.arms c.as_slice-labels.result.now c.in_err-test.field-0.0 c.as_slice-labels.ensures c.index-items-place.is (omega arith) (omega arith) (sym c.is_default.ensures ∙ c.if-is_default.false) (c.loop-place.invariant.opened s of) (c.in_err-test.ensures.short s of))
+
+pub build_arms-build_statement-requires : goal.build_arms-build_statement-requires
+build_arms-build_statement-requires t c = (search (rules, the_lemmas), ((body-ready (names_of c.args.scope.now) c.args.selector.now.kind c.args.selector.now.size c.index-items-place.result c.get-body.result.now (work c.args.builder.now c.args.variables.now) (work c.loop-place.builder c.loop-place.variables) c.build_match.new.builder c.get-body.ensures (ready-item (names_of c.args.scope.now) c.args.selector.now.kind c.args.selector.now.size c.args.items.now c.args.before c.loop-place.place c.index-items-place.result (work c.args.builder.now c.args.variables.now) c.index-items-place.is (omega arith) (omega arith) (sym c.is_default.ensures ∙ c.if-is_default.false) c.requires.ready) c.loop-place.invariant.keeps c.in_ok-test.ensures.grows), (item-loops c.args.items.now c.loop-place.place c.index-items-place.result c.get-body.result.now c.index-items-place.is (omega arith) c.get-body.ensures c.requires.loops, grown-places (work c.loop-place.builder c.loop-place.variables) c.build_match.new.builder (length c.loop-place.variables) c.in_ok-test.ensures.grows c.loop-place.invariant.places)))
+
+pub build_arms-returns-in_err-changes-clause-short : goal.build_arms-returns-in_err-changes-clause-short
+build_arms-returns-in_err-changes-clause-short t c = same_err c.from_residual-in_err-changes.result c.in_err-changes.field-0.0 _ c.from_residual-in_err-changes.ensures.1 (λ s of. body-short s c.args.selector.now.bits (names_of c.args.scope.now) c.args.items.now c.args.before c.loop-place.place c.index-items-place.result (work c.args.builder.now c.args.variables.now) (work c.loop-place.builder c.loop-place.variables) c.build_match.new.builder c.loop-place.arms c.in_ok-test.test c.as_slice-labels.result.now c.get-body.result.now c.in_err-changes.field-0.0 of.names_are c.as_slice-labels.ensures c.get-body.ensures c.index-items-place.is (omega arith) (omega arith) (sym c.is_default.ensures ∙ c.if-is_default.false) (c.loop-place.invariant.opened s of) (c.in_ok-test.ensures.built s of) c.in_err-changes.ensures.short)
+
+pub build_arms-set_aside-requires-clause-fit : goal.build_arms-set_aside-requires-clause-fit
+build_arms-set_aside-requires-clause-fit t c = first-fit (names_of c.args.scope.now) (steps_of c.get-body.result.now (names_of c.args.scope.now)) (work c.build_match.new.builder c.loop-place.variables) (work c.build_statement.new.builder c.build_statement.new.variables) c.in_ok-changes.changes c.as_slice-changed.result.now (body-ready (names_of c.args.scope.now) c.args.selector.now.kind c.args.selector.now.size c.index-items-place.result c.get-body.result.now (work c.args.builder.now c.args.variables.now) (work c.loop-place.builder c.loop-place.variables) c.build_match.new.builder c.get-body.ensures (ready-item (names_of c.args.scope.now) c.args.selector.now.kind c.args.selector.now.size c.args.items.now c.args.before c.loop-place.place c.index-items-place.result (work c.args.builder.now c.args.variables.now) c.index-items-place.is (omega arith) (omega arith) (sym c.is_default.ensures ∙ c.if-is_default.false) c.requires.ready) c.loop-place.invariant.keeps c.in_ok-test.ensures.grows) c.in_ok-changes.ensures.built c.as_slice-changed.ensures
+
+pub build_arms-loop-place-preserved : goal.build_arms-loop-place-preserved
+build_arms-loop-place-preserved t c = record {
+  opened = λ s of. open-more s c.args.selector.now.bits c.args.items.now c.loop-place.place c.index-items-place.result (work c.args.builder.now c.args.variables.now) (work c.loop-place.builder c.loop-place.variables) (work c.set_aside.new.builder c.set_aside.new.variables) c.loop-place.arms c.push.new.self _ c.index-items-place.is (omega arith) (sym c.is_default.ensures ∙ c.if-is_default.false) c.in_ok-push.ensures (c.loop-place.invariant.opened s of) (open-one s c.args.selector.now.bits (names_of c.args.scope.now) c.index-items-place.result _ (work c.loop-place.builder c.loop-place.variables) c.build_match.new.builder (work c.build_statement.new.builder c.build_statement.new.variables) (work c.set_aside.new.builder c.set_aside.new.variables) c.as_slice-labels.result.now c.get-body.result.now c.as_slice-changed.result.now of.names_are c.as_slice-labels.ensures c.get-body.ensures (c.in_ok-test.ensures.built s of) c.in_ok-changes.ensures.built c.in_ok-first.ensures.have c.as_slice-changed.ensures c.in_ok-first.ensures.back refl);
+  keeps = arm-keeps (steps_of c.get-body.result.now (names_of c.args.scope.now)) (work c.args.builder.now c.args.variables.now) (work c.loop-place.builder c.loop-place.variables) c.build_match.new.builder (work c.build_statement.new.builder c.build_statement.new.variables) (work c.set_aside.new.builder c.set_aside.new.variables) c.in_ok-changes.changes c.as_slice-changed.result.now c.loop-place.invariant.keeps c.in_ok-test.ensures.grows c.in_ok-changes.ensures.built c.as_slice-changed.ensures c.in_ok-first.ensures.back;
+  places = c.in_ok-first.ensures.places;
+}
+
+pub build_last-build_statement-requires : goal.build_last-build_statement-requires
+build_last-build_statement-requires t c = (search (rules, the_lemmas), (ready-as (names_of c.args.scope.now) _ _ (work c.args.builder.now c.args.variables.now) (last-is (names_of c.args.scope.now) c.args.items.now c.args.place c.in-Some.place c.index-items-place.result c.get-body.result.now c.in-Some.is c.index-items-place.is (within-some c.args.items.now c.args.place c.in-Some.place c.in-Some.is c.requires.within) c.get-body.ensures) c.requires.ready, (item-loops c.args.items.now c.in-Some.place c.index-items-place.result c.get-body.result.now c.index-items-place.is (within-some c.args.items.now c.args.place c.in-Some.place c.in-Some.is c.requires.within) c.get-body.ensures c.requires.loops, c.requires.places)))
+
+pub build_last-returns-in-Some-clause-built : goal.build_last-returns-in-Some-clause-built
+build_last-returns-in-Some-clause-built t c = subst (λ (p : Steps). IfOk c.build_statement.result (λ (l : List Change). Built p (work c.args.builder.now c.args.variables.now) (work c.build_statement.new.builder c.build_statement.new.variables) l)) (sym (last-is (names_of c.args.scope.now) c.args.items.now c.args.place c.in-Some.place c.index-items-place.result c.get-body.result.now c.in-Some.is c.index-items-place.is (within-some c.args.items.now c.args.place c.in-Some.place c.in-Some.is c.requires.within) c.get-body.ensures)) c.build_statement.ensures.built
+
+pub build_last-returns-in-Some-clause-short : goal.build_last-returns-in-Some-clause-short
+build_last-returns-in-Some-clause-short t c = subst (λ (p : Steps). IfErr c.build_statement.result (λ (e : ElabError). IsShort (length c.args.builder.now.cells + cells_of p) e)) (sym (last-is (names_of c.args.scope.now) c.args.items.now c.args.place c.in-Some.place c.index-items-place.result c.get-body.result.now c.in-Some.is c.index-items-place.is (within-some c.args.items.now c.args.place c.in-Some.place c.in-Some.is c.requires.within) c.get-body.ensures)) c.build_statement.ensures.short
+
+pub build_statement-returns-in-Case-clause-built : goal.build_statement-returns-in-Case-clause-built
+build_statement-returns-in-Case-clause-built t c = subst (λ (p : Steps). IfOk c.build_case.result (λ (l : List Change). Built p (work c.args.builder.now c.args.variables.now) (work c.build_case.new.builder c.build_case.new.variables) l)) (sym (case-is (names_of c.args.scope.now) c.args.stmt.now c.in-Case.field-0 c.in-Case.kind c.in-Case.selector c.get-selector.result.now c.in-Case.items c.as_slice-in-Case.result.now c.in-Case.is c.get-selector.ensures c.as_slice-in-Case.ensures)) c.build_case.ensures.built
+
+pub build_statement-returns-in-Case-clause-short : goal.build_statement-returns-in-Case-clause-short
+build_statement-returns-in-Case-clause-short t c = subst (λ (p : Steps). IfErr c.build_case.result (λ (e : ElabError). IsShort (length c.args.builder.now.cells + cells_of p) e)) (sym (case-is (names_of c.args.scope.now) c.args.stmt.now c.in-Case.field-0 c.in-Case.kind c.in-Case.selector c.get-selector.result.now c.in-Case.items c.as_slice-in-Case.result.now c.in-Case.is c.get-selector.ensures c.as_slice-in-Case.ensures)) c.build_case.ensures.short
 
 pub build_else-build_statement-requires : goal.build_else-build_statement-requires
 build_else-build_statement-requires t c = (search (rules, the_lemmas), (ready-as (names_of c.args.scope.now) _ _ (work c.args.builder.now c.args.variables.now) (else-as (names_of c.args.scope.now) c.args.no.now c.in-Some.no c.get.result.now c.in-Some.is c.get.ensures) c.requires.ready, (else-loops c.args.no.now c.in-Some.no c.get.result.now c.in-Some.is c.get.ensures c.requires.loops, c.requires.places)))
@@ -100,7 +242,7 @@ pub build_statement-returns-in_err-choose-in-Conditional-clause-short : goal.bui
 build_statement-returns-in_err-choose-in-Conditional-clause-short t c = same_err c.from_residual-in_err-choose-in-Conditional.result c.in_err-choose-in-Conditional.field-0.0 _ c.from_residual-in_err-choose-in-Conditional.ensures.1 (muxes-short (names_of c.args.scope.now) c.in-Conditional.span c.get-condition.result.now (steps_of c.get-yes.result.now (names_of c.args.scope.now)) (else_steps (option_map steps_of c.in-Conditional.no) (names_of c.args.scope.now)) (steps_of c.args.stmt.now (names_of c.args.scope.now)) (work c.args.builder.now c.args.variables.now) (work c.build_test.new.builder c.args.variables.now) (work c.build_statement.new.builder c.build_statement.new.variables) (work c.set_aside.new.builder c.set_aside.new.variables) (work c.build_else.new.builder c.build_else.new.variables) c.in_ok-test-in-Conditional.test c.in_ok-changes-in-Conditional.changes c.in_ok-others-in-Conditional.others c.in_ok-first-in-Conditional.first.items c.in_err-choose-in-Conditional.field-0.0 (choice-as (names_of c.args.scope.now) c.args.stmt.now c.in-Conditional.span c.in-Conditional.condition c.get-condition.result.now c.in-Conditional.yes c.get-yes.result.now c.in-Conditional.no c.in-Conditional.is c.get-condition.ensures c.get-yes.ensures) (c.in_ok-test-in-Conditional.ensures.built (work c.args.builder.now c.args.variables.now).pending) c.in_ok-changes-in-Conditional.ensures.built (backs (work c.build_statement.new.builder c.build_statement.new.variables) (work c.set_aside.new.builder c.set_aside.new.variables) c.in_ok-changes-in-Conditional.changes c.as_slice-in-Conditional.result.now c.in_ok-first-in-Conditional.ensures.back c.as_slice-in-Conditional.ensures) c.in_ok-others-in-Conditional.ensures.built (haves (work c.build_statement.new.builder c.build_statement.new.variables) c.in_ok-first-in-Conditional.first.items c.in_ok-changes-in-Conditional.changes c.as_slice-in-Conditional.result.now c.in_ok-first-in-Conditional.ensures.have c.as_slice-in-Conditional.ensures) c.in_err-choose-in-Conditional.ensures.short)
 
 pub build_statement-unreachable-requires : goal.build_statement-unreachable-requires
-build_statement-unreachable-requires t c = no-other (names_of c.args.scope.now) c.args.stmt.now c.in_default.not-Null c.in_default.not-SeqBlock c.in_default.not-Conditional c.in_default.not-BlockingAssignment c.in_default.not-NonblockingAssignment c.requires.ready.clear c.requires.loops
+build_statement-unreachable-requires t c = no-other (names_of c.args.scope.now) c.args.stmt.now c.in_default.not-Null c.in_default.not-SeqBlock c.in_default.not-Conditional c.in_default.not-Case c.in_default.not-BlockingAssignment c.in_default.not-NonblockingAssignment c.requires.ready.clear c.requires.loops
 
 pub build_block-build_statement-requires : goal.build_block-build_statement-requires
 build_block-build_statement-requires t c = (search (rules, the_lemmas), (block-ready (names_of c.args.scope.now) c.args.body.now c.loop-stmt.stmt-index c.stmt-item.result (work c.args.builder.now c.args.variables.now) (work c.loop-stmt.builder c.loop-stmt.variables) c.loop-stmt.changes c.stmt-item.is (omega arith) c.requires.ready c.loop-stmt.invariant.built, (loops-element c.args.body.now c.loop-stmt.stmt-index c.stmt-item.result c.stmt-item.is (omega arith) c.requires.loops, c.loop-stmt.invariant.places)))

@@ -1,11 +1,52 @@
-use Rattle.std.proofs.Common.{◌≡◌, map, take, length}
+use Rattle.std.proofs.Common.{◌≡◌, ◌+◌, ◌*◌, [], map, take, length}
 use Rattle.vlog_meaning.specs.Scopes.{names_of}
-use Rattle.vlog_effects.specs.Steps.{steps_of, in_turn}
+use Rattle.vlog_effects.specs.Laws.{item_steps}
+use Rattle.vlog_effects.specs.Steps.{Selection, steps_of, in_turn, labelled}
+use Rattle.elab_expr.specs.Building.{Building}
+use Rattle.elab_expr.specs.Evaluates.{Evaluates}
+use Rattle.case_arms.specs.Naming.{IsOf}
+use Rattle.proc_muxes.specs.Cases.{Opened}
+use Rattle.proc_muxes.specs.Shows.{Keeps}
 use Rattle.proc_muxes.specs.Working.{work, Built}
+use Rattle.proc_muxes.proofs.Closing.{Closing, case-of, case-arms}
 use Rattle.proc_muxes.proofs.statement.+statement.Given as goal
+
+abbrev pub decreases-build_statement : goal.decreases-build_statement
+decreases-build_statement l = 8 * goal.size-build_statement l
+
+abbrev pub decreases-build_block : goal.decreases-build_block
+decreases-build_block l = 8 * goal.size-build_block l + 4
+
+abbrev pub decreases-build_else : goal.decreases-build_else
+decreases-build_else l = 8 * goal.size-build_else l + 4
+
+abbrev pub decreases-build_case : goal.decreases-build_case
+decreases-build_case l = 8 * goal.size-build_case l + 6
+
+abbrev pub decreases-build_arms : goal.decreases-build_arms
+decreases-build_arms l = 8 * goal.size-build_arms l + 4
+
+abbrev pub decreases-build_last : goal.decreases-build_last
+decreases-build_last l = 8 * goal.size-build_last l + 4
 
 abbrev pub invariant-build_block-loop-stmt : goal.invariant-build_block-loop-stmt
 invariant-build_block-loop-stmt l = record {
   built : Built (in_turn (map steps_of (take l.stmt-index l.fn.body)) (names_of l.scope)) (work l.fn.builder l.fn.variables) (work l.builder l.variables) l.changes;
   places : length l.variables ≡ length l.builder.signals;
 }
+
+abbrev pub invariant-build_arms-loop-place : goal.invariant-build_arms-loop-place
+invariant-build_arms-loop-place l = record {
+  opened : (c : Selection) → IsOf c (names_of l.scope) l.selector.kind l.selector.size → Opened c l.selector.bits (labelled (map item_steps (take l.place l.items))) l.arms (work l.fn.builder l.fn.variables) (work l.builder l.variables);
+  keeps : Keeps [] (work l.fn.builder l.fn.variables) (work l.builder l.variables);
+  places : length l.variables ≡ length l.builder.signals;
+}
+
+abbrev pub invariant-build_case-loop-arm : goal.invariant-build_case-loop-arm
+invariant-build_case-loop-arm l = record {
+  closing : (mid : Building) × Evaluates (names_of l.scope) l.selector l.selected.size l.fn.builder mid l.selected.bits × Closing (case-of (names_of l.scope) l.fn.kind l.selector l.items) l.selected.bits (case-arms (names_of l.scope) l.fn.kind l.selector l.items) (record (work l.fn.builder l.fn.variables) { building = mid }) (work l.builder l.variables) l.arms l.changes;
+  places : length l.variables ≡ length l.builder.signals;
+}
+
+abbrev pub decreases-build_case-loop-arm : goal.decreases-build_case-loop-arm
+decreases-build_case-loop-arm l = length l.arms

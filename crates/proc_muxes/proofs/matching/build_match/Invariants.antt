@@ -1,0 +1,7 @@
+use Rattle.std.proofs.Common.{drop}
+use Rattle.vlog_meaning.specs.Scopes.{names_of}
+use Rattle.proc_muxes.proofs.Labelling.{Matched}
+use Rattle.proc_muxes.proofs.matching.build_match.Given as goal
+
+abbrev pub invariant-loop-place : goal.invariant-loop-place
+invariant-loop-place l = Matched (names_of l.scope) l.selector.kind l.selector.size l.selector.bits l.labels (drop l.place l.labels) l.fn.builder l.builder l.test
