@@ -1,5 +1,5 @@
 -- What the code of blocks and of `if` has from one call to the next.
-use Rattle.std.proofs.Common.{◌≡◌, ℕ, ◌+◌, false, ◌||◌, List, [], map, length, Option, Some, sym, ◌∙◌, ap, subst, arith}
+use Rattle.std.proofs.Common.{◌≡◌, ℕ, ◌+◌, List, [], map, length, Option, Some, sym, ◌∙◌, ap, subst, arith}
 use Rattle.std.specs.Option.{option_map}
 use Rattle.mcy_base.specs.declared.span.Span.{Span}
 use Rattle.netlist_core.specs.declared.bit.Bit.{Bit}
@@ -11,7 +11,6 @@ use Rattle.vlog_meaning.specs.Scopes.{Names}
 use Rattle.vlog_meaning.specs.Senses.{sense}
 use Rattle.vlog_effects.specs.Steps.{Test, Steps, Done, Choose, in_turn, steps_of, else_steps}
 use Rattle.vlog_effects.specs.Latches.{targets}
-use Rattle.vlog_effects.proofs.Bools.{or-left, or-right}
 use Rattle.elab_expr.specs.Building.{AllBelow}
 use Rattle.elab_expr.specs.Expressions.{refusals}
 use Rattle.elab_expr.specs.Refusals.{IsShort}
@@ -20,7 +19,7 @@ use Rattle.elab_expr.proofs.Growing.{more_short}
 use Rattle.proc_muxes.specs.declared.change.Change.{Change}
 use Rattle.proc_muxes.specs.declared.choice.Choice.{Choice}
 use Rattle.proc_muxes.specs.Builds.{Work, BuildsTest, ChoosesAll}
-use Rattle.proc_muxes.specs.Clear.{IsReady, has_loop, have_loops, else_has_loop}
+use Rattle.proc_muxes.specs.Clear.{IsReady}
 use Rattle.proc_muxes.specs.Counts.{cells_of}
 use Rattle.proc_muxes.specs.Shows.{StandsBelow}
 use Rattle.proc_muxes.specs.Working.{AllFit, AllChoicesFit, joined, all_have, given_back, chosen, Built, test_cells}
@@ -28,7 +27,6 @@ use Rattle.proc_muxes.proofs.Counting.{builds-counted, test-counted}
 use Rattle.proc_muxes.proofs.Keeping.{keeps-test}
 use Rattle.proc_muxes.proofs.Merging.{built-choice}
 use Rattle.proc_muxes.proofs.Fitting.{leaves-steps, both-keep, parts-counted, later-below, changes-fit, choices-fit}
-use Rattle.proc_muxes.proofs.Loopless.{loops-block, loops-conditional}
 use Rattle.proc_muxes.proofs.Walking.{block-is, choice-is, ready-later, held-wide, choice-ready, back-keeps, back-counted}
 
 -- Statements by what the code reads of them.
@@ -36,14 +34,8 @@ use Rattle.proc_muxes.proofs.Walking.{block-is, choice-is, ready-later, held-wid
 pub else-as : (names : Names) (o : Option Stmt) (s x : Stmt) → o ≡ Some s → x ≡ s → else_steps (option_map steps_of o) names ≡ steps_of x names
 else-as names o s x is e = ap (λ (p : Option Stmt). else_steps (option_map steps_of p) names) is ∙ ap (λ (y : Stmt). steps_of y names) (sym e)
 
-pub else-loops : (o : Option Stmt) (s x : Stmt) → o ≡ Some s → x ≡ s → else_has_loop (option_map has_loop o) ≡ false → has_loop x ≡ false
-else-loops o s x is e h = ap has_loop e ∙ sym (ap (λ (p : Option Stmt). else_has_loop (option_map has_loop p)) is) ∙ h
-
 pub block-as : (names : Names) (stmt : Stmt) (at : Span) (label : Option Identifier) (body xs : List Stmt) → stmt ≡ SeqBlock at label body → xs ≡ body → steps_of stmt names ≡ in_turn (map steps_of xs) names
 block-as names stmt at label body xs is e = block-is names stmt at label body is ∙ ap (λ (l : List Stmt). in_turn (map steps_of l) names) (sym e)
-
-pub block-loops : (stmt : Stmt) (at : Span) (label : Option Identifier) (body xs : List Stmt) → stmt ≡ SeqBlock at label body → xs ≡ body → has_loop stmt ≡ false → have_loops (map has_loop xs) ≡ false
-block-loops stmt at label body xs is e h = ap (λ (l : List Stmt). have_loops (map has_loop l)) e ∙ sym (loops-block at label body) ∙ sym (ap has_loop is) ∙ h
 
 -- the test of an `if`
 abbrev pub test_of : Names → Expr → Test
@@ -58,11 +50,6 @@ choice-as names stmt at c x first y second is ex ey =
     choice-is names stmt at c first second is
     ∙ ap (λ (z : Expr). choice names at z first second) (sym ex)
     ∙ ap (λ (z : Stmt). choice names at x z second) (sym ey)
-
-pub choice-loops : (stmt : Stmt) (at : Span) (c : Expr) (first y : Stmt) (second : Option Stmt) → stmt ≡ Conditional at c first second → y ≡ first → has_loop stmt ≡ false → (has_loop y ≡ false) × (else_has_loop (option_map has_loop second) ≡ false)
-choice-loops stmt at c first y second is ey h =
-    let e : (has_loop first || else_has_loop (option_map has_loop second)) ≡ false = sym (ap has_loop is ∙ loops-conditional at c first second) ∙ h in
-    (ap has_loop ey ∙ or-left (has_loop first) (else_has_loop (option_map has_loop second)) e, or-right (has_loop first) (else_has_loop (option_map has_loop second)) e)
 
 -- What the calls of an `if` ask.
 

@@ -262,10 +262,10 @@ module _ (names : Names) (kind : CaseKind) (selector : Expr) (items : List CaseI
         later-items (y ∷ ys) b k r = (λ e. let one = r.0 e in (one.0, ready-later names _ [] a b k one.1), later-items ys b k r.1)
 
         pub case-items-ready : (b : Work) → Keeps [] a b → AreReadyItems names kind size (take before items) b
-        case-items-ready b k = later-items (take before items) b k (items-ready names kind size case-of case-sized last a h.signals h.stands items before all-allowed.1 labels-fit arms-clear these-held)
+        case-items-ready b k = later-items (take before items) b k (items-ready names kind size case-of case-sized last a h.signals h.stands h.sized items before all-allowed.1 labels-fit arms-clear these-held)
 
         pub case-last-ready : (b : Work) → Keeps [] a b → IsReady names last b
-        case-last-ready b k = ready-later names last [] a b k (last-ready names kind size case-of case-sized last a h.signals h.stands xs arms-clear these-held)
+        case-last-ready b k = ready-later names last [] a b k (last-ready names kind size case-of case-sized last a h.signals h.stands h.sized xs arms-clear these-held)
 
     -- the selector, and then the arms
     pub case-built : (a b : Work) (mid : Building) (bits : List Bit) (cs : List Change) → Evaluates names selector size a.building mid bits → BuiltArms case-of bits case-arms (record a { building = mid }) b cs → Built (case_steps kind selector (map item_steps items) names) a b cs

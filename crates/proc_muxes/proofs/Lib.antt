@@ -15,8 +15,9 @@ pub mod Piecing
 pub mod Assigning
 pub mod Counting
 pub mod Walking
-pub mod Loopless
+pub mod Refusing
 pub mod Branching
 pub mod Labelling
 pub mod Opening
 pub mod Closing
+pub mod Turning

@@ -24,7 +24,7 @@ use Rattle.elab_expr.specs.Expressions.{refusals}
 use Rattle.elab_expr.specs.Refusals.{IsShort}
 use Rattle.elab_expr.specs.declared.error.ElabError.{ElabError}
 use Rattle.elab_expr.proofs.Growing.{more_short}
-use Rattle.elab_proc.specs.Refusals.{wrong, divisions, zeros_at, common_size, case_faults, labels_in}
+use Rattle.elab_proc.specs.Refusals.{wrong, divisions, zeros_at, common_size, case_faults, labels_in, AreSized}
 use Rattle.elab_proc.specs.Sizes.{AllWithin, LabelsWithin}
 use Rattle.elab_proc.proofs.StepLemmas.{item_is}
 use Rattle.case_arms.specs.Arms.{item_body, arms_with}
@@ -239,14 +239,14 @@ labels-clear names kind size c of (x ∷ xs) a w m = (
   labels-clear names kind size c of xs a.1 w.1 m.1,
 )
 
-module _ (names : Names) (kind : CaseKind) (size : Shape) (c : Selection) (of : IsOf c names kind size) (last : Steps) (a : Work) (signals : HasSignals names a.building) (stands : StandsBelow a) where
+module _ (names : Names) (kind : CaseKind) (size : Shape) (c : Selection) (of : IsOf c names kind size) (last : Steps) (a : Work) (signals : HasSignals names a.building) (stands : StandsBelow a) (sized : AreSized names) where
   abbrev Arms-of : List Item → Arms
   Arms-of xs = arms_with c xs last
 
   item-ready : (j : CaseItem) (xs : List Item) → AllAllowed names size (labels_in j) → AllWithin names size (labels_in j) → AreClear c (Arms-of (opened j ∷ xs)) → AreHeld a (arms_targets (Arms-of (opened j ∷ xs))) → IsReadyItem names kind size j a
   item-ready j xs al w clear held =
       let body : Steps = steps_of (out-CaseItem j).body c.names in
-      (labels-clear names kind size c of (labels_in j) al w clear.0, subst (λ (n : Names). IsReady names (steps_of (out-CaseItem j).body n) a) of.names_are (record { clear = clear.1; held = held-first a (targets body) (arms_targets (Arms-of xs)) held; signals = signals; stands = stands }))
+      (labels-clear names kind size c of (labels_in j) al w clear.0, subst (λ (n : Names). IsReady names (steps_of (out-CaseItem j).body n) a) of.names_are (record { clear = clear.1; held = held-first a (targets body) (arms_targets (Arms-of xs)) held; signals = signals; stands = stands; sized = sized }))
 
   one-ready : (j : CaseItem) (b : Bool) (xs : List Item) (ys : List CaseItem) → is_empty (labels_in j) ≡ b → AllAllowed names size (labels_in j) → AllWithin names size (labels_in j) → (AreClear c (Arms-of xs) → AreHeld a (arms_targets (Arms-of xs)) → AreReadyItems names kind size ys a) → AreClear c (Arms-of (if b then xs else opened j ∷ xs)) → AreHeld a (arms_targets (Arms-of (if b then xs else opened j ∷ xs))) → AreReadyItems names kind size (j ∷ ys) a
   one-ready j true xs ys is al w rest clear held = (λ e. let no : true ≡ false = sym is ∙ e in cc, rest clear held)
@@ -273,4 +273,4 @@ module _ (names : Names) (kind : CaseKind) (size : Shape) (c : Selection) (of : 
   last-held (x ∷ xs) h = last-held xs (held-next a (targets (x.body c.names)) (arms_targets (Arms-of xs)) h)
 
   pub last-ready : (xs : List Item) → AreClear c (Arms-of xs) → AreHeld a (arms_targets (Arms-of xs)) → IsReady names last a
-  last-ready xs clear held = record { clear = last-clear xs clear; held = last-held xs held; signals = signals; stands = stands }
+  last-ready xs clear held = record { clear = last-clear xs clear; held = last-held xs held; signals = signals; stands = stands; sized = sized }

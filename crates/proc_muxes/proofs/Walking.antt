@@ -43,7 +43,7 @@ clear-first (Choose at c then_part else_part more) q h = (h.0, h.1, h.2, clear-f
 clear-first (Case c arms more) q h = (h.0, h.1, clear-first more q h.2)
 clear-first (Refuse x more) q h = absurd h
 
-clear-next : (p q : Steps) → IsClear (followed p q) → IsClear q
+pub clear-next : (p q : Steps) → IsClear (followed p q) → IsClear q
 clear-next Done q h = h
 clear-next (Assign s more) q h = clear-next more q h.1
 clear-next (Choose at c then_part else_part more) q h = clear-next more q h.3
@@ -80,22 +80,25 @@ ready-later names p ts a b k h = record {
   held = held-later ts a b (targets p) k h.held;
   signals = λ name. signal-later ts a b (names name) k (k.below h.stands) (h.signals name);
   stands = k.below h.stands;
+  sized = h.sized;
 }
 
-ready-first : (names : Names) (p q : Steps) (a : Work) → IsReady names (followed p q) a → IsReady names p a
+pub ready-first : (names : Names) (p q : Steps) (a : Work) → IsReady names (followed p q) a → IsReady names p a
 ready-first names p q a h = record {
   clear = clear-first p q h.clear;
   held = held-first a (targets p) (targets q) (subst (λ (ts : List Target). AreHeld a ts) (targets-followed p q) h.held);
   signals = h.signals;
   stands = h.stands;
+  sized = h.sized;
 }
 
-ready-next : (names : Names) (p q : Steps) (a : Work) → IsReady names (followed p q) a → IsReady names q a
+pub ready-next : (names : Names) (p q : Steps) (a : Work) → IsReady names (followed p q) a → IsReady names q a
 ready-next names p q a h = record {
   clear = clear-next p q h.clear;
   held = held-next a (targets p) (targets q) (subst (λ (ts : List Target). AreHeld a ts) (targets-followed p q) h.held);
   signals = h.signals;
   stands = h.stands;
+  sized = h.sized;
 }
 
 -- one statement of a block
@@ -122,7 +125,7 @@ block-built names xs k x a m b cs ds es is h f g e =
     (subst (λ (s : Steps). Built s a b (joined cs ds)) (sym (turns-next names xs k x is h))
     (built-push (in_turn (map steps_of (take k xs)) names) (steps_of x names) a m b cs ds f g))
 
-cells-followed : (p q : Steps) → cells_of (followed p q) ≡ cells_of p + cells_of q
+pub cells-followed : (p q : Steps) → cells_of (followed p q) ≡ cells_of p + cells_of q
 cells-followed Done q = omega arith
 cells-followed (Assign s more) q = let e = cells-followed more q in omega (arith, e)
 cells-followed (Choose at c then_part else_part more) q = let e = cells-followed more q in omega (arith, e)
@@ -157,8 +160,8 @@ choice-ready names at c p q a t test h f =
     let qs : List Target = targets q in
     let first : AreHeld a ps = held-first a ps (qs ++ []) h.held in
     let second : AreHeld a qs = held-first a qs [] (held-next a ps (qs ++ []) h.held) in (
-      ready-later names p [] a t k (record { clear = h.clear.1; held = first; signals = h.signals; stands = h.stands }),
-      ready-later names q [] a t k (record { clear = h.clear.2; held = second; signals = h.signals; stands = h.stands }),
+      ready-later names p [] a t k (record { clear = h.clear.1; held = first; signals = h.signals; stands = h.stands; sized = h.sized }),
+      ready-later names q [] a t k (record { clear = h.clear.2; held = second; signals = h.signals; stands = h.stands; sized = h.sized }),
       held-wide t (ps ++ qs) (held-later [] a t (ps ++ qs) k (held-both a ps qs first second)),
     ) where
       held-both : (w : Work) (xs ys : List Target) → AreHeld w xs → AreHeld w ys → AreHeld w (xs ++ ys)

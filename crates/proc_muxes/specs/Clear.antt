@@ -1,12 +1,7 @@
 -- Statements in which nothing is refused, and variables that have bits for them.
-use Rattle.std.specs.Prelude.{◌≡◌, ◌<◌, ◌≤◌, ℕ, ◌+◌, Bool, true, false, ◌||◌, List, [], ◌∷◌, length, Option, Some, None}
+use Rattle.std.specs.Prelude.{◌≡◌, ◌<◌, ◌≤◌, ℕ, ◌+◌, Bool, true, false, List, [], ◌∷◌, length, Some}
 use Rattle.vlog_syntax.specs.declared.expr.Expr.{Expr}
 use Rattle.vlog_syntax.specs.declared.stmt.CaseKind.{CaseKind}
-use Rattle.vlog_syntax.specs.declared.stmt.CaseItem.{CaseItem}
-use Rattle.vlog_syntax.specs.declared.stmt.Stmt.{Stmt}
-use Rattle.vlog_syntax.specs.declared.stmt.Stmt.TheOpen as t
-use Rattle.vlog_syntax.specs.declared.stmt.Stmt.TheOpen.{Stmt-F, CaseItem-F}
-use Rattle.vlog_syntax.specs.declared.stmt.Stmt.TheFolds.{fold-Stmt, fold-CaseItem}
 use Rattle.vlog_meaning.specs.declared.shapes.Shape.{Shape}
 use Rattle.vlog_meaning.specs.Scopes.{Names}
 use Rattle.vlog_meaning.specs.Senses.{sense, assigned, IsWhole, IsContext}
@@ -16,7 +11,7 @@ use Rattle.vlog_effects.specs.Steps.{Assigning, Selection, Steps, Done, Assign, 
 use Rattle.vlog_effects.specs.Latches.{Target, targets}
 use Rattle.elab_expr.specs.Building.{HasSignals}
 use Rattle.elab_expr.specs.Expressions.{refusals}
-use Rattle.elab_proc.specs.Refusals.{case_faults}
+use Rattle.elab_proc.specs.Refusals.{case_faults, AreSized}
 use Rattle.proc_muxes.specs.Builds.{Work, held, Index, variable_index}
 use Rattle.proc_muxes.specs.Shows.{StandsBelow}
 
@@ -102,31 +97,4 @@ pub record IsReady (names : Names) (steps : Steps) (a : Work) : Type 0 where
   pub held : AreHeld a (targets steps)
   pub signals : HasSignals names a.building
   pub stands : StandsBelow a
-
--- Loops, which are not built yet.
-
-abbrev pub have_loops : List Bool → Bool
-have_loops [] = false
-have_loops (b ∷ more) = b || have_loops more
-
-abbrev pub else_has_loop : Option Bool → Bool
-else_has_loop None = false
-else_has_loop (Some b) = b
-
-abbrev pub loop_step : Stmt-F Bool Bool → Bool
-loop_step (t.SeqBlock at name body) = have_loops body
-loop_step (t.Conditional at c first second) = first || else_has_loop second
-loop_step (t.Case at kind selector items) = have_loops items
-loop_step (t.For at start condition step body) = true
-loop_step other = false
-
-abbrev pub loop_item : CaseItem-F Bool Bool → Bool
-loop_item i = i.body
-
--- there is a loop in the statement
-abbrev pub has_loop : Stmt → Bool
-has_loop = fold-Stmt Bool Bool loop_step loop_item
-
--- there is a loop in the item of a case
-abbrev pub item_has_loop : CaseItem → Bool
-item_has_loop = fold-CaseItem Bool Bool loop_step loop_item
+  pub sized : AreSized names

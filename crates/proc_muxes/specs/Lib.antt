@@ -6,3 +6,4 @@ pub mod Clear
 pub mod Counts
 pub mod Laws
 pub mod Cases
+pub mod Turns
