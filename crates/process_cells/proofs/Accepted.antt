@@ -147,10 +147,10 @@ sized_signal b (Some (Constant value is_signed)) h = tt
 sized_signal b None h = tt
 
 pub accepted_ready : AcceptedAreReady
-accepted_ready comb written s names a e cases signals stands waits =
+accepted_ready comb written s names a e cases sized signals stands waits =
     let k : AreSized (sizes a.building) names = λ name. sized_signal a.building (names name) (signals name) in
     let r = ready_steps comb written a (steps_of s names) e cases (sized-steps (sizes a.building) s names k) waits in
-    record { clear = r.0; held = r.1; signals = signals; stands = stands }
+    record { clear = r.0; held = r.1; signals = signals; stands = stands; sized = sized }
 
 -- Combinational processes have blocking assignments alone.
 

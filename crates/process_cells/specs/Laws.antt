@@ -11,7 +11,7 @@ use Rattle.flat_runs.specs.Meanings.{Combinational, Clocked}
 use Rattle.flat_runs.specs.Adding.{HasOwnNets, AddsItem}
 use Rattle.flat_runs.specs.Parts.{StandsBelow as Stands}
 use Rattle.elab_proc.specs.Order.{IsFirst}
-use Rattle.elab_proc.specs.Refusals.{step_refusals}
+use Rattle.elab_proc.specs.Refusals.{AreSized, step_refusals}
 use Rattle.process_latches.specs.Sound.{sound, has_stop}
 use Rattle.proc_muxes.specs.Builds.{Work}
 use Rattle.proc_muxes.specs.Clear.{IsReady}
@@ -22,7 +22,7 @@ use Rattle.process_cells.specs.Processes.{variables, process_effect, Combines, H
 -- A statement in which no refusal is the first one is ready to be built: its expressions and left sides make cells, and the
 -- variables that it assigns have their bits.
 abbrev pub AcceptedAreReady : Type 0
-AcceptedAreReady = (is_combinational : Bool) (written : List Bool) (s : Stmt) (names : Names) (a : Work) → IsFirst (step_refusals is_combinational written (steps_of s names)) None → HasNoCase (steps_of s names) → HasSignals names a.building → StandsBelow a → AllWait a (targets (steps_of s names)) → IsReady names (steps_of s names) a
+AcceptedAreReady = (is_combinational : Bool) (written : List Bool) (s : Stmt) (names : Names) (a : Work) → IsFirst (step_refusals is_combinational written (steps_of s names)) None → HasNoCase (steps_of s names) → AreSized names → HasSignals names a.building → StandsBelow a → AllWait a (targets (steps_of s names)) → IsReady names (steps_of s names) a
 
 -- Statements in which nothing is refused are sound as they stand: they assign the same variables, have the same latch, and no
 -- loop or case in them is refused.

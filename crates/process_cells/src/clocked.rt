@@ -4,10 +4,10 @@ ghost use Rattle.vlog_meaning.specs.Scopes.{names_of};
 ghost use Rattle.vlog_effects.specs.Steps.{steps_of};
 ghost use Rattle.elab_expr.specs.Building.{HasSignals};
 ghost use Rattle.elab_expr.specs.Refusals.{IsShort};
+ghost use Rattle.elab_proc.specs.Refusals.{AreSized};
 ghost use Rattle.flat_runs.specs.Meanings.{Clocked};
 ghost use Rattle.flat_runs.specs.Adding.{HasOwnNets, AddsItem};
 ghost use Rattle.flat_runs.specs.Parts.{StandsBelow};
-ghost use Rattle.proc_muxes.specs.Clear.{has_loop};
 ghost use Rattle.proc_muxes.specs.Counts.{cells_of};
 ghost use Rattle.process_cells.specs.Ready.{HasNoCase, IsAccepted, HasPlaces};
 ghost use Rattle.process_cells.specs.Processes.{variables, process_effect, HasOneKind, Clocks};
@@ -25,24 +25,25 @@ use vlog_syntax::Stmt;
 pub fn build_clocked(
     builder: &mut Builder,
     waiting: &mut Variables,
-    scope: &Scope,
+    scope: &mut Scope,
     body: &Stmt,
     numbers: &[u32],
 ) -> Result<(), ElabError>
-    requires accepted { IsAccepted false (steps_of body.now (names_of scope.now)) }
-    requires cases { HasNoCase (steps_of body.now (names_of scope.now)) }
-    requires loops { has_loop body.now ≡ false }
-    requires kinds { HasOneKind (steps_of body.now (names_of scope.now)) }
-    requires variables { numbers.now ≡ variables (steps_of body.now (names_of scope.now)) }
-    requires signals { HasSignals (names_of scope.now) builder.old }
+    requires accepted { IsAccepted false (steps_of body.now (names_of scope.old)) }
+    requires cases { HasNoCase (steps_of body.now (names_of scope.old)) }
+    requires kinds { HasOneKind (steps_of body.now (names_of scope.old)) }
+    requires variables { numbers.now ≡ variables (steps_of body.now (names_of scope.old)) }
+    requires sized { AreSized (names_of scope.old) }
+    requires signals { HasSignals (names_of scope.old) builder.old }
     requires own { HasOwnNets builder.old }
     requires stands { StandsBelow builder.old }
     requires places { HasPlaces builder.old waiting.old }
-    ensures clocks { OnOk result (Clocks (steps_of body.now (names_of scope.now)) builder.old builder.new) }
-    ensures added { OnOk result (AddsItem builder.old builder.new (Clocked (variables (steps_of body.now (names_of scope.now))) (process_effect builder.old (steps_of body.now (names_of scope.now))))) }
+    ensures clocks { OnOk result (Clocks (steps_of body.now (names_of scope.old)) builder.old builder.new) }
+    ensures added { OnOk result (AddsItem builder.old builder.new (Clocked (variables (steps_of body.now (names_of scope.old))) (process_effect builder.old (steps_of body.now (names_of scope.old))))) }
+    ensures kept { OnOk result (names_of scope.new ≡ names_of scope.old) }
     ensures stands { OnOk result (StandsBelow builder.new) }
     ensures places { OnOk result (HasPlaces builder.new waiting.new) }
-    ensures short { IfErr result (λ e. IsShort (length builder.old.cells + cells_of (steps_of body.now (names_of scope.now))) e) }
+    ensures short { IfErr result (λ e. IsShort (length builder.old.cells + cells_of (steps_of body.now (names_of scope.old))) e) }
 {
     all_waiting(builder, waiting, numbers)?;
     let changes = build_statement(builder, waiting, scope, body)?;

@@ -5,10 +5,10 @@ ghost use Rattle.vlog_effects.specs.Latches.{latch_of};
 ghost use Rattle.vlog_effects.specs.Steps.{steps_of};
 ghost use Rattle.elab_expr.specs.Building.{HasSignals};
 ghost use Rattle.elab_expr.specs.Refusals.{IsShort};
+ghost use Rattle.elab_proc.specs.Refusals.{AreSized};
 ghost use Rattle.flat_runs.specs.Meanings.{Combinational};
 ghost use Rattle.flat_runs.specs.Adding.{HasOwnNets, AddsItem};
 ghost use Rattle.flat_runs.specs.Parts.{StandsBelow};
-ghost use Rattle.proc_muxes.specs.Clear.{has_loop};
 ghost use Rattle.proc_muxes.specs.Counts.{cells_of};
 ghost use Rattle.process_cells.specs.Ready.{HasNoCase, IsAccepted, HasPlaces};
 ghost use Rattle.process_cells.specs.Processes.{variables, process_effect, Combines};
@@ -26,24 +26,25 @@ use vlog_syntax::Stmt;
 pub fn build_combinational(
     builder: &mut Builder,
     waiting: &mut Variables,
-    scope: &Scope,
+    scope: &mut Scope,
     body: &Stmt,
     numbers: &[u32],
 ) -> Result<(), ElabError>
-    requires accepted { IsAccepted true (steps_of body.now (names_of scope.now)) }
-    requires cases { HasNoCase (steps_of body.now (names_of scope.now)) }
-    requires loops { has_loop body.now ≡ false }
-    requires unlatched { latch_of (steps_of body.now (names_of scope.now)) ≡ None }
-    requires variables { numbers.now ≡ variables (steps_of body.now (names_of scope.now)) }
-    requires signals { HasSignals (names_of scope.now) builder.old }
+    requires accepted { IsAccepted true (steps_of body.now (names_of scope.old)) }
+    requires cases { HasNoCase (steps_of body.now (names_of scope.old)) }
+    requires unlatched { latch_of (steps_of body.now (names_of scope.old)) ≡ None }
+    requires variables { numbers.now ≡ variables (steps_of body.now (names_of scope.old)) }
+    requires sized { AreSized (names_of scope.old) }
+    requires signals { HasSignals (names_of scope.old) builder.old }
     requires own { HasOwnNets builder.old }
     requires stands { StandsBelow builder.old }
     requires places { HasPlaces builder.old waiting.old }
-    ensures combines { OnOk result (Combines (steps_of body.now (names_of scope.now)) builder.old builder.new) }
-    ensures added { OnOk result (AddsItem builder.old builder.new (Combinational (variables (steps_of body.now (names_of scope.now))) (process_effect builder.old (steps_of body.now (names_of scope.now))))) }
+    ensures combines { OnOk result (Combines (steps_of body.now (names_of scope.old)) builder.old builder.new) }
+    ensures added { OnOk result (AddsItem builder.old builder.new (Combinational (variables (steps_of body.now (names_of scope.old))) (process_effect builder.old (steps_of body.now (names_of scope.old))))) }
+    ensures kept { OnOk result (names_of scope.new ≡ names_of scope.old) }
     ensures stands { OnOk result (StandsBelow builder.new) }
     ensures places { OnOk result (HasPlaces builder.new waiting.new) }
-    ensures short { IfErr result (λ e. IsShort (length builder.old.cells + cells_of (steps_of body.now (names_of scope.now))) e) }
+    ensures short { IfErr result (λ e. IsShort (length builder.old.cells + cells_of (steps_of body.now (names_of scope.old))) e) }
 {
     let owns = all_kept(builder, numbers)?;
     blank(builder, numbers)?;
