@@ -251,17 +251,17 @@ module _ (names : Names) (kind : CaseKind) (selector : Expr) (items : List CaseI
         abbrev xs : List Item
         xs = labelled (map item_steps (take before items))
 
-        arms-clear : AreClear case-of (arms_with case-of xs last)
-        arms-clear = subst (AreClear case-of) (sym arms) h.clear.1
+        arms-clear : AreClear (arms_with case-of xs last)
+        arms-clear = subst AreClear (sym arms) h.clear.1
 
         these-held : AreHeld a (arms_targets (arms_with case-of xs last))
         these-held = subst (λ (x : Arms). AreHeld a (arms_targets x)) (sym arms) arms-held
 
-        later-items : (ys : List CaseItem) (b : Work) → Keeps [] a b → AreReadyItems names kind size ys a → AreReadyItems names kind size ys b
+        later-items : (ys : List CaseItem) (b : Work) → Keeps [] a b → AreReadyItems names size ys a → AreReadyItems names size ys b
         later-items [] b k r = tt
         later-items (y ∷ ys) b k r = (λ e. let one = r.0 e in (one.0, ready-later names _ [] a b k one.1), later-items ys b k r.1)
 
-        pub case-items-ready : (b : Work) → Keeps [] a b → AreReadyItems names kind size (take before items) b
+        pub case-items-ready : (b : Work) → Keeps [] a b → AreReadyItems names size (take before items) b
         case-items-ready b k = later-items (take before items) b k (items-ready names kind size case-of case-sized last a h.signals h.stands h.sized items before all-allowed.1 labels-fit arms-clear these-held)
 
         pub case-last-ready : (b : Work) → Keeps [] a b → IsReady names last b

@@ -1,5 +1,5 @@
 -- How many cells are there after statements.
-use Rattle.std.proofs.Common.{◌≡◌, ℕ, ◌+◌, Bool, true, false, List, [], ◌∷◌, ◌++◌, length, Option, Some, None, nat_lt, refl, ◌∙◌, ap, inl, inr, arith}
+use Rattle.std.proofs.Common.{◌≡◌, ℕ, zero, suc, ◌+◌, Bool, true, false, List, [], ◌∷◌, ◌++◌, length, Option, Some, None, nat_lt, refl, ◌∙◌, ap, inl, inr, arith}
 use Rattle.std.specs.Prelude.{if◌then◌else◌}
 use Rattle.std.proofs.lemmas.List.{length-append}
 use Rattle.std.proofs.lemmas.Bool.Decides.{leb_tells}
@@ -18,8 +18,8 @@ use Rattle.vlog_effects.specs.Latches.{Target, targets, arms_targets}
 use Rattle.elab_expr.specs.Building.{Building, fresh_bits}
 use Rattle.elab_expr.specs.Made.{made}
 use Rattle.elab_expr.proofs.Growing.{count}
-use Rattle.proc_muxes.specs.Builds.{Work, held, with_held, AddsCell, Index, variable_index, PutsBits, PutsPart, PutsParts, BuildsAssign, BuildsBit, BuildsTest, distinct, choices, ChoosesAll, restored, kept, case_shape, BuildsLabel, BuildsMore, BuildsMatch, Builds, BuildsArms}
-use Rattle.proc_muxes.specs.Counts.{put_cells, puts_cells, assign_cells, labels_cells, match_cells, cells_of, arms_cells}
+use Rattle.proc_muxes.specs.Builds.{Work, held, with_held, AddsCell, Index, variable_index, PutsBits, PutsPart, PutsParts, BuildsAssign, BuildsBit, BuildsTest, distinct, choices, ChoosesAll, restored, kept, mattering, case_shape, BuildsEqual, BuildsLabel, BuildsMore, BuildsMatch, Builds, BuildsArms}
+use Rattle.proc_muxes.specs.Counts.{put_cells, puts_cells, assign_cells, equal_cells, label_cells, labels_cells, match_cells, cells_of, arms_cells}
 use Rattle.proc_muxes.specs.Working.{test_cells}
 use Rattle.proc_muxes.proofs.Piecing.{indices-counted}
 
@@ -96,11 +96,17 @@ choices-counted at test y (x ∷ more) a b f =
 
 -- Labels.
 
-pub label-counted : (c : Selection) (selector : List Bit) (x : Expr) (a b : Building) (test : List Bit) → BuildsLabel c selector x a b test → length b.cells ≡ length a.cells + (length (made c.names x (case_shape c)) + 1)
+equal-counted : (n : ℕ) (xs ys : List Bit) (at : Span) (a b : Building) (test : List Bit) → BuildsEqual n xs ys at a b test → length b.cells ≡ length a.cells + equal_cells n
+equal-counted zero xs ys at a b test f =
+    let e : length b.cells ≡ length a.cells = ap (λ (m : Building). length m.cells) f.0 in
+    omega (arith, e)
+equal-counted (suc n) xs ys at a b test f = cell-counted Eq (xs ∷ ys ∷ []) 1 at a b f.0
+
+pub label-counted : (c : Selection) (selector : List Bit) (x : Expr) (a b : Building) (test : List Bit) → BuildsLabel c selector x a b test → length b.cells ≡ length a.cells + label_cells c x
 label-counted c selector x a b test f =
     let own = count a f.0 f.1 _ _ (made c.names x (case_shape c)) f.2 in
     let ignored : List Bool = bits_of c.width (dont_care c.kind x) in
-    let cell = cell-counted Eq (kept ignored selector ∷ kept ignored f.1 ∷ []) 1 (first_token x) f.0 b f.3 in
+    let cell = equal-counted (mattering ignored) (kept ignored selector) (kept ignored f.1) (first_token x) f.0 b test f.3 in
     omega (arith, own, cell)
 
 more-counted : (c : Selection) (selector : List Bit) (xs : List Expr) (before : List Bit) (a b : Building) (test : List Bit) → BuildsMore c selector xs before a b test → length b.cells ≡ length a.cells + labels_cells c xs

@@ -15,7 +15,7 @@ use Rattle.vlog_effects.specs.Effects.{bit_same, agree}
 use Rattle.elab_expr.specs.Building.{Building, RunsIn, fresh_bits, with_cell}
 use Rattle.elab_expr.proofs.Parts.{cell_computes, length_fresh}
 use Rattle.elab_expr.proofs.KindLemmas.{some_tells}
-use Rattle.proc_muxes.specs.Builds.{AddsCell, kept}
+use Rattle.proc_muxes.specs.Builds.{AddsCell, kept, mattering, BuildsEqual}
 use Rattle.proc_muxes.proofs.Bits.{values-are}
 
 -- the lowest bits of a remainder are those of the number
@@ -59,8 +59,14 @@ bit-of-digit false = refl
 pub ror-values : (a b : Building) (xs : List Bit) (at : Span) (nets : Nets) → AddsCell Ror (xs ∷ []) 1 at a b → RunsIn b nets → values nets (fresh_bits a.nets 1) ≡ not (nat_eq (number (values nets xs)) 0) ∷ []
 ror-values a b xs at nets f runs = cell-values a b Ror (xs ∷ []) 1 at nets f runs ∙ bit-of-digit (some_one (values nets xs)) ∙ ap (λ (t : Bool). t ∷ []) (some_tells (values nets xs))
 
-pub eq-values : (a b : Building) (xs ys : List Bit) (at : Span) (nets : Nets) → AddsCell Eq (xs ∷ ys ∷ []) 1 at a b → RunsIn b nets → values nets (fresh_bits a.nets 1) ≡ nat_eq (number (values nets xs)) (number (values nets ys)) ∷ []
+eq-values : (a b : Building) (xs ys : List Bit) (at : Span) (nets : Nets) → AddsCell Eq (xs ∷ ys ∷ []) 1 at a b → RunsIn b nets → values nets (fresh_bits a.nets 1) ≡ nat_eq (number (values nets xs)) (number (values nets ys)) ∷ []
 eq-values a b xs ys at nets f runs = cell-values a b Eq (xs ∷ ys ∷ []) 1 at nets f runs ∙ bit-of-digit (nat_eq (number (values nets xs)) (number (values nets ys)))
+
+pub equal-values : (n : ℕ) (xs ys : List Bit) (at : Span) (a b : Building) (test : List Bit) (nets : Nets) → BuildsEqual n xs ys at a b test → length xs ≡ n → length ys ≡ n → RunsIn b nets → values nets test ≡ nat_eq (number (values nets xs)) (number (values nets ys)) ∷ []
+equal-values zero [] [] at a b test nets f x y runs = ap (values nets) f.1
+equal-values zero [] (q ∷ ys) at a b test nets f x y runs = absurd (omega arith)
+equal-values zero (p ∷ xs) ys at a b test nets f x y runs = absurd (omega arith)
+equal-values (suc n) xs ys at a b test nets f x y runs = ap (values nets) f.1 ∙ eq-values a b xs ys at nets f.0 runs
 
 either-some : (p q : Bool) → (if some_one (p ∷ []) then true else some_one (q ∷ [])) ≡ (p || q)
 either-some true q = refl
@@ -73,6 +79,12 @@ lor-values a b xs ys at nets p q f runs is_p is_q =
     all ∙ bit-of-digit (if some_one (values nets xs) then true else some_one (values nets ys)) ∙ ap (λ (t : Bool). t ∷ []) (rw (is_p, is_q) (either-some p q))
 
 -- Comparing the bits that matter.
+
+pub kept-length : (ignored : List Bool) (xs : List Bit) → length ignored ≡ length xs → length (kept ignored xs) ≡ mattering ignored
+kept-length [] xs e = refl
+kept-length (i ∷ ignored) [] e = absurd (omega arith)
+kept-length (true ∷ ignored) (x ∷ xs) e = kept-length ignored xs (omega arith)
+kept-length (false ∷ ignored) (x ∷ xs) e = let k = kept-length ignored xs (omega arith) in omega (arith, k)
 
 digits-same : (x y : Bool) (n m : ℕ) → nat_eq (digit x + 2 * n) (digit y + 2 * m) ≡ (bit_same x y && nat_eq n m)
 digits-same true true n m = grind (arith, nat_tests)

@@ -1,5 +1,5 @@
 -- What each kind of step keeps.
-use Rattle.std.proofs.Common.{◌≡◌, ℕ, ◌<◌, Bool, true, false, ◌||◌, List, [], ◌∷◌, ◌++◌, take, drop, length, Option, Some, None, refl, sym, ◌∙◌, ap, subst, inl, inr, append_assoc}
+use Rattle.std.proofs.Common.{◌≡◌, ℕ, zero, suc, ◌<◌, Bool, true, false, ◌||◌, List, [], ◌∷◌, ◌++◌, take, drop, length, Option, Some, None, refl, sym, ◌∙◌, ap, subst, inl, inr, append_assoc}
 use Rattle.mcy_base.specs.declared.span.Span.{Span}
 use Rattle.netlist_core.specs.declared.bit.Bit.{Bit}
 use Rattle.netlist_core.specs.declared.cell.CellKind.{CellKind}
@@ -7,13 +7,14 @@ use Rattle.netlist_core.specs.declared.cell.CellKind.TheVariants.{Mux, Put}
 use Rattle.vlog_syntax.specs.Places.{first_token}
 use Rattle.vlog_syntax.specs.declared.expr.Expr.{Expr}
 use Rattle.vlog_meaning.specs.Scopes.{Names, nothing}
+use Rattle.vlog_effects.specs.Expressions.{bits_of}
 use Rattle.vlog_effects.specs.LeftSides.{Part, Vector, parts_of, part_vector, parts_width, places, written}
-use Rattle.vlog_effects.specs.Steps.{Assigning, Test, Selection, Steps, Done, Assign, Choose, Case, Refuse, Arms, Otherwise, Arm}
+use Rattle.vlog_effects.specs.Steps.{Assigning, Test, Selection, Steps, Done, Assign, Choose, Case, Refuse, Arms, Otherwise, Arm, dont_care}
 use Rattle.vlog_effects.specs.Latches.{Target, targets, arms_targets, part_targets, parts_targets}
 use Rattle.vlog_effects.proofs.Bools.{or-right}
 use Rattle.elab_expr.specs.Building.{Building, Grows, AllBelow, fresh_bits}
 use Rattle.elab_expr.proofs.Parts.{below_later, fresh_below, length_fresh, grows_not, grows_again}
-use Rattle.proc_muxes.specs.Builds.{Work, held, with_held, AddsCell, Index, variable_index, BuildsIndex, BuildsIndices, PutsBits, PutsPart, PutsParts, BuildsAssign, BuildsBit, BuildsTest, stands, distinct, choice_of, choices, Chooses, ChoosesAll, restored, BuildsLabel, BuildsMore, BuildsMatch, Builds, BuildsArms}
+use Rattle.proc_muxes.specs.Builds.{Work, held, with_held, AddsCell, Index, variable_index, BuildsIndex, BuildsIndices, PutsBits, PutsPart, PutsParts, BuildsAssign, BuildsBit, BuildsTest, stands, distinct, choice_of, choices, Chooses, ChoosesAll, restored, kept, mattering, BuildsEqual, BuildsLabel, BuildsMore, BuildsMatch, Builds, BuildsArms}
 use Rattle.proc_muxes.specs.Shows.{Keeps}
 use Rattle.proc_muxes.proofs.Bits.{length-written, below-written, below-take, below-drop}
 use Rattle.proc_muxes.proofs.Frames.{known-append, stands-append, stands-distinct, keeps-same, keeps-grown, keeps-again, keeps-turned, keeps-restored, keeps-held, held-grown, stands-held, signals-grown, nets-added}
@@ -35,8 +36,14 @@ pub grows-bit : (at : Span) (bits : List Bit) (a b : Building) (test : List Bit)
 grows-bit at bits a b test (inl f) = grows-same a b f.1
 grows-bit at bits a b test (inr f) = f.1.0
 
+pub grows-equal : (n : ℕ) (xs ys : List Bit) (at : Span) (a b : Building) (test : List Bit) → BuildsEqual n xs ys at a b test → Grows a b
+grows-equal zero xs ys at a b test f = grows-same a b f.0
+grows-equal (suc n) xs ys at a b test f = f.0.0
+
 pub grows-label : (c : Selection) (selector : List Bit) (x : Expr) (a b : Building) (test : List Bit) → BuildsLabel c selector x a b test → Grows a b
-grows-label c selector x a b test f = grows_again a f.0 b f.2.grows f.3.0
+grows-label c selector x a b test f =
+    let ignored : List Bool = bits_of c.width (dont_care c.kind x) in
+    grows_again a f.0 b f.2.grows (grows-equal (mattering ignored) (kept ignored selector) (kept ignored f.1) (first_token x) f.0 b test f.3)
 
 pub grows-more : (c : Selection) (selector : List Bit) (xs : List Expr) (before : List Bit) (a b : Building) (test : List Bit) → BuildsMore c selector xs before a b test → Grows a b
 grows-more c selector [] before a b test f = grows-same a b f.0

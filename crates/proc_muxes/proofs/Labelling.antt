@@ -15,25 +15,21 @@ use Rattle.vlog_effects.specs.Expressions.{bits_of}
 use Rattle.vlog_effects.specs.Steps.{Selection, dont_care}
 use Rattle.vlog_effects.proofs.Numbers.{length-bits_of}
 use Rattle.elab_expr.specs.Building.{Building, Grows, AllBelow, fresh_bits}
+use Rattle.elab_expr.specs.Evaluates.{Evaluates}
 use Rattle.elab_expr.specs.Made.{made}
 use Rattle.elab_expr.specs.Refusals.{IsShort}
 use Rattle.elab_expr.specs.declared.error.ElabError.{ElabError}
-use Rattle.elab_expr.proofs.Growing.{more_short}
+use Rattle.elab_expr.proofs.Growing.{count, more_short}
 use Rattle.elab_expr.proofs.Parts.{grows_again, length_fresh}
 use Rattle.case_arms.specs.Naming.{IsOf}
-use Rattle.proc_muxes.specs.Builds.{AddsCell, kept, case_shape, BuildsLabel, BuildsMore, BuildsMatch}
-use Rattle.proc_muxes.specs.Clear.{mattering, IsClearLabel, AreClearLabels}
-use Rattle.proc_muxes.specs.Counts.{labels_cells, match_cells}
+use Rattle.proc_muxes.specs.Builds.{AddsCell, kept, mattering, case_shape, BuildsEqual, BuildsLabel, BuildsMore, BuildsMatch}
+use Rattle.proc_muxes.specs.Clear.{IsClearLabel, AreClearLabels}
+use Rattle.proc_muxes.specs.Counts.{equal_cells, labels_cells, match_cells}
 use Rattle.proc_muxes.proofs.Counting.{label-counted, cell-counted}
+use Rattle.proc_muxes.proofs.Gates.{kept-length}
 use Rattle.proc_muxes.proofs.Keeping.{fresh-after}
 
 -- The bits that matter.
-
-kept-length : (ignored : List Bool) (xs : List Bit) → length ignored ≡ length xs → length (kept ignored xs) ≡ mattering ignored
-kept-length [] xs e = refl
-kept-length (i ∷ ignored) [] e = absurd (omega arith)
-kept-length (true ∷ ignored) (x ∷ xs) e = kept-length ignored xs (omega arith)
-kept-length (false ∷ ignored) (x ∷ xs) e = let k = kept-length ignored xs (omega arith) in omega (arith, k)
 
 mattering-most : (ignored : List Bool) → mattering ignored ≤ length ignored
 mattering-most [] = omega arith
@@ -64,21 +60,22 @@ kept_skip ignored xs found k rest h b so =
 -- A label.
 
 -- the bits that matter are as many on both sides
-pub kept-long : (names : Names) (kind : CaseKind) (size : Shape) (x : Expr) (bits : List Bit) (found : List Bit) → IsClearLabel names kind size x → length bits ≡ size.width → found ≡ kept (bits_of (length bits) (dont_care kind x)) bits → (length found ≡ mattering (bits_of size.width (dont_care kind x))) × (1 ≤ length found) × (length found ≤ 128)
+pub kept-long : (names : Names) (kind : CaseKind) (size : Shape) (x : Expr) (bits : List Bit) (found : List Bit) → IsClearLabel names size x → length bits ≡ size.width → found ≡ kept (bits_of (length bits) (dont_care kind x)) bits → (length found ≡ mattering (bits_of size.width (dont_care kind x))) × (length found ≤ 128)
 kept-long names kind size x bits found clear long is =
     let ignored : List Bool = bits_of size.width (dont_care kind x) in
     let all : length ignored ≡ size.width = length-bits_of size.width (dont_care kind x) in
     let e : length found ≡ mattering ignored =
     ap (λ (l : List Bit). length l) (is ∙ ap (λ (n : ℕ). kept (bits_of n (dont_care kind x)) bits) long) ∙ kept-length ignored bits (all ∙ sym long) in
     let most = mattering-most ignored in
-    (e, omega (arith, e, clear.matters), omega (arith, e, most, all, clear.within.narrow))
+    (e, omega (arith, e, most, all, clear.within.narrow))
 
 pub kept-stands : (n k ignored : ℕ) (bits found : List Bit) → found ≡ kept (bits_of k ignored) bits → AllBelow n bits → AllBelow n found
 kept-stands n k ignored bits found is h = subst (AllBelow n) (sym is) (kept-below n (bits_of k ignored) bits h)
 
-label-test : (ports : List (List Bit)) (at : Span) (mid b : Building) (test : List Bit) → AddsCell Eq ports 1 at mid b → test ≡ fresh_bits mid.nets 1 → (length test ≡ 1) × AllBelow b.nets test
-label-test ports at mid b test f is =
-    (ap (λ (l : List Bit). length l) is ∙ length_fresh mid.nets 1, subst (AllBelow b.nets) (sym is) (fresh-after mid b Eq ports 1 at f))
+pub equal-test : (n : ℕ) (xs ys : List Bit) (at : Span) (mid b : Building) (test : List Bit) → BuildsEqual n xs ys at mid b test → (length test ≡ 1) × AllBelow b.nets test
+equal-test zero xs ys at mid b test f = (ap (λ (l : List Bit). length l) f.1, subst (AllBelow b.nets) (sym f.1) tt)
+equal-test (suc n) xs ys at mid b test f =
+    (ap (λ (l : List Bit). length l) f.1 ∙ length_fresh mid.nets 1, subst (AllBelow b.nets) (sym f.1) (fresh-after mid b Eq (xs ∷ ys ∷ []) 1 at f.0))
 
 more-bit : (c : Selection) (selector : List Bit) (xs : List Expr) (before : List Bit) (a b : Building) (test : List Bit) → BuildsMore c selector xs before a b test → length before ≡ 1 → AllBelow a.nets before → (length test ≡ 1) × AllBelow b.nets test
 more-bit c selector [] before a b test f one below = (ap (λ (l : List Bit). length l) f.1 ∙ one, subst (AllBelow b.nets) (sym f.1) (subst (λ (m : Building). AllBelow m.nets before) (sym f.0) below))
@@ -91,15 +88,41 @@ match-bit c selector [] a b test f = absurd f
 match-bit c selector (x ∷ more) a b test f =
     let l = f.2 in
     let ignored : List Bool = bits_of c.width (dont_care c.kind x) in
-    let first = label-test (kept ignored selector ∷ kept ignored l.1 ∷ []) (first_token x) l.0 f.0 f.1 l.3 l.4 in
+    let first = equal-test (mattering ignored) (kept ignored selector) (kept ignored l.1) (first_token x) l.0 f.0 f.1 l.3 in
     more-bit c selector more f.1 f.0 b test f.3 first.0 first.1
+
+-- what compares the same bits
+equal-again : (n m : ℕ) (xs ys zs ws : List Bit) (at : Span) (a b : Building) (test : List Bit) → n ≡ m → xs ≡ zs → ys ≡ ws → BuildsEqual n xs ys at a b test → BuildsEqual m zs ws at a b test
+equal-again n m xs ys zs ws at a b test e f g h =
+    subst (λ (k : ℕ). BuildsEqual k zs ws at a b test) e (subst (λ (l : List Bit). BuildsEqual n l ws at a b test) f (subst (λ (l : List Bit). BuildsEqual n xs l at a b test) g h))
+
+pub label-built : (names : Names) (kind : CaseKind) (size : Shape) (selector : List Bit) (x : Expr) (old mid new : Building) (bits left right test : List Bit) → IsClearLabel names size x → length selector ≡ size.width → Evaluates names x size old mid bits → left ≡ kept (bits_of (length selector) (dont_care kind x)) selector → right ≡ kept (bits_of (length bits) (dont_care kind x)) bits → BuildsEqual (length left) left right (first_token x) mid new test → (c : Selection) → IsOf c names kind size → BuildsLabel c selector x old new test
+label-built names kind size selector x old mid new bits left right test clear long ev is_left is_right f c of =
+    let shape_is : case_shape c ≡ size = λ j. record { width = of.width_is j; is_signed = of.sign_is j } in
+    let same : bits_of size.width (dont_care kind x) ≡ bits_of c.width (dont_care c.kind x) = λ j. bits_of (sym of.width_is j) (dont_care (sym of.kind_is j) x) in
+    let of_left : length left ≡ mattering (bits_of size.width (dont_care kind x)) = (kept-long names kind size x selector left clear long is_left).0 in (
+      mid,
+      bits,
+      subst (λ (n : Names). Evaluates n x (case_shape c) old mid bits) (sym of.names_are) (subst (λ (s : Shape). Evaluates names x s old mid bits) (sym shape_is) ev),
+      equal-again (length left) (mattering (bits_of c.width (dont_care c.kind x))) left right (kept (bits_of c.width (dont_care c.kind x)) selector) (kept (bits_of c.width (dont_care c.kind x)) bits) (first_token x) mid new test
+          (of_left ∙ ap mattering same)
+          (is_left ∙ ap (λ (w : ℕ). kept (bits_of w (dont_care kind x)) selector) long ∙ ap (λ (i : List Bool). kept i selector) same)
+          (is_right ∙ ap (λ (w : ℕ). kept (bits_of w (dont_care kind x)) bits) ev.long ∙ ap (λ (i : List Bool). kept i bits) same)
+          f,
+    )
+
+pub equal-short : (names : Names) (kind : CaseKind) (size : Shape) (selector : List Bit) (x : Expr) (old mid : Building) (bits left : List Bit) (e : ElabError) → IsClearLabel names size x → length selector ≡ size.width → Evaluates names x size old mid bits → left ≡ kept (bits_of (length selector) (dont_care kind x)) selector → IsShort (length mid.cells + equal_cells (length left)) e → IsShort (length old.cells + (length (made names x size) + equal_cells (mattering (bits_of size.width (dont_care kind x))))) e
+equal-short names kind size selector x old mid bits left e clear long ev is short =
+    let own = count old mid bits _ _ (made names x size) ev in
+    let same : equal_cells (length left) ≡ equal_cells (mattering (bits_of size.width (dont_care kind x))) = ap equal_cells (kept-long names kind size x selector left clear long is).0 in
+    more_short _ _ e (omega (arith, own, same)) short
 
 -- Labels.
 
-pub clear-at : (names : Names) (kind : CaseKind) (size : Shape) (xs : List Expr) (k : ℕ) (x : Expr) → x ≡ get_or xs k x → k < length xs → AreClearLabels names kind size xs → IsClearLabel names kind size x
-clear-at names kind size [] k x at h clear = absurd (omega arith)
-clear-at names kind size (y ∷ ys) zero x at h clear = subst (IsClearLabel names kind size) (sym at) clear.0
-clear-at names kind size (y ∷ ys) (suc k) x at h clear = clear-at names kind size ys k x at (omega arith) clear.1
+pub clear-at : (names : Names) (size : Shape) (xs : List Expr) (k : ℕ) (x : Expr) → x ≡ get_or xs k x → k < length xs → AreClearLabels names size xs → IsClearLabel names size x
+clear-at names size [] k x at h clear = absurd (omega arith)
+clear-at names size (y ∷ ys) zero x at h clear = subst (IsClearLabel names size) (sym at) clear.0
+clear-at names size (y ∷ ys) (suc k) x at h clear = clear-at names size ys k x at (omega arith) clear.1
 
 -- what the labels that are left lead to
 pub record Matched (names : Names) (kind : CaseKind) (size : Shape) (selector : List Bit) (all rest : List Expr) (old now : Building) (test : List Bit) : Type 0 where
@@ -146,14 +169,15 @@ match-end names kind size selector all k old now test h m c of =
     m.same c of now test (subst (λ (l : List Expr). BuildsMore c selector l test now now test) (sym (drop_all k all h)) (refl, refl))
 
 -- a label and its `lor` have room where all have
-pub label-short : (names : Names) (kind : CaseKind) (size : Shape) (selector : List Bit) (all : List Expr) (k : ℕ) (x : Expr) (old now : Building) (test : List Bit) (e : ElabError) → x ≡ get_or all k x → k < length all → Matched names kind size selector all (drop k all) old now test → IsShort (length now.cells + (length (made names x size) + 1)) e → (c : Selection) → IsOf c names kind size → IsShort (length old.cells + match_cells c all) e
+pub label-short : (names : Names) (kind : CaseKind) (size : Shape) (selector : List Bit) (all : List Expr) (k : ℕ) (x : Expr) (old now : Building) (test : List Bit) (e : ElabError) → x ≡ get_or all k x → k < length all → Matched names kind size selector all (drop k all) old now test → IsShort (length now.cells + (length (made names x size) + equal_cells (mattering (bits_of size.width (dont_care kind x))))) e → (c : Selection) → IsOf c names kind size → IsShort (length old.cells + match_cells c all) e
 label-short names kind size selector all k x old now test e at h m short c of =
     let rest : drop k all ≡ x ∷ drop (k + 1) all = drop_more all k x h ∙ ap (λ (y : Expr). y ∷ drop (k + 1) all) (sym at) in
     let r : Matched names kind size selector all (x ∷ drop (k + 1) all) old now test = subst (λ (l : List Expr). Matched names kind size selector all l old now test) rest m in
     let shape_is : case_shape c ≡ size = λ j. record { width = of.width_is j; is_signed = of.sign_is j } in
     let own : length (made c.names x (case_shape c)) ≡ length (made names x size) = ap (λ (y : Names). length (made y x (case_shape c))) of.names_are ∙ ap (λ (s : Shape). length (made names x s)) shape_is in
+    let eq : equal_cells (mattering (bits_of c.width (dont_care c.kind x))) ≡ equal_cells (mattering (bits_of size.width (dont_care kind x))) = λ j. equal_cells (mattering (bits_of (of.width_is j) (dont_care (of.kind_is j) x))) in
     let count = r.count c of in
-    more_short (length now.cells + (length (made names x size) + 1)) (length old.cells + match_cells c all) e (omega (arith, own, count)) short
+    more_short _ (length old.cells + match_cells c all) e (omega (arith, own, eq, count)) short
 
 pub lor-short : (names : Names) (kind : CaseKind) (size : Shape) (selector : List Bit) (all : List Expr) (k : ℕ) (x : Expr) (old now mid : Building) (test found : List Bit) (e : ElabError) → x ≡ get_or all k x → k < length all → Matched names kind size selector all (drop k all) old now test → ((c : Selection) → IsOf c names kind size → BuildsLabel c selector x now mid found) → IsShort (length mid.cells + 1) e → (c : Selection) → IsOf c names kind size → IsShort (length old.cells + match_cells c all) e
 lor-short names kind size selector all k x old now mid test found e at h m label short c of =

@@ -17,8 +17,7 @@ use Rattle.vlog_meaning.specs.Senses.{fault, or_else, is_empty}
 use Rattle.vlog_meaning.proofs.Blanks.{left_nil, right_nil, these_nil, those_nil}
 use Rattle.vlog_effects.specs.Laws.{item_steps}
 use Rattle.vlog_effects.specs.Latches.{targets, arms_targets}
-use Rattle.vlog_effects.specs.Expressions.{bits_of}
-use Rattle.vlog_effects.specs.Steps.{Steps, Selection, InNames, Item, Arms, labelled, steps_of, done_by, dont_care}
+use Rattle.vlog_effects.specs.Steps.{Steps, Selection, InNames, Item, Arms, labelled, steps_of, done_by}
 use Rattle.elab_expr.specs.Building.{Building, Grows, HasSignals}
 use Rattle.elab_expr.specs.Expressions.{refusals}
 use Rattle.elab_expr.specs.Refusals.{IsShort}
@@ -33,7 +32,7 @@ use Rattle.proc_muxes.specs.declared.change.Change.{Change}
 use Rattle.proc_muxes.specs.declared.open_arms.OpenArm.{OpenArm}
 use Rattle.proc_muxes.specs.Builds.{Work, BuildsMatch}
 use Rattle.proc_muxes.specs.Cases.{AreReadyItems, Opens, Opened}
-use Rattle.proc_muxes.specs.Clear.{mattering, AllMatter, AreClearLabels, IsClear, AreClear, AreHeld, IsReady}
+use Rattle.proc_muxes.specs.Clear.{AreClearLabels, IsClear, AreClear, AreHeld, IsReady}
 use Rattle.proc_muxes.specs.Counts.{match_cells, cells_of, items_cells}
 use Rattle.proc_muxes.specs.Shows.{Keeps, StandsBelow}
 use Rattle.proc_muxes.specs.Working.{Built, all_have, given_back}
@@ -71,14 +70,14 @@ labelled-more (j ∷ js) (suc k) i at h e = labelled-push j (take (suc k) js) �
 
 -- What one item asks.
 
-abbrev pub IsReadyItem : Names → CaseKind → Shape → CaseItem → Work → Type 0
-IsReadyItem names kind size i a = AreClearLabels names kind size (labels_in i) × IsReady names (steps_of (out-CaseItem i).body names) a
+abbrev pub IsReadyItem : Names → Shape → CaseItem → Work → Type 0
+IsReadyItem names size i a = AreClearLabels names size (labels_in i) × IsReady names (steps_of (out-CaseItem i).body names) a
 
-pub ready-item : (names : Names) (kind : CaseKind) (size : Shape) (items : List CaseItem) (n k : ℕ) (i : CaseItem) (a : Work) → i ≡ get_or items k i → k < n → k < length items → is_empty (labels_in i) ≡ false → AreReadyItems names kind size (take n items) a → IsReadyItem names kind size i a
-ready-item names kind size [] n k i a at h l e r = absurd (omega arith)
-ready-item names kind size (j ∷ js) zero k i a at h l e r = absurd (omega arith)
-ready-item names kind size (j ∷ js) (suc n) zero i a at h l e r = subst (λ (z : CaseItem). IsReadyItem names kind size z a) (sym at) (r.0 (ap (λ (z : CaseItem). is_empty (labels_in z)) (sym at) ∙ e))
-ready-item names kind size (j ∷ js) (suc n) (suc k) i a at h l e r = ready-item names kind size js n k i a at (omega arith) (omega arith) e r.1
+pub ready-item : (names : Names) (size : Shape) (items : List CaseItem) (n k : ℕ) (i : CaseItem) (a : Work) → i ≡ get_or items k i → k < n → k < length items → is_empty (labels_in i) ≡ false → AreReadyItems names size (take n items) a → IsReadyItem names size i a
+ready-item names size [] n k i a at h l e r = absurd (omega arith)
+ready-item names size (j ∷ js) zero k i a at h l e r = absurd (omega arith)
+ready-item names size (j ∷ js) (suc n) zero i a at h l e r = subst (λ (z : CaseItem). IsReadyItem names size z a) (sym at) (r.0 (ap (λ (z : CaseItem). is_empty (labels_in z)) (sym at) ∙ e))
+ready-item names size (j ∷ js) (suc n) (suc k) i a at h l e r = ready-item names size js n k i a at (omega arith) (omega arith) e r.1
 
 -- Opening.
 
@@ -111,8 +110,8 @@ arm-keeps p a m mid y b cs changed k g f same back =
     let t : Work = record m { building = mid } in
     keeps-again [] [] a m b k (keeps-again [] [] m t b (keeps-grown m mid g) (back-keeps p t y b cs f (back ∙ ap (λ (l : List Change). given_back l y) same)))
 
-pub body-ready : (names : Names) (kind : CaseKind) (size : Shape) (i : CaseItem) (body : Stmt) (a m : Work) (mid : Building) → body ≡ (out-CaseItem i).body → IsReadyItem names kind size i a → Keeps [] a m → Grows m.building mid → IsReady names (steps_of body names) (record m { building = mid })
-body-ready names kind size i body a m mid is r k g =
+pub body-ready : (names : Names) (size : Shape) (i : CaseItem) (body : Stmt) (a m : Work) (mid : Building) → body ≡ (out-CaseItem i).body → IsReadyItem names size i a → Keeps [] a m → Grows m.building mid → IsReady names (steps_of body names) (record m { building = mid })
+body-ready names size i body a m mid is r k g =
     let p : Steps = steps_of body names in
     ready-later names p [] a (record m { building = mid }) (keeps-again [] [] a m (record m { building = mid }) k (keeps-grown m mid g)) (subst (λ (s : Stmt). IsReady names (steps_of s names) a) (sym is) r.1)
 
@@ -228,31 +227,24 @@ case-allowed names xs e =
     let size : Shape = common_size names xs in
     allowed names size xs (these_nil (flat_map (wrong names) xs) (divisions (flat_map (zeros_at names size) xs)) e) (those_nil (flat_map (wrong names) xs) (divisions (flat_map (zeros_at names size) xs)) e)
 
-labels-clear : (names : Names) (kind : CaseKind) (size : Shape) (c : Selection) → IsOf c names kind size → (xs : List Expr) → AllAllowed names size xs → AllWithin names size xs → AllMatter c xs → AreClearLabels names kind size xs
-labels-clear names kind size c of [] a w m = tt
-labels-clear names kind size c of (x ∷ xs) a w m = (
-  record {
-    within = w.0;
-    allowed = a.0;
-    matters = subst (λ (s : ℕ). 1 ≤ mattering (bits_of s (dont_care kind x))) of.width_is (subst (λ (k : CaseKind). 1 ≤ mattering (bits_of c.width (dont_care k x))) of.kind_is m.0);
-  },
-  labels-clear names kind size c of xs a.1 w.1 m.1,
-)
+labels-clear : (names : Names) (size : Shape) (xs : List Expr) → AllAllowed names size xs → AllWithin names size xs → AreClearLabels names size xs
+labels-clear names size [] a w = tt
+labels-clear names size (x ∷ xs) a w = (record { within = w.0; allowed = a.0 }, labels-clear names size xs a.1 w.1)
 
 module _ (names : Names) (kind : CaseKind) (size : Shape) (c : Selection) (of : IsOf c names kind size) (last : Steps) (a : Work) (signals : HasSignals names a.building) (stands : StandsBelow a) (sized : AreSized names) where
   abbrev Arms-of : List Item → Arms
   Arms-of xs = arms_with c xs last
 
-  item-ready : (j : CaseItem) (xs : List Item) → AllAllowed names size (labels_in j) → AllWithin names size (labels_in j) → AreClear c (Arms-of (opened j ∷ xs)) → AreHeld a (arms_targets (Arms-of (opened j ∷ xs))) → IsReadyItem names kind size j a
+  item-ready : (j : CaseItem) (xs : List Item) → AllAllowed names size (labels_in j) → AllWithin names size (labels_in j) → AreClear (Arms-of (opened j ∷ xs)) → AreHeld a (arms_targets (Arms-of (opened j ∷ xs))) → IsReadyItem names size j a
   item-ready j xs al w clear held =
       let body : Steps = steps_of (out-CaseItem j).body c.names in
-      (labels-clear names kind size c of (labels_in j) al w clear.0, subst (λ (n : Names). IsReady names (steps_of (out-CaseItem j).body n) a) of.names_are (record { clear = clear.1; held = held-first a (targets body) (arms_targets (Arms-of xs)) held; signals = signals; stands = stands; sized = sized }))
+      (labels-clear names size (labels_in j) al w, subst (λ (n : Names). IsReady names (steps_of (out-CaseItem j).body n) a) of.names_are (record { clear = clear.0; held = held-first a (targets body) (arms_targets (Arms-of xs)) held; signals = signals; stands = stands; sized = sized }))
 
-  one-ready : (j : CaseItem) (b : Bool) (xs : List Item) (ys : List CaseItem) → is_empty (labels_in j) ≡ b → AllAllowed names size (labels_in j) → AllWithin names size (labels_in j) → (AreClear c (Arms-of xs) → AreHeld a (arms_targets (Arms-of xs)) → AreReadyItems names kind size ys a) → AreClear c (Arms-of (if b then xs else opened j ∷ xs)) → AreHeld a (arms_targets (Arms-of (if b then xs else opened j ∷ xs))) → AreReadyItems names kind size (j ∷ ys) a
+  one-ready : (j : CaseItem) (b : Bool) (xs : List Item) (ys : List CaseItem) → is_empty (labels_in j) ≡ b → AllAllowed names size (labels_in j) → AllWithin names size (labels_in j) → (AreClear (Arms-of xs) → AreHeld a (arms_targets (Arms-of xs)) → AreReadyItems names size ys a) → AreClear (Arms-of (if b then xs else opened j ∷ xs)) → AreHeld a (arms_targets (Arms-of (if b then xs else opened j ∷ xs))) → AreReadyItems names size (j ∷ ys) a
   one-ready j true xs ys is al w rest clear held = (λ e. let no : true ≡ false = sym is ∙ e in cc, rest clear held)
-  one-ready j false xs ys is al w rest clear held = (λ e. item-ready j xs al w clear held, rest clear.2 (held-next a (targets (steps_of (out-CaseItem j).body c.names)) (arms_targets (Arms-of xs)) held))
+  one-ready j false xs ys is al w rest clear held = (λ e. item-ready j xs al w clear held, rest clear.1 (held-next a (targets (steps_of (out-CaseItem j).body c.names)) (arms_targets (Arms-of xs)) held))
 
-  pub items-ready : (items : List CaseItem) (n : ℕ) → AllAllowed names size (flat_map labels_in items) → LabelsWithin names size items → AreClear c (Arms-of (labelled (map item_steps (take n items)))) → AreHeld a (arms_targets (Arms-of (labelled (map item_steps (take n items))))) → AreReadyItems names kind size (take n items) a
+  pub items-ready : (items : List CaseItem) (n : ℕ) → AllAllowed names size (flat_map labels_in items) → LabelsWithin names size items → AreClear (Arms-of (labelled (map item_steps (take n items)))) → AreHeld a (arms_targets (Arms-of (labelled (map item_steps (take n items))))) → AreReadyItems names size (take n items) a
   items-ready [] zero al w clear held = tt
   items-ready [] (suc n) al w clear held = tt
   items-ready (j ∷ js) zero al w clear held = tt
@@ -261,16 +253,16 @@ module _ (names : Names) (kind : CaseKind) (size : Shape) (c : Selection) (of : 
       one-ready j (is_empty (labels_in j)) (labelled (map item_steps (take n js))) (take n js) refl
       (allowed-first names size (labels_in j) (flat_map labels_in js) al) w.0
       (items-ready js n (allowed-next names size (labels_in j) (flat_map labels_in js) al) w.1)
-      (subst (λ (l : List Item). AreClear c (Arms-of l)) whole clear)
+      (subst (λ (l : List Item). AreClear (Arms-of l)) whole clear)
       (subst (λ (l : List Item). AreHeld a (arms_targets (Arms-of l))) whole held)
 
-  pub last-clear : (xs : List Item) → AreClear c (Arms-of xs) → IsClear last
+  pub last-clear : (xs : List Item) → AreClear (Arms-of xs) → IsClear last
   last-clear [] h = h
-  last-clear (x ∷ xs) h = last-clear xs h.2
+  last-clear (x ∷ xs) h = last-clear xs h.1
 
   pub last-held : (xs : List Item) → AreHeld a (arms_targets (Arms-of xs)) → AreHeld a (targets last)
   last-held [] h = h
   last-held (x ∷ xs) h = last-held xs (held-next a (targets (x.body c.names)) (arms_targets (Arms-of xs)) h)
 
-  pub last-ready : (xs : List Item) → AreClear c (Arms-of xs) → AreHeld a (arms_targets (Arms-of xs)) → IsReady names last a
+  pub last-ready : (xs : List Item) → AreClear (Arms-of xs) → AreHeld a (arms_targets (Arms-of xs)) → IsReady names last a
   last-ready xs clear held = record { clear = last-clear xs clear; held = last-held xs held; signals = signals; stands = stands; sized = sized }

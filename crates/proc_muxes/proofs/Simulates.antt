@@ -23,13 +23,13 @@ use Rattle.vlog_effects.proofs.Bools.{or-left, or-right, and-left, and-right, or
 use Rattle.elab_expr.specs.Building.{Building, RunsIn, Grows, AllBelow, fresh_bits, signal, store}
 use Rattle.elab_expr.specs.Evaluates.{Evaluates}
 use Rattle.elab_expr.proofs.Parts.{runs_before, store_same, below_later, grows_again}
-use Rattle.proc_muxes.specs.Builds.{Work, held, with_held, Index, variable_index, BuildsIndex, BuildsIndices, PutsBits, PutsPart, PutsParts, BuildsAssign, BuildsBit, BuildsTest, stands, distinct, choice_of, choices, Chooses, ChoosesAll, restored, kept, case_shape, BuildsLabel, BuildsMore, BuildsMatch, BuildsArms}
+use Rattle.proc_muxes.specs.Builds.{Work, held, with_held, Index, variable_index, BuildsIndex, BuildsIndices, PutsBits, PutsPart, PutsParts, BuildsAssign, BuildsBit, BuildsTest, stands, distinct, choice_of, choices, Chooses, ChoosesAll, restored, kept, mattering, case_shape, BuildsLabel, BuildsMore, BuildsMatch, BuildsArms}
 use Rattle.proc_muxes.specs.Shows.{Shows, Conforms, Keeps}
 use Rattle.proc_muxes.specs.Laws.{BuildingKeeps, BuildsTheEffect, LeavesTheEffect}
 use Rattle.proc_muxes.proofs.Bits.{number-same, values-are, take-bits_of, length-bits_of, values-written, below-take, below-drop}
 use Rattle.proc_muxes.proofs.Frames.{bit_same-true, number-true, number-false, signal-with, signal-grown, nets-added, runs-before, runs-held, stands-append, stands-distinct, held-grown, signals-grown}
-use Rattle.proc_muxes.proofs.Keeping.{grows-index, grows-indices, grows-bit, grows-label, grows-more, grows-match, keeps-part, keeps-parts, assigned-grows, assigned-below, keeps-choices, keeps, keeps-arms}
-use Rattle.proc_muxes.proofs.Gates.{mux-values, ror-values, eq-values, lor-values, kept-agree}
+use Rattle.proc_muxes.proofs.Keeping.{grows-index, grows-indices, grows-bit, grows-equal, grows-label, grows-more, grows-match, keeps-part, keeps-parts, assigned-grows, assigned-below, keeps-choices, keeps, keeps-arms}
+use Rattle.proc_muxes.proofs.Gates.{mux-values, ror-values, equal-values, lor-values, kept-length, kept-agree}
 use Rattle.proc_muxes.proofs.Puts.{put-values}
 
 -- Updates.
@@ -280,9 +280,10 @@ label-bit nets c selector x a b test vals f long is runs same =
     let mid : Building = f.0 in
     let bits : List Bit = f.1 in
     let ignored : List Bool = bits_of c.width (dont_care c.kind x) in
-    let is_label : values nets bits ≡ sized_bits c vals x = evaluated-bits nets c.names x (case_shape c) a mid bits vals f.2 (runs_before mid b nets f.3.0 runs) same in
-    let agrees : nat_eq (number (values nets (kept ignored selector))) (number (values nets (kept ignored bits))) ≡ agree ignored (values nets selector) (values nets bits) = kept-agree nets c.width ignored selector bits (length-bits_of c.width (dont_care c.kind x)) long f.2.long in
-    ap (values nets) f.4 ∙ eq-values mid b (kept ignored selector) (kept ignored bits) (first_token x) nets f.3 runs ∙ ap (λ (t : Bool). t ∷ []) (agrees ∙ rw (is, is_label) refl)
+    let is_label : values nets bits ≡ sized_bits c vals x = evaluated-bits nets c.names x (case_shape c) a mid bits vals f.2 (runs_before mid b nets (grows-equal (mattering ignored) (kept ignored selector) (kept ignored bits) (first_token x) mid b test f.3) runs) same in
+    let size : length ignored ≡ c.width = length-bits_of c.width (dont_care c.kind x) in
+    let agrees : nat_eq (number (values nets (kept ignored selector))) (number (values nets (kept ignored bits))) ≡ agree ignored (values nets selector) (values nets bits) = kept-agree nets c.width ignored selector bits size long f.2.long in
+    equal-values (mattering ignored) (kept ignored selector) (kept ignored bits) (first_token x) mid b test nets f.3 (kept-length ignored selector (size ∙ sym long)) (kept-length ignored bits (size ∙ sym f.2.long)) runs ∙ ap (λ (t : Bool). t ∷ []) (agrees ∙ rw (is, is_label) refl)
 
 or-false : (x : Bool) → (x || false) ≡ x
 or-false true = refl

@@ -1,7 +1,8 @@
 -- What a process adds to a builder, in the order in which it is added (IEEE 1364-2005, 9.2 to 9.5).
-use Rattle.std.specs.Prelude.{◌≡◌, ◌⊎◌, ℕ, ◌<◌, Bool, true, false, ◌&&◌, ◌||◌, List, [], ◌∷◌, ◌++◌, map, take, drop, length, Option, Some, None, nat_eq, if◌then◌else◌}
+use Rattle.std.specs.Prelude.{◌≡◌, ◌⊎◌, ℕ, zero, suc, ◌+◌, ◌<◌, Bool, true, false, ◌&&◌, ◌||◌, List, [], ◌∷◌, ◌++◌, map, take, drop, length, Option, Some, None, nat_eq, if◌then◌else◌}
 use Rattle.mcy_base.specs.declared.span.Span.{Span}
 use Rattle.netlist_core.specs.declared.bit.Bit.{Bit}
+use Rattle.netlist_core.specs.declared.bit.Bit.TheVariants.{Fixed}
 use Rattle.netlist_core.specs.declared.cell.CellKind.{CellKind}
 use Rattle.netlist_core.specs.declared.cell.CellKind.TheVariants.{Mux, Put, Ror, Eq, Lor}
 use Rattle.vlog_syntax.specs.Places.{first_token}
@@ -152,16 +153,28 @@ kept (i ∷ ignored) [] = []
 kept (true ∷ ignored) (x ∷ xs) = kept ignored xs
 kept (false ∷ ignored) (x ∷ xs) = x ∷ kept ignored xs
 
+-- how many bits of a label matter, where the others are marked
+abbrev pub mattering : List Bool → ℕ
+mattering [] = 0
+mattering (true ∷ ignored) = mattering ignored
+mattering (false ∷ ignored) = 1 + mattering ignored
+
 -- the size and sign to which the selector and the labels of a case are brought
 abbrev pub case_shape : Selection → Shape
 case_shape c = record { width = c.width; is_signed = c.is_signed }
 
--- a label's cells and its `eq` with the selector
+-- The bit that is 1 where these bits, of which there are so many on both sides, are equal: an `eq`. Where there are none it
+-- is the constant 1, and no cell is added.
+abbrev pub BuildsEqual : ℕ → List Bit → List Bit → Span → Building → Building → List Bit → Type 0
+BuildsEqual zero xs ys at a b test = (b ≡ a) × (test ≡ Fixed true ∷ [])
+BuildsEqual (suc n) xs ys at a b test = AddsCell Eq (xs ∷ ys ∷ []) 1 at a b × (test ≡ fresh_bits a.nets 1)
+
+-- a label's cells, and the bit that is 1 where those of its bits that matter are the selector's
 abbrev pub BuildsLabel : Selection → List Bit → Expr → Building → Building → List Bit → Type 0
 BuildsLabel c selector x a b test =
     let ignored = bits_of c.width (dont_care c.kind x) in
     (mid : Building) × (bits : List Bit) × Evaluates c.names x (case_shape c) a mid bits ×
-    AddsCell Eq (kept ignored selector ∷ kept ignored bits ∷ []) 1 (first_token x) mid b × (test ≡ fresh_bits mid.nets 1)
+    BuildsEqual (mattering ignored) (kept ignored selector) (kept ignored bits) (first_token x) mid b test
 
 -- from the second label on joined to the ones before by `lor`
 abbrev pub BuildsMore : Selection → List Bit → List Expr → List Bit → Building → Building → List Bit → Type 0

@@ -2,7 +2,6 @@
 use Rattle.std.specs.Prelude.{◌≡◌, false, List, [], ◌∷◌, ◌++◌}
 use Rattle.netlist_core.specs.declared.bit.Bit.{Bit}
 use Rattle.vlog_syntax.specs.declared.stmt.CaseItem.{CaseItem, out-CaseItem}
-use Rattle.vlog_syntax.specs.declared.stmt.CaseKind.{CaseKind}
 use Rattle.vlog_meaning.specs.declared.shapes.Shape.{Shape}
 use Rattle.vlog_meaning.specs.Scopes.{Names}
 use Rattle.vlog_meaning.specs.Senses.{is_empty}
@@ -15,11 +14,11 @@ use Rattle.proc_muxes.specs.Clear.{AreClearLabels, IsReady}
 use Rattle.proc_muxes.specs.Working.{Built, all_have, given_back}
 
 -- what the code of arms asks of each item with labels
-abbrev pub AreReadyItems : Names → CaseKind → Shape → List CaseItem → Work → Type 0
-AreReadyItems names kind size [] a = Unit {0}
-AreReadyItems names kind size (i ∷ more) a =
-    (is_empty (labels_in i) ≡ false → AreClearLabels names kind size (labels_in i) × IsReady names (steps_of (out-CaseItem i).body names) a) ×
-    AreReadyItems names kind size more a
+abbrev pub AreReadyItems : Names → Shape → List CaseItem → Work → Type 0
+AreReadyItems names size [] a = Unit {0}
+AreReadyItems names size (i ∷ more) a =
+    (is_empty (labels_in i) ≡ false → AreClearLabels names size (labels_in i) × IsReady names (steps_of (out-CaseItem i).body names) a) ×
+    AreReadyItems names size more a
 
 -- An arm is open: its labels are matched, its body is built, and each variable has got back what it had before.
 pub record Opens (c : Selection) (selector : List Bit) (i : Item) (arm : OpenArm) (a b : Work) : Type 0 where

@@ -1,13 +1,11 @@
 -- Statements in which nothing is refused, and variables that have bits for them.
-use Rattle.std.specs.Prelude.{◌≡◌, ◌<◌, ◌≤◌, ℕ, ◌+◌, Bool, true, false, List, [], ◌∷◌, length, Some}
+use Rattle.std.specs.Prelude.{◌≡◌, ◌<◌, ◌≤◌, List, [], ◌∷◌, length, Some}
 use Rattle.vlog_syntax.specs.declared.expr.Expr.{Expr}
-use Rattle.vlog_syntax.specs.declared.stmt.CaseKind.{CaseKind}
 use Rattle.vlog_meaning.specs.declared.shapes.Shape.{Shape}
 use Rattle.vlog_meaning.specs.Scopes.{Names}
 use Rattle.vlog_meaning.specs.Senses.{sense, assigned, IsWhole, IsContext}
-use Rattle.vlog_effects.specs.Expressions.{bits_of}
 use Rattle.vlog_effects.specs.LeftSides.{Select, Whole, Bit as BitOf, Range, Indexed, Part, Vector, parts_of, part_vector, parts_width, select_width}
-use Rattle.vlog_effects.specs.Steps.{Assigning, Selection, Steps, Done, Assign, Choose, Case, Refuse, Arms, Otherwise, Arm, dont_care}
+use Rattle.vlog_effects.specs.Steps.{Assigning, Steps, Done, Assign, Choose, Case, Refuse, Arms, Otherwise, Arm}
 use Rattle.vlog_effects.specs.Latches.{Target, targets}
 use Rattle.elab_expr.specs.Building.{HasSignals}
 use Rattle.elab_expr.specs.Expressions.{refusals}
@@ -57,39 +55,27 @@ AreHeld a (x ∷ more) = IsHeld a x × AreHeld a more
 
 -- Labels of a case.
 
--- how many bits of a label matter, where the others are marked
-abbrev pub mattering : List Bool → ℕ
-mattering [] = 0
-mattering (true ∷ ignored) = mattering ignored
-mattering (false ∷ ignored) = 1 + mattering ignored
-
--- a label in which nothing is refused at the size of its case, and of which some bit matters
-pub record IsClearLabel (names : Names) (kind : CaseKind) (size : Shape) (x : Expr) : Type 0 where
+-- a label in which nothing is refused at the size of its case
+pub record IsClearLabel (names : Names) (size : Shape) (x : Expr) : Type 0 where
   pub within : IsContext (sense names x).shape size
   pub allowed : refusals names x size ≡ []
-  pub matters : 1 ≤ mattering (bits_of size.width (dont_care kind x))
 
-abbrev pub AreClearLabels : Names → CaseKind → Shape → List Expr → Type 0
-AreClearLabels names kind size [] = Unit {0}
-AreClearLabels names kind size (x ∷ more) = IsClearLabel names kind size x × AreClearLabels names kind size more
+abbrev pub AreClearLabels : Names → Shape → List Expr → Type 0
+AreClearLabels names size [] = Unit {0}
+AreClearLabels names size (x ∷ more) = IsClearLabel names size x × AreClearLabels names size more
 
--- some bit of each label matters
-abbrev pub AllMatter : Selection → List Expr → Type 0
-AllMatter c [] = Unit {0}
-AllMatter c (x ∷ more) = (1 ≤ mattering (bits_of c.width (dont_care c.kind x))) × AllMatter c more
-
--- Statements in which nothing is refused. A label of which no bit matters always matches, so its item is no arm.
+-- Statements in which nothing is refused.
 abbrev mutual
   pub IsClear : Steps → Type 0
   IsClear Done = Unit {0}
   IsClear (Assign s more) = CanAssign s × IsClear more
   IsClear (Choose at c then_part else_part more) = (refusals c.names c.condition (sense c.names c.condition).shape ≡ []) × IsClear then_part × IsClear else_part × IsClear more
-  IsClear (Case c arms more) = (case_faults c.names (c.selector ∷ c.labels) ≡ []) × AreClear c arms × IsClear more
+  IsClear (Case c arms more) = (case_faults c.names (c.selector ∷ c.labels) ≡ []) × AreClear arms × IsClear more
   IsClear (Refuse x more) = ⊥
 
-  pub AreClear : Selection → Arms → Type 0
-  AreClear c (Otherwise body) = IsClear body
-  AreClear c (Arm at labels body others) = AllMatter c labels × IsClear body × AreClear c others
+  pub AreClear : Arms → Type 0
+  AreClear (Otherwise body) = IsClear body
+  AreClear (Arm at labels body others) = IsClear body × AreClear others
 
 -- what the code of statements asks of the builder and the variables
 pub record IsReady (names : Names) (steps : Steps) (a : Work) : Type 0 where

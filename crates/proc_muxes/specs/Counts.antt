@@ -1,16 +1,17 @@
 -- How many cells statements make.
-use Rattle.std.specs.Prelude.{ℕ, ◌+◌, List, [], ◌∷◌, ◌++◌, length, Option, Some, None}
+use Rattle.std.specs.Prelude.{ℕ, zero, suc, ◌+◌, List, [], ◌∷◌, ◌++◌, length, Option, Some, None}
 use Rattle.vlog_syntax.specs.declared.expr.Expr.{Expr}
 use Rattle.vlog_meaning.specs.Scopes.{Names}
 use Rattle.vlog_meaning.specs.Senses.{sense, assigned}
+use Rattle.vlog_effects.specs.Expressions.{bits_of}
 use Rattle.vlog_effects.specs.LeftSides.{Part, parts_of, parts_width}
-use Rattle.vlog_effects.specs.Steps.{Assigning, Selection, Steps, Done, Assign, Choose, Case, Refuse, Arms, Otherwise, Arm, Item}
+use Rattle.vlog_effects.specs.Steps.{Assigning, Selection, Steps, Done, Assign, Choose, Case, Refuse, Arms, Otherwise, Arm, Item, dont_care}
 use Rattle.vlog_effects.specs.Latches.{targets, arms_targets}
 use Rattle.elab_expr.specs.Made.{made}
 use Rattle.proc_muxes.specs.declared.piece.Piece.{Piece}
 use Rattle.proc_muxes.specs.declared.piece.Place.{Place}
 use Rattle.proc_muxes.specs.declared.piece.Place.TheVariants.{From, At}
-use Rattle.proc_muxes.specs.Builds.{Index, variable_index, distinct, case_shape}
+use Rattle.proc_muxes.specs.Builds.{Index, variable_index, distinct, case_shape, mattering}
 use Rattle.proc_muxes.specs.Working.{test_cells}
 
 -- the cells of an index
@@ -46,14 +47,23 @@ assign_cells s =
     let ps = parts_of s.left in
     length (made s.names s.right (assigned (sense s.names s.right) (parts_width s.names ps))) + (indices_cells s.names ps + puts_cells s.names ps)
 
--- each label has an `eq`, and from the second on a `lor`
+-- bits are compared by one `eq`, if there are any
+abbrev pub equal_cells : ℕ → ℕ
+equal_cells zero = 0
+equal_cells (suc n) = 1
+
+-- a label's own cells, and its `eq`
+abbrev pub label_cells : Selection → Expr → ℕ
+label_cells c x = length (made c.names x (case_shape c)) + equal_cells (mattering (bits_of c.width (dont_care c.kind x)))
+
+-- from the second label on there is a `lor`
 abbrev pub labels_cells : Selection → List Expr → ℕ
 labels_cells c [] = 0
-labels_cells c (x ∷ more) = length (made c.names x (case_shape c)) + (1 + (1 + labels_cells c more))
+labels_cells c (x ∷ more) = label_cells c x + (1 + labels_cells c more)
 
 abbrev pub match_cells : Selection → List Expr → ℕ
 match_cells c [] = 0
-match_cells c (x ∷ more) = length (made c.names x (case_shape c)) + (1 + labels_cells c more)
+match_cells c (x ∷ more) = label_cells c x + labels_cells c more
 
 -- A choice has one mux for each variable that a part of it assigns.
 abbrev mutual

@@ -1,25 +1,27 @@
 //! The bit that is 1 where one of the labels of an item matches the selector of a case (IEEE 1364-2005, 9.5).
 //!
-//! Each label has its own cells, and an `eq` of those bits that matter; from the second label on a `lor` joins it to the ones before.
-ghost use Rattle.std.specs.Prelude.{◌≡◌, ◌+◌, ◌<◌, ◌≤◌, [], ◌∷◌, length, IfOk, IfErr};
+//! Each label has its own cells, and an `eq` of those bits that matter, or the constant 1 where none does; from the second label
+//! on a `lor` joins it to the ones before.
+ghost use Rattle.std.specs.Prelude.{◌≡◌, ◌+◌, ◌<◌, ◌≤◌, true, [], ◌∷◌, length, IfOk, IfErr};
+ghost use Rattle.netlist_core.specs.declared.bit.Bit.TheVariants.{Fixed};
 ghost use Rattle.netlist_core.specs.declared.cell.CellKind.TheVariants.{Eq, Lor};
 ghost use Rattle.vlog_meaning.specs.Operators.{IsSized};
 ghost use Rattle.vlog_meaning.specs.Scopes.{names_of};
 ghost use Rattle.vlog_effects.specs.Expressions.{bits_of};
-ghost use Rattle.vlog_effects.specs.Steps.{Selection};
+ghost use Rattle.vlog_effects.specs.Steps.{Selection, dont_care};
 ghost use Rattle.elab_expr.specs.Building.{Grows, AllBelow, HasSignals, fresh_bits};
 ghost use Rattle.elab_expr.specs.Made.{made};
 ghost use Rattle.elab_expr.specs.Refusals.{IsShort};
 ghost use Rattle.case_arms.specs.Naming.{IsOf};
-ghost use Rattle.proc_muxes.specs.Builds.{AddsCell, kept, BuildsLabel, BuildsMatch};
+ghost use Rattle.proc_muxes.specs.Builds.{AddsCell, kept, mattering, BuildsEqual, BuildsLabel, BuildsMatch};
 ghost use Rattle.proc_muxes.specs.Clear.{IsClearLabel, AreClearLabels};
-ghost use Rattle.proc_muxes.specs.Counts.{match_cells};
+ghost use Rattle.proc_muxes.specs.Counts.{equal_cells, match_cells};
 
 use crate::variables::width_of;
 use elab_expr::{Builder, ElabError, binary_cell, build_expr};
 use elab_proc::dont_care;
 use mcy_base::Span;
-use netlist_core::{BitList, CellKind};
+use netlist_core::{Bit, BitList, CellKind};
 use std::alloc::{AllocError, Global};
 use vlog_meaning::{Scope, Shape};
 use vlog_syntax::{BinaryOperator, CaseKind, Expr};
@@ -68,6 +70,35 @@ fn eq_cell(builder: &mut Builder, a: BitList, b: BitList, at: Span) -> Result<Bi
     Ok(binary_cell(builder, op, CellKind::Eq, shape, a, shape, b, at)?)
 }
 
+/// The bit 1.
+fn bit_one(alloc: Global) -> Result<BitList, AllocError>
+    ensures { IfOk result (λ bits. bits ≡ Fixed true ∷ []) }
+{
+    let mut bits = BitList::from_vec(Vec::new(alloc));
+    bits.push(Bit::Fixed(true))?;
+    Ok(bits)
+}
+
+/// The bit that is 1 where bits are equal, of which there are as many on both sides: an `eq`, if there are any.
+fn build_equal(
+    builder: &mut Builder,
+    a: BitList,
+    b: BitList,
+    at: Span,
+) -> Result<BitList, ElabError>
+    requires narrow { length a ≤ 128 }
+    requires long { length b ≡ length a }
+    requires below_a { AllBelow builder.old.nets a }
+    requires below_b { AllBelow builder.old.nets b }
+    ensures built { IfOk result (λ test. BuildsEqual (length a) a b at builder.old builder.new test) }
+    ensures short { IfErr result (λ e. IsShort (length builder.old.cells + equal_cells (length a)) e) }
+{
+    if a.as_slice().is_empty() {
+        return Ok(bit_one(builder.alloc())?);
+    }
+    eq_cell(builder, a, b, at)
+}
+
 /// The cell of 'one of both', of one bit each.
 fn lor_cell(builder: &mut Builder, a: BitList, b: BitList, at: Span) -> Result<BitList, ElabError>
     requires one_a { length a ≡ 1 }
@@ -86,7 +117,7 @@ fn lor_cell(builder: &mut Builder, a: BitList, b: BitList, at: Span) -> Result<B
     Ok(binary_cell(builder, op, CellKind::Lor, shape, a, shape, b, at)?)
 }
 
-/// Adds the cells of a label, and its `eq` with the selector.
+/// Adds the cells of a label, and its `eq` with the selector: no `eq` where none of its bits matters, since it always matches then.
 fn build_label(
     builder: &mut Builder,
     scope: &Scope,
@@ -97,12 +128,12 @@ fn build_label(
     requires long { length selector.now.bits ≡ selector.now.size.width }
     requires below { AllBelow builder.old.nets selector.now.bits }
     requires signals { HasSignals (names_of scope.now) builder.old }
-    requires clear { IsClearLabel (names_of scope.now) selector.now.kind selector.now.size label.now }
+    requires clear { IsClearLabel (names_of scope.now) selector.now.size label.now }
     ensures built { IfOk result (λ test. (c : Selection) → IsOf c (names_of scope.now) selector.now.kind selector.now.size → BuildsLabel c selector.now.bits label.now builder.old builder.new test) }
     ensures grows { IfOk result (λ test. Grows builder.old builder.new) }
     ensures one { IfOk result (λ test. length test ≡ 1) }
     ensures below { IfOk result (λ test. AllBelow builder.new.nets test) }
-    ensures short { IfErr result (λ e. IsShort (length builder.old.cells + (length (made (names_of scope.now) label.now selector.now.size) + 1)) e) }
+    ensures short { IfErr result (λ e. IsShort (length builder.old.cells + (length (made (names_of scope.now) label.now selector.now.size) + equal_cells (mattering (bits_of selector.now.size.width (dont_care selector.now.kind label.now))))) e) }
 {
     let size = selector.size;
     let bits = build_expr(builder, label, scope, size.width, size.is_signed)?;
@@ -110,7 +141,7 @@ fn build_label(
     let alloc = builder.alloc();
     let left = kept(alloc, ignored, &selector.bits)?;
     let right = kept(alloc, ignored, &bits)?;
-    Ok(eq_cell(builder, left, right, label.first_token())?)
+    Ok(build_equal(builder, left, right, label.first_token())?)
 }
 
 /// Adds the cells of the labels of an item, and gives the bit that is 1 where one of them matches.
@@ -125,7 +156,7 @@ pub(crate) fn build_match(
     requires long { length selector.now.bits ≡ selector.now.size.width }
     requires below { AllBelow builder.old.nets selector.now.bits }
     requires signals { HasSignals (names_of scope.now) builder.old }
-    requires clear { AreClearLabels (names_of scope.now) selector.now.kind selector.now.size labels.now }
+    requires clear { AreClearLabels (names_of scope.now) selector.now.size labels.now }
     ensures built { IfOk result (λ test. (c : Selection) → IsOf c (names_of scope.now) selector.now.kind selector.now.size → BuildsMatch c selector.now.bits labels.now builder.old builder.new test) }
     ensures grows { IfOk result (λ test. Grows builder.old builder.new) }
     ensures one { IfOk result (λ test. length test ≡ 1) }

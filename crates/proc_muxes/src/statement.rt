@@ -179,7 +179,7 @@ fn build_arms(
     requires long { length selector.now.bits ≡ selector.now.size.width }
     requires below { AllBelow builder.old.nets selector.now.bits }
     requires within { before ≤ length items.now }
-    requires ready { AreReadyItems (names_of scope.old) selector.now.kind selector.now.size (take before items.now) (work builder.old variables.old) }
+    requires ready { AreReadyItems (names_of scope.old) selector.now.size (take before items.now) (work builder.old variables.old) }
     requires signals { HasSignals (names_of scope.old) builder.old }
     requires stands { StandsBelow (work builder.old variables.old) }
     requires places { length variables.old ≡ length builder.old.signals }

@@ -16,7 +16,7 @@ pub build_label-requires-in-loop-place-clause-signals : goal.build_label-require
 build_label-requires-in-loop-place-clause-signals c = signals_kept (names_of c.args.scope.now) c.args.builder.now c.loop-place.builder c.loop-place.invariant.grows c.requires.signals
 
 pub build_label-requires-in-loop-place-clause-clear : goal.build_label-requires-in-loop-place-clause-clear
-build_label-requires-in-loop-place-clause-clear c = clear-at (names_of c.args.scope.now) c.args.selector.now.kind c.args.selector.now.size c.args.labels.now c.loop-place.place c.index-labels-place.result c.index-labels-place.is (omega arith) c.requires.clear
+build_label-requires-in-loop-place-clause-clear c = clear-at (names_of c.args.scope.now) c.args.selector.now.size c.args.labels.now c.loop-place.place c.index-labels-place.result c.index-labels-place.is (omega arith) c.requires.clear
 
 pub returns-in_err-found-clause-short : goal.returns-in_err-found-clause-short
 returns-in_err-found-clause-short c = same_err c.from_residual-in_err-found.result c.in_err-found.field-0.0 _ c.from_residual-in_err-found.ensures.1 (label-short (names_of c.args.scope.now) c.args.selector.now.kind c.args.selector.now.size c.args.selector.now.bits c.args.labels.now c.loop-place.place c.index-labels-place.result c.args.builder.now c.loop-place.builder c.loop-place.test c.in_err-found.field-0.0 c.index-labels-place.is (omega arith) c.loop-place.invariant c.in_err-found.ensures.short)

@@ -137,19 +137,19 @@ pub build_arms-build_match-requires-clause-below : goal.build_arms-build_match-r
 build_arms-build_match-requires-clause-below t c = below_later c.args.builder.now.nets c.loop-place.builder.nets c.args.selector.now.bits (nets-added c.args.builder.now c.loop-place.builder c.loop-place.invariant.keeps.adds) c.requires.below
 
 pub build_arms-build_match-requires-clause-clear : goal.build_arms-build_match-requires-clause-clear
-build_arms-build_match-requires-clause-clear t c = rw c.as_slice-labels.ensures (subst (λ (n : Names). AreClearLabels n c.args.selector.now.kind c.args.selector.now.size (labels_in c.index-items-place.result)) (sym c.loop-place.invariant.kept) (ready-item (names_of c.args.scope.now) c.args.selector.now.kind c.args.selector.now.size c.args.items.now c.args.before c.loop-place.place c.index-items-place.result (work c.args.builder.now c.args.variables.now) c.index-items-place.is (omega arith) (omega arith) (sym c.is_default.ensures ∙ c.if-is_default.false) c.requires.ready).0)
+build_arms-build_match-requires-clause-clear t c = rw c.as_slice-labels.ensures (subst (λ (n : Names). AreClearLabels n c.args.selector.now.size (labels_in c.index-items-place.result)) (sym c.loop-place.invariant.kept) (ready-item (names_of c.args.scope.now) c.args.selector.now.size c.args.items.now c.args.before c.loop-place.place c.index-items-place.result (work c.args.builder.now c.args.variables.now) c.index-items-place.is (omega arith) (omega arith) (sym c.is_default.ensures ∙ c.if-is_default.false) c.requires.ready).0)
 
 pub build_arms-returns-in_err-test-clause-short : goal.build_arms-returns-in_err-test-clause-short
 build_arms-returns-in_err-test-clause-short t c = same_err c.from_residual.result c.in_err-test.field-0.0 _ c.from_residual.ensures.1 (λ s of. match-short s c.args.selector.now.bits c.args.items.now c.args.before c.loop-place.place c.index-items-place.result (work c.args.builder.now c.args.variables.now) (work c.loop-place.builder c.loop-place.variables) c.loop-place.arms c.as_slice-labels.result.now c.in_err-test.field-0.0 c.as_slice-labels.ensures c.index-items-place.is (omega arith) (omega arith) (sym c.is_default.ensures ∙ c.if-is_default.false) (c.loop-place.invariant.opened s of) (c.in_err-test.ensures.short s (subst (λ (n : Names). IsOf s n c.args.selector.now.kind c.args.selector.now.size) (sym c.loop-place.invariant.kept) of)))
 
 pub build_arms-build_statement-requires : goal.build_arms-build_statement-requires
-build_arms-build_statement-requires t c = (search (rules, the_lemmas), (subst (λ (n : Names). IsReady n (steps_of c.get-body.result.now n) (work c.build_match.new.builder c.loop-place.variables)) (sym c.loop-place.invariant.kept) (body-ready (names_of c.args.scope.now) c.args.selector.now.kind c.args.selector.now.size c.index-items-place.result c.get-body.result.now (work c.args.builder.now c.args.variables.now) (work c.loop-place.builder c.loop-place.variables) c.build_match.new.builder c.get-body.ensures (ready-item (names_of c.args.scope.now) c.args.selector.now.kind c.args.selector.now.size c.args.items.now c.args.before c.loop-place.place c.index-items-place.result (work c.args.builder.now c.args.variables.now) c.index-items-place.is (omega arith) (omega arith) (sym c.is_default.ensures ∙ c.if-is_default.false) c.requires.ready) c.loop-place.invariant.keeps c.in_ok-test.ensures.grows), grown-places (work c.loop-place.builder c.loop-place.variables) c.build_match.new.builder (length c.loop-place.variables) c.in_ok-test.ensures.grows c.loop-place.invariant.places))
+build_arms-build_statement-requires t c = (search (rules, the_lemmas), (subst (λ (n : Names). IsReady n (steps_of c.get-body.result.now n) (work c.build_match.new.builder c.loop-place.variables)) (sym c.loop-place.invariant.kept) (body-ready (names_of c.args.scope.now) c.args.selector.now.size c.index-items-place.result c.get-body.result.now (work c.args.builder.now c.args.variables.now) (work c.loop-place.builder c.loop-place.variables) c.build_match.new.builder c.get-body.ensures (ready-item (names_of c.args.scope.now) c.args.selector.now.size c.args.items.now c.args.before c.loop-place.place c.index-items-place.result (work c.args.builder.now c.args.variables.now) c.index-items-place.is (omega arith) (omega arith) (sym c.is_default.ensures ∙ c.if-is_default.false) c.requires.ready) c.loop-place.invariant.keeps c.in_ok-test.ensures.grows), grown-places (work c.loop-place.builder c.loop-place.variables) c.build_match.new.builder (length c.loop-place.variables) c.in_ok-test.ensures.grows c.loop-place.invariant.places))
 
 pub build_arms-returns-in_err-changes-clause-short : goal.build_arms-returns-in_err-changes-clause-short
 build_arms-returns-in_err-changes-clause-short t c = same_err c.from_residual-in_err-changes.result c.in_err-changes.field-0.0 _ c.from_residual-in_err-changes.ensures.1 (λ s of. body-short s c.args.selector.now.bits (names_of c.args.scope.now) c.args.items.now c.args.before c.loop-place.place c.index-items-place.result (work c.args.builder.now c.args.variables.now) (work c.loop-place.builder c.loop-place.variables) c.build_match.new.builder c.loop-place.arms c.in_ok-test.test c.as_slice-labels.result.now c.get-body.result.now c.in_err-changes.field-0.0 of.names_are c.as_slice-labels.ensures c.get-body.ensures c.index-items-place.is (omega arith) (omega arith) (sym c.is_default.ensures ∙ c.if-is_default.false) (c.loop-place.invariant.opened s of) (c.in_ok-test.ensures.built s (subst (λ (n : Names). IsOf s n c.args.selector.now.kind c.args.selector.now.size) (sym c.loop-place.invariant.kept) of)) (subst (λ (n : Names). IsShort (length c.build_match.new.builder.cells + cells_of (steps_of c.get-body.result.now n)) c.in_err-changes.field-0.0) c.loop-place.invariant.kept c.in_err-changes.ensures.short))
 
 pub build_arms-set_aside-requires-clause-fit : goal.build_arms-set_aside-requires-clause-fit
-build_arms-set_aside-requires-clause-fit t c = first-fit (names_of c.args.scope.now) (steps_of c.get-body.result.now (names_of c.args.scope.now)) (work c.build_match.new.builder c.loop-place.variables) (work c.build_statement.new.builder c.build_statement.new.variables) c.in_ok-changes.changes c.as_slice-changed.result.now (body-ready (names_of c.args.scope.now) c.args.selector.now.kind c.args.selector.now.size c.index-items-place.result c.get-body.result.now (work c.args.builder.now c.args.variables.now) (work c.loop-place.builder c.loop-place.variables) c.build_match.new.builder c.get-body.ensures (ready-item (names_of c.args.scope.now) c.args.selector.now.kind c.args.selector.now.size c.args.items.now c.args.before c.loop-place.place c.index-items-place.result (work c.args.builder.now c.args.variables.now) c.index-items-place.is (omega arith) (omega arith) (sym c.is_default.ensures ∙ c.if-is_default.false) c.requires.ready) c.loop-place.invariant.keeps c.in_ok-test.ensures.grows) (subst (λ (n : Names). Built (steps_of c.get-body.result.now n) (work c.build_match.new.builder c.loop-place.variables) (work c.build_statement.new.builder c.build_statement.new.variables) c.in_ok-changes.changes) c.loop-place.invariant.kept c.in_ok-changes.ensures.built) c.as_slice-changed.ensures
+build_arms-set_aside-requires-clause-fit t c = first-fit (names_of c.args.scope.now) (steps_of c.get-body.result.now (names_of c.args.scope.now)) (work c.build_match.new.builder c.loop-place.variables) (work c.build_statement.new.builder c.build_statement.new.variables) c.in_ok-changes.changes c.as_slice-changed.result.now (body-ready (names_of c.args.scope.now) c.args.selector.now.size c.index-items-place.result c.get-body.result.now (work c.args.builder.now c.args.variables.now) (work c.loop-place.builder c.loop-place.variables) c.build_match.new.builder c.get-body.ensures (ready-item (names_of c.args.scope.now) c.args.selector.now.size c.args.items.now c.args.before c.loop-place.place c.index-items-place.result (work c.args.builder.now c.args.variables.now) c.index-items-place.is (omega arith) (omega arith) (sym c.is_default.ensures ∙ c.if-is_default.false) c.requires.ready) c.loop-place.invariant.keeps c.in_ok-test.ensures.grows) (subst (λ (n : Names). Built (steps_of c.get-body.result.now n) (work c.build_match.new.builder c.loop-place.variables) (work c.build_statement.new.builder c.build_statement.new.variables) c.in_ok-changes.changes) c.loop-place.invariant.kept c.in_ok-changes.ensures.built) c.as_slice-changed.ensures
 
 pub build_arms-loop-place-preserved : goal.build_arms-loop-place-preserved
 build_arms-loop-place-preserved t c = record {
@@ -178,7 +178,7 @@ pub build_case-returns-clause-kept : goal.build_case-returns-clause-kept
 build_case-returns-clause-kept t c = c.loop-arm.invariant.kept
 
 pub build_arms-build_match-requires-clause-signals : goal.build_arms-build_match-requires-clause-signals
-build_arms-build_match-requires-clause-signals t c = subst (λ (n : Names). HasSignals n c.loop-place.builder) (sym c.loop-place.invariant.kept) (ready-later (names_of c.args.scope.now) _ [] (work c.args.builder.now c.args.variables.now) (work c.loop-place.builder c.loop-place.variables) c.loop-place.invariant.keeps (ready-item (names_of c.args.scope.now) c.args.selector.now.kind c.args.selector.now.size c.args.items.now c.args.before c.loop-place.place c.index-items-place.result (work c.args.builder.now c.args.variables.now) c.index-items-place.is (omega arith) (omega arith) (sym c.is_default.ensures ∙ c.if-is_default.false) c.requires.ready).1).signals
+build_arms-build_match-requires-clause-signals t c = subst (λ (n : Names). HasSignals n c.loop-place.builder) (sym c.loop-place.invariant.kept) (ready-later (names_of c.args.scope.now) _ [] (work c.args.builder.now c.args.variables.now) (work c.loop-place.builder c.loop-place.variables) c.loop-place.invariant.keeps (ready-item (names_of c.args.scope.now) c.args.selector.now.size c.args.items.now c.args.before c.loop-place.place c.index-items-place.result (work c.args.builder.now c.args.variables.now) c.index-items-place.is (omega arith) (omega arith) (sym c.is_default.ensures ∙ c.if-is_default.false) c.requires.ready).1).signals
 
 pub build_arms-returns-clause-kept : goal.build_arms-returns-clause-kept
 build_arms-returns-clause-kept t c = c.loop-place.invariant.kept
