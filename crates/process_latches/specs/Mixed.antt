@@ -1,5 +1,5 @@
--- A variable has one kind of assignment in a process (IEEE 1364-2005, 9.2): one of the other kind is refused where one of this kind
--- stands before it in the source.
+-- A variable has one kind of assignment in a process (IEEE 1364-2005, 9.2): one of the other kind is refused where all of this kind
+-- do not stand after it in the source.
 use Rattle.std.specs.Prelude.{◌≡◌, ℕ, Bool, true, false, not, ◌&&◌, List, [], ◌∷◌, Option, None, Some, nat_eq, if◌then◌else◌}
 use Rattle.std.specs.BTreeMap.{BTreeMap, get}
 use Rattle.std.specs.List.{flat_map}
@@ -27,7 +27,7 @@ first_place (w ∷ more) number is_blocking = if nat_eq w.number number && same_
 
 abbrev pub mixed_after : Option Span → Span → List Refusal
 mixed_after None at = []
-mixed_after (Some p) at = if stands_before p at then Unsupported at MixedAssign ∷ [] else []
+mixed_after (Some p) at = if stands_before at p then [] else Unsupported at MixedAssign ∷ []
 
 -- what is refused in one of several assignments
 abbrev pub mixed_at : List Write → Write → List Refusal

@@ -99,17 +99,17 @@ fn mixed_at(firsts: &Firsts, write: Write) -> Option<Refusal>
     mixed_after(other, write.first)
 }
 
-/// An assignment that stands after the first one of the other kind.
+/// An assignment before which the first one of the other kind stands, or at whose place.
 fn mixed_after(other: Option<Span>, at: Span) -> Option<Refusal>
     ensures { IsFirst (mixed_after other at) result }
 {
     match other {
         None => None,
         Some(other) => {
-            if stands_before(other, at) {
-                Some(Refusal::Unsupported(at, Feature::MixedAssign))
-            } else {
+            if stands_before(at, other) {
                 None
+            } else {
+                Some(Refusal::Unsupported(at, Feature::MixedAssign))
             }
         }
     }
