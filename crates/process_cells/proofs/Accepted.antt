@@ -13,17 +13,17 @@ use Rattle.vlog_meaning.proofs.Blanks.{left_nil, right_nil, these_nil, those_nil
 use Rattle.vlog_effects.specs.LeftSides.{Part, parts_of, part_vector, vector_of}
 use Rattle.vlog_effects.specs.Steps.{Assigning, Steps, Done, Assign, Choose, Case, Refuse, Arms, Otherwise, Arm, steps_of}
 use Rattle.vlog_effects.specs.Effects.{IsBlocking, AreBlocking}
-use Rattle.vlog_effects.specs.Latches.{Target, targets, part_targets, parts_targets}
-use Rattle.vlog_effects.proofs.Sizes.{IsSized, AreSized, Sized, sized-steps}
+use Rattle.vlog_effects.specs.Latches.{Target, targets, arms_targets, part_targets, parts_targets}
+use Rattle.vlog_effects.proofs.Sizes.{IsSized, AreSized, Sized, SizedArms, sized-steps}
 use Rattle.elab_expr.specs.Building.{Building, IsSignal, signal}
 use Rattle.elab_expr.specs.Made.{plan}
 use Rattle.elab_proc.specs.Refusals.{same_form, wrong, sides_faults, part_refusals, kind_refusals, assign_refusals, step_refusals, arm_refusals, own_faults, case_faults, unless}
 use Rattle.elab_proc.specs.declared.refusal.Refusal.{Refusal}
 use Rattle.elab_proc.specs.declared.refusal.Refusal.TheVariants.{Wrong}
 use Rattle.proc_muxes.specs.Builds.{Work, held}
-use Rattle.proc_muxes.specs.Clear.{CanAssign, AreHeld, IsClear}
+use Rattle.proc_muxes.specs.Clear.{CanAssign, AreHeld, IsClear, AreClear}
 use Rattle.process_cells.specs.Laws.{AcceptedAreReady}
-use Rattle.process_cells.specs.Ready.{AllWait, HasNoCase}
+use Rattle.process_cells.specs.Ready.{AllWait}
 use Rattle.process_cells.proofs.Lefts.{NamesSignal, NameSignals, HaveForms, clear, left_writes}
 use Rattle.process_cells.proofs.Lists.{map_nil, some_known}
 
@@ -118,28 +118,53 @@ held_parts a is_blocking names (p ∷ ps) s k waits =
 
 -- Statements.
 
-ready_steps : (comb : Bool) (written : List Bool) (a : Work) (steps : Steps) → step_refusals comb written steps ≡ [] → HasNoCase steps → Sized (sizes a.building) steps → AllWait a (targets steps) → IsClear steps × AreHeld a (targets steps)
-ready_steps comb written a Done e cases k waits = (tt, tt)
-ready_steps comb written a (Assign s more) e cases k waits =
-    let xs : List Target = parts_targets s.is_blocking s.names (parts_of s.left) in
-    let here = accepts comb written s (left_nil (assign_refusals comb written s) (step_refusals comb written more) e) in
-    let rest = ready_steps comb written a more (right_nil (assign_refusals comb written s) (step_refusals comb written more) e) cases k.1 (waits_next a xs (targets more) waits) in
-    ((here.can, rest.0), held_both a xs (targets more) (held_parts a s.is_blocking s.names (parts_of s.left) here.signals k.0 (waits_first a xs (targets more) waits)) rest.1)
-ready_steps comb written a (Choose at c p q more) e cases k waits =
-    let ps : List Target = targets p in
-    let qs : List Target = targets q in
-    let rs : List Target = targets more in
-    let f = right_nil (map Wrong (own_faults c.names c.condition)) (step_refusals comb written p ++ (step_refusals comb written q ++ step_refusals comb written more)) e in
-    let g = right_nil (step_refusals comb written p) (step_refusals comb written q ++ step_refusals comb written more) f in
-    let later = waits_next a ps (qs ++ rs) waits in
-    let first = ready_steps comb written a p (left_nil _ _ f) cases.0 k.1 (waits_first a ps (qs ++ rs) waits) in
-    let second = ready_steps comb written a q (left_nil _ _ g) cases.1 k.2 (waits_first a qs rs later) in
-    let rest = ready_steps comb written a more (right_nil (step_refusals comb written q) (step_refusals comb written more) g) cases.2 k.3 (waits_next a qs rs later) in (
-      (map_nil Wrong _ (left_nil _ _ e), first.0, second.0, rest.0),
-      held_both a ps (qs ++ rs) first.1 (held_both a qs rs second.1 rest.1),
-    )
-ready_steps comb written a (Case c arms more) e cases k waits = absurd cases
-ready_steps comb written a (Refuse x more) e cases k waits = absurd cc
+pub unless_nil : (fs : List Fault) (those : List Refusal) → unless fs those ≡ [] → those ≡ []
+unless_nil [] those e = e
+unless_nil (f ∷ fs) those e = cc
+
+pub unless_free : (fs : List Fault) (those : List Refusal) → unless fs those ≡ [] → fs ≡ []
+unless_free [] those e = refl
+unless_free (f ∷ fs) those e = cc
+
+mutual
+  ready_steps : (comb : Bool) (written : List Bool) (a : Work) (steps : Steps) → step_refusals comb written steps ≡ [] → Sized (sizes a.building) steps → AllWait a (targets steps) → IsClear steps × AreHeld a (targets steps)
+  ready_steps comb written a Done e k waits = (tt, tt)
+  ready_steps comb written a (Assign s more) e k waits =
+      let xs : List Target = parts_targets s.is_blocking s.names (parts_of s.left) in
+      let here = accepts comb written s (left_nil (assign_refusals comb written s) (step_refusals comb written more) e) in
+      let rest = ready_steps comb written a more (right_nil (assign_refusals comb written s) (step_refusals comb written more) e) k.1 (waits_next a xs (targets more) waits) in
+      ((here.can, rest.0), held_both a xs (targets more) (held_parts a s.is_blocking s.names (parts_of s.left) here.signals k.0 (waits_first a xs (targets more) waits)) rest.1)
+  ready_steps comb written a (Choose at c p q more) e k waits =
+      let ps : List Target = targets p in
+      let qs : List Target = targets q in
+      let rs : List Target = targets more in
+      let f = right_nil (map Wrong (own_faults c.names c.condition)) (step_refusals comb written p ++ (step_refusals comb written q ++ step_refusals comb written more)) e in
+      let g = right_nil (step_refusals comb written p) (step_refusals comb written q ++ step_refusals comb written more) f in
+      let later = waits_next a ps (qs ++ rs) waits in
+      let first = ready_steps comb written a p (left_nil _ _ f) k.1 (waits_first a ps (qs ++ rs) waits) in
+      let second = ready_steps comb written a q (left_nil _ _ g) k.2 (waits_first a qs rs later) in
+      let rest = ready_steps comb written a more (right_nil (step_refusals comb written q) (step_refusals comb written more) g) k.3 (waits_next a qs rs later) in (
+        (map_nil Wrong _ (left_nil _ _ e), first.0, second.0, rest.0),
+        held_both a ps (qs ++ rs) first.1 (held_both a qs rs second.1 rest.1),
+      )
+  ready_steps comb written a (Case c arms more) e k waits =
+      let fs : List Fault = case_faults c.names (c.selector ∷ c.labels) in
+      let those : List Refusal = arm_refusals comb written arms in
+      let here : unless fs those ≡ [] = left_nil (unless fs those) (step_refusals comb written more) e in
+      let xs : List Target = arms_targets arms in
+      let these = ready_arms comb written a arms (unless_nil fs those here) k.1 (waits_first a xs (targets more) waits) in
+      let rest = ready_steps comb written a more (right_nil (unless fs those) (step_refusals comb written more) e) k.2 (waits_next a xs (targets more) waits) in
+      ((unless_free fs those here, these.0, rest.0), held_both a xs (targets more) these.1 rest.1)
+  ready_steps comb written a (Refuse x more) e k waits = absurd cc
+
+  ready_arms : (comb : Bool) (written : List Bool) (a : Work) (arms : Arms) → arm_refusals comb written arms ≡ [] → SizedArms (sizes a.building) arms → AllWait a (arms_targets arms) → AreClear arms × AreHeld a (arms_targets arms)
+  ready_arms comb written a (Otherwise body) e k waits = ready_steps comb written a body e k waits
+  ready_arms comb written a (Arm at labels body others) e k waits =
+      let xs : List Target = targets body in
+      let ys : List Target = arms_targets others in
+      let first = ready_steps comb written a body (left_nil (step_refusals comb written body) (arm_refusals comb written others) e) k.0 (waits_first a xs ys waits) in
+      let rest = ready_arms comb written a others (right_nil (step_refusals comb written body) (arm_refusals comb written others) e) k.1 (waits_next a xs ys waits) in
+      ((first.0, rest.0), held_both a xs ys first.1 rest.1)
 
 sized_signal : (b : Building) (d : Option Decl) → IsSignal b d → IsSized (sizes b) d
 sized_signal b (Some (Signal width low is_signed number)) h = h.1
@@ -147,16 +172,12 @@ sized_signal b (Some (Constant value is_signed)) h = tt
 sized_signal b None h = tt
 
 pub accepted_ready : AcceptedAreReady
-accepted_ready comb written s names a e cases sized signals stands waits =
+accepted_ready comb written s names a e sized signals stands waits =
     let k : AreSized (sizes a.building) names = λ name. sized_signal a.building (names name) (signals name) in
-    let r = ready_steps comb written a (steps_of s names) e cases (sized-steps (sizes a.building) s names k) waits in
+    let r = ready_steps comb written a (steps_of s names) e (sized-steps (sizes a.building) s names k) waits in
     record { clear = r.0; held = r.1; signals = signals; stands = stands; sized = sized }
 
 -- Combinational processes have blocking assignments alone.
-
-unless_nil : (fs : List Fault) (those : List Refusal) → unless fs those ≡ [] → those ≡ []
-unless_nil [] those e = e
-unless_nil (f ∷ fs) those e = cc
 
 kind_free : (b : Bool) (span : Span) → kind_refusals true b span ≡ [] → b ≡ true
 kind_free true span e = refl

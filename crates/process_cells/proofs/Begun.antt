@@ -18,7 +18,7 @@ use Rattle.proc_muxes.specs.Shows.{Conforms, Known, StandsBelow}
 use Rattle.proc_muxes.specs.Working.{work}
 use Rattle.proc_muxes.proofs.Frames.{known-distinct, signal-with}
 use Rattle.process_cells.specs.Processes.{AllKnown, variables, zeros, blank}
-use Rattle.process_cells.specs.Ready.{AllWait, HasNoCase, IsAccepted, HasPlaces}
+use Rattle.process_cells.specs.Ready.{AllWait, IsAccepted, HasPlaces}
 use Rattle.process_cells.proofs.Accepted.{accepted_ready, accepted_blocking}
 use Rattle.process_cells.proofs.Assigned.{blocking_conform}
 use Rattle.process_cells.proofs.Blanking.{known_numbers, blank_count, blank_is, blank_wide}
@@ -26,7 +26,6 @@ use Rattle.process_cells.proofs.Blanking.{known_numbers, blank_count, blank_is, 
 -- what is asked before
 pub record Given (comb : Bool) (names : Names) (s : Stmt) (old : Building) (waiting : List (List Bit)) : Type 0 where
   pub accepted : IsAccepted comb (steps_of s names)
-  pub cases : HasNoCase (steps_of s names)
   pub sized : AreSized names
   pub signals : HasSignals names old
   pub own : HasOwnNets old
@@ -43,15 +42,15 @@ held_known a (x ∷ more) h = (h.0.known, held_known a more h.1)
 pub own_below : (b : Building) → HasOwnNets b → (n : ℕ) → AllBelow b.nets (signal b n)
 own_below b own n = ports_in b.nets b.signals n own.below
 
-ready : (names : Names) (s : Stmt) (b : Building) (waiting : List (List Bit)) → IsAccepted true (steps_of s names) → HasNoCase (steps_of s names) → AreSized names → HasSignals names b → StandsBelow (work b waiting) → IsReady names (steps_of s names) (work b waiting)
-ready names s b waiting accepted cases sized signals stands =
-    accepted_ready true accepted.0 s names (work b waiting) accepted.1 cases sized signals stands
+ready : (names : Names) (s : Stmt) (b : Building) (waiting : List (List Bit)) → IsAccepted true (steps_of s names) → AreSized names → HasSignals names b → StandsBelow (work b waiting) → IsReady names (steps_of s names) (work b waiting)
+ready names s b waiting accepted sized signals stands =
+    accepted_ready true accepted.0 s names (work b waiting) accepted.1 sized signals stands
     (blocking_waits (work b waiting) (targets (steps_of s names)) (blocking_conform (steps_of s names) (accepted_blocking accepted.0 (steps_of s names) accepted.1)))
 
 pub known_variables : (names : Names) (s : Stmt) (old : Building) (waiting : List (List Bit)) → Given true names s old waiting → AllKnown (length old.signals) (variables (steps_of s names))
 known_variables names s old waiting g =
     let ts : List Target = targets (steps_of s names) in
-    let r = ready names s old waiting g.accepted g.cases g.sized g.signals (record { seen = own_below old g.own; later = g.places.below }) in
+    let r = ready names s old waiting g.accepted g.sized g.signals (record { seen = own_below old g.own; later = g.places.below }) in
     known_numbers (length old.signals) (distinct ts) (known-distinct (length old.signals) [] ts (held_known (work old waiting) ts r.held))
 
 -- Zeros.
@@ -96,7 +95,7 @@ ready_blank names s old begun waiting g is =
     let ks : List ℕ = variables (steps_of s names) in
     let known = known_variables names s old waiting g in
     let signals : HasSignals names (blank ks old) = λ name. blank_signal ks old (names name) known (own_below old g.own) (g.signals name) in
-    subst (λ (b : Building). IsReady names (steps_of s names) (work b waiting)) (sym is) (ready names s (blank ks old) waiting g.accepted g.cases g.sized signals (blank_stands ks old waiting known g.own g.places))
+    subst (λ (b : Building). IsReady names (steps_of s names) (work b waiting)) (sym is) (ready names s (blank ks old) waiting g.accepted g.sized signals (blank_stands ks old waiting known g.own g.places))
 
 pub blank_places : (ks : List ℕ) (old begun : Building) (waiting : List (List Bit)) → HasPlaces old waiting → begun ≡ blank ks old → length waiting ≡ length begun.signals
 blank_places ks old begun waiting places is = places.count ∙ sym (ap (λ (b : Building). length b.signals) is ∙ blank_count ks old)

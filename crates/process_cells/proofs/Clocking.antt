@@ -43,7 +43,7 @@ pub known_clocked : (names : Names) (s : Stmt) (old : Building) (waiting : List 
 known_clocked names s old waiting g =
     let ts : List Target = targets (steps_of s names) in
     let a : Work = record { building = old; pending = signal old } in
-    let r : IsReady names (steps_of s names) a = accepted_ready false g.accepted.0 s names a g.accepted.1 g.cases g.sized g.signals (record { seen = own_below old g.own; later = own_below old g.own }) (waits_own old ts) in
+    let r : IsReady names (steps_of s names) a = accepted_ready false g.accepted.0 s names a g.accepted.1 g.sized g.signals (record { seen = own_below old g.own; later = own_below old g.own }) (waits_own old ts) in
     known_numbers (length old.signals) (distinct ts) (known-distinct (length old.signals) [] ts (held_known a ts r.held))
 
 among : (ts : List Target) (kind : Bool) (n : ℕ) → stands kind ts n ≡ true → Contains (map (λ x. x.number) (distinct ts)) n
@@ -132,7 +132,7 @@ module _ (names : Names) (s : Stmt) (old : Building) (before waiting : List (Lis
   stood = subst (λ (w : List (List Bit)). StandsBelow (work old w)) (sym is) (record { seen = own_below old g.own; later = waiting_below old (variables (steps_of s names)) before old.nets known_before (own_below old g.own) g.places.below })
 
   pub ready_clocked : IsReady names (steps_of s names) (work old waiting)
-  ready_clocked = accepted_ready false g.accepted.0 s names (work old waiting) g.accepted.1 g.cases g.sized g.signals stood waits
+  ready_clocked = accepted_ready false g.accepted.0 s names (work old waiting) g.accepted.1 g.sized g.signals stood waits
 
   pub places_before : length waiting ≡ length old.signals
   places_before = ap length is ∙ length_waiting old (variables (steps_of s names)) before ∙ g.places.count

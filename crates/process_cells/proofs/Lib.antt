@@ -1,6 +1,7 @@
 mod Lists
 mod Lefts
 pub mod Accepted
+mod Labels
 mod Sounding
 mod Widths
 mod Assigned
@@ -13,3 +14,5 @@ mod Finished
 mod Holding
 mod Clocking
 mod Firsts
+mod OneKind
+mod Bodies

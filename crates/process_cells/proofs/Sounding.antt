@@ -1,21 +1,24 @@
 -- Statements in which nothing is refused are sound as they stand.
-use Rattle.std.proofs.Common.{◌≡◌, Bool, false, not, ◌||◌, List, [], ◌∷◌, ◌++◌, map, refl, ap, ◌∙◌}
+use Rattle.std.proofs.Common.{◌≡◌, Bool, false, not, ◌||◌, List, [], ◌∷◌, ◌++◌, map, refl, sym, ap, ◌∙◌, subst}
 use Rattle.std.specs.Prelude.{if◌then◌else◌}
+use Rattle.std.specs.List.{flat_map}
 use Rattle.mcy_base.specs.declared.span.Span.{Span}
 use Rattle.vlog_syntax.specs.declared.expr.Expr.{Expr}
+use Rattle.vlog_meaning.specs.declared.fault.Fault.{Fault}
 use Rattle.vlog_meaning.specs.Scopes.{Names}
-use Rattle.vlog_meaning.specs.Senses.{Bits, no_bits, either, IsWhole}
+use Rattle.vlog_meaning.specs.Senses.{Bits, no_bits, either, IsWhole, is_empty}
 use Rattle.vlog_meaning.proofs.Blanks.{left_nil, right_nil, these_nil}
 use Rattle.vlog_effects.specs.LeftSides.{Part, parts_of}
-use Rattle.vlog_effects.specs.Latches.{Target, targets, parts_targets, covered, early, parts_cover, missed, parts_missed, all_of, some_bit, is_latch, latches, first_of, latch_of}
-use Rattle.vlog_effects.specs.Steps.{Assigning, Test, Steps, Done, Assign, Choose, Case, Refuse}
-use Rattle.elab_proc.specs.Refusals.{wrong, own_faults, assign_refusals, step_refusals}
+use Rattle.vlog_effects.specs.Latches.{Target, targets, arms_targets, parts_targets, covered, arms_covered, early, arms_early, all_missed, parts_cover, missed, parts_missed, all_of, some_bit, is_latch, latches, first_of, latch_of}
+use Rattle.vlog_effects.specs.Steps.{Assigning, Test, Selection, Turns, Steps, Done, Assign, Choose, Case, Refuse, Arms, Otherwise, Arm, steps_of}
+use Rattle.elab_proc.specs.Refusals.{wrong, own_faults, case_faults, unless, assign_refusals, step_refusals, arm_refusals}
+use Rattle.elab_proc.specs.declared.refusal.Refusal.{Refusal}
 use Rattle.elab_proc.specs.declared.refusal.Refusal.TheVariants.{Wrong}
-use Rattle.process_latches.specs.Sound.{sound_expr, part_form, sound_part, sound_left, sound, has_stop}
+use Rattle.process_latches.specs.Sound.{sound_expr, part_form, sound_part, sound_left, sound, sound_arms, has_stop, arms_stop}
 use Rattle.process_latches.proofs.Fitting.{parts_sound}
 use Rattle.process_cells.specs.Laws.{AcceptedAreSound}
-use Rattle.process_cells.specs.Ready.{HasNoCase}
-use Rattle.process_cells.proofs.Accepted.{Accepts, accepts}
+use Rattle.process_cells.proofs.Accepted.{Accepts, accepts, unless_nil, unless_free}
+use Rattle.process_cells.proofs.Labels.{AreRight, ArmsRight, HasOwnLabels, ArmsOwnLabels, own-steps}
 use Rattle.process_cells.proofs.Lefts.{HaveForms}
 use Rattle.process_cells.proofs.Lists.{map_nil}
 
@@ -70,22 +73,89 @@ same_choice c p q more first second next x condition f s rest at = record {
   runs_on = no_stop (has_stop first) (has_stop second) (has_stop next) f.runs_on s.runs_on rest.runs_on;
 }
 
-same_steps : (comb : Bool) (written : List Bool) (steps : Steps) → step_refusals comb written steps ≡ [] → HasNoCase steps → AreSame (sound steps) steps
-same_steps comb written Done e cases = record { targets_are = refl; covered_are = λ c. refl; early_are = λ c. refl; runs_on = refl }
-same_steps comb written (Assign s more) e cases =
-    let here : Accepts s = accepts comb written s (left_nil (assign_refusals comb written s) (step_refusals comb written more) e) in
-    same_assign s more (sound more) (parts_sound s.names s.left ∙ same_parts s.names (parts_of s.left) here.forms) (same_expr s.names s.right here.right)
-    (same_steps comb written more (right_nil (assign_refusals comb written s) (step_refusals comb written more) e) cases)
-same_steps comb written (Choose at c p q more) e cases =
-    let f = right_nil (map Wrong (own_faults c.names c.condition)) (step_refusals comb written p ++ (step_refusals comb written q ++ step_refusals comb written more)) e in
-    let g = right_nil (step_refusals comb written p) (step_refusals comb written q ++ step_refusals comb written more) f in
-    let own : own_faults c.names c.condition ≡ [] = map_nil Wrong (own_faults c.names c.condition) (left_nil _ _ e) in
-    let whole : IsWhole c.names c.condition = left_nil _ _ (these_nil (wrong c.names c.condition) _ own) in
-    same_choice c p q more (sound p) (sound q) (sound more) (sound_expr c.names c.condition) (same_expr c.names c.condition whole)
-    (same_steps comb written p (left_nil _ _ f) cases.0) (same_steps comb written q (left_nil _ _ g) cases.1)
-    (same_steps comb written more (right_nil (step_refusals comb written q) (step_refusals comb written more) g) cases.2) at
-same_steps comb written (Case c arms more) e cases = absurd cases
-same_steps comb written (Refuse x more) e cases = absurd cc
+-- Cases.
+
+same_labels : (names : Names) (xs : List Expr) → AreRight names xs → map (sound_expr names) xs ≡ xs
+same_labels names [] e = refl
+same_labels names (x ∷ xs) e =
+    let whole : IsWhole names x = left_nil _ _ (left_nil (wrong names x) (flat_map (wrong names) xs) e) in
+    ap (λ (y : Expr). y ∷ map (sound_expr names) xs) (same_expr names x whole) ∙ ap (λ (l : List Expr). x ∷ l) (same_labels names xs (right_nil (wrong names x) (flat_map (wrong names) xs) e))
+
+-- arms that do the same, where the first ones stand in a case with this selector
+pub record AreSameArms (c : Selection) (x : Expr) (a b : Arms) : Type 0 where
+  pub targets_are : arms_targets a ≡ arms_targets b
+  pub covered_are : (d : Bits) → arms_covered a d ≡ arms_covered b d
+  pub early_are : (d : Bits) → arms_early (record c { selector = x }) a d ≡ arms_early c b d
+  pub runs_on : arms_stop a ≡ false
+
+same_otherwise : (c : Selection) (x : Expr) (body first : Steps) → AreSame first body → AreSameArms c x (Otherwise first) (Otherwise body)
+same_otherwise c x body first f = record { targets_are = f.targets_are; covered_are = f.covered_are; early_are = f.early_are; runs_on = f.runs_on }
+
+no_stops : (a b : Bool) → a ≡ false → b ≡ false → a || b ≡ false
+no_stops a b e f = rw (e, f) refl
+
+same_arm : (c : Selection) (x : Expr) (labels new : List Expr) (body first : Steps) (others rest : Arms) → new ≡ labels → AreSame first body → AreSameArms c x rest others → (at : Span) → AreSameArms c x (Arm at new first rest) (Arm at labels body others)
+same_arm c x labels new body first others rest is f r at = record {
+  targets_are = ap (λ (l : List Target). l ++ arms_targets rest) f.targets_are ∙ ap (λ (l : List Target). targets body ++ l) r.targets_are;
+  covered_are = λ b. ap (λ (d : Bits). all_of d (arms_covered rest b)) (f.covered_are b) ∙ ap (λ (d : Bits). all_of (covered body b) d) (r.covered_are b);
+  early_are = λ b.
+      ap (λ (l : List Expr). either (all_missed c.names l b) (either (early first b) (arms_early (record c { selector = x }) rest b))) is
+      ∙ ap (λ (d : Bits). either (all_missed c.names labels b) (either d (arms_early (record c { selector = x }) rest b))) (f.early_are b)
+      ∙ ap (λ (d : Bits). either (all_missed c.names labels b) (either (early body b) d)) (r.early_are b);
+  runs_on = no_stops (has_stop first) (arms_stop rest) f.runs_on r.runs_on;
+}
+
+same_case : (c : Selection) (x : Expr) (arms new : Arms) (more next : Steps) → x ≡ c.selector → AreSameArms c x new arms → AreSame next more → AreSame (Case (record c { selector = x }) new next) (Case c arms more)
+same_case c x arms new more next is r rest = record {
+  targets_are = ap (λ (l : List Target). l ++ targets next) r.targets_are ∙ ap (λ (l : List Target). arms_targets arms ++ l) rest.targets_are;
+  covered_are = λ b. ap (λ (d : Bits). covered next d) (r.covered_are b) ∙ rest.covered_are (arms_covered arms b);
+  early_are = λ b.
+      ap (λ (y : Expr). either (either (missed c.names y b) (arms_early (record c { selector = x }) new b)) (early next (arms_covered new b))) is
+      ∙ ap (λ (d : Bits). either (either (missed c.names c.selector b) d) (early next (arms_covered new b))) (r.early_are b)
+      ∙ ap (λ (d : Bits). either (either (missed c.names c.selector b) (arms_early c arms b)) (early next d)) (r.covered_are b)
+      ∙ ap (λ (d : Bits). either (either (missed c.names c.selector b) (arms_early c arms b)) d) (rest.early_are (arms_covered arms b));
+  runs_on = no_stops (arms_stop new) (has_stop next) r.runs_on rest.runs_on;
+}
+
+-- Statements.
+
+mutual
+  same_steps : (comb : Bool) (written : List Bool) (steps : Steps) → step_refusals comb written steps ≡ [] → HasOwnLabels steps → AreSame (sound steps) steps
+  same_steps comb written Done e own = record { targets_are = refl; covered_are = λ c. refl; early_are = λ c. refl; runs_on = refl }
+  same_steps comb written (Assign s more) e own =
+      let here : Accepts s = accepts comb written s (left_nil (assign_refusals comb written s) (step_refusals comb written more) e) in
+      same_assign s more (sound more) (parts_sound s.names s.left ∙ same_parts s.names (parts_of s.left) here.forms) (same_expr s.names s.right here.right)
+      (same_steps comb written more (right_nil (assign_refusals comb written s) (step_refusals comb written more) e) own)
+  same_steps comb written (Choose at c p q more) e own =
+      let f = right_nil (map Wrong (own_faults c.names c.condition)) (step_refusals comb written p ++ (step_refusals comb written q ++ step_refusals comb written more)) e in
+      let g = right_nil (step_refusals comb written p) (step_refusals comb written q ++ step_refusals comb written more) f in
+      let faults : own_faults c.names c.condition ≡ [] = map_nil Wrong (own_faults c.names c.condition) (left_nil _ _ e) in
+      let whole : IsWhole c.names c.condition = left_nil _ _ (these_nil (wrong c.names c.condition) _ faults) in
+      same_choice c p q more (sound p) (sound q) (sound more) (sound_expr c.names c.condition) (same_expr c.names c.condition whole)
+      (same_steps comb written p (left_nil _ _ f) own.0) (same_steps comb written q (left_nil _ _ g) own.1)
+      (same_steps comb written more (right_nil (step_refusals comb written q) (step_refusals comb written more) g) own.2) at
+  same_steps comb written (Case c arms more) e own =
+      let names : Names = c.names in
+      let fs : List Fault = case_faults names (c.selector ∷ c.labels) in
+      let those : List Refusal = arm_refusals comb written arms in
+      let here : unless fs those ≡ [] = left_nil (unless fs those) (step_refusals comb written more) e in
+      let free : fs ≡ [] = unless_free fs those here in
+      let all : flat_map (wrong names) (c.selector ∷ c.labels) ≡ [] = these_nil (flat_map (wrong names) (c.selector ∷ c.labels)) _ free in
+      let whole : IsWhole names c.selector = left_nil _ _ (left_nil (wrong names c.selector) (flat_map (wrong names) c.labels) all) in
+      let labels : AreRight names c.labels = right_nil (wrong names c.selector) (flat_map (wrong names) c.labels) all in
+      let x : Expr = sound_expr names c.selector in
+      let rest : AreSame (sound more) more = same_steps comb written more (right_nil (unless fs those) (step_refusals comb written more) e) own.2 in
+      let these : AreSameArms c x (sound_arms names arms) arms = same_arms comb written c x arms (unless_nil fs those here) (own.0 labels) own.1 in
+      subst (λ (l : List Fault). AreSame (if is_empty l then Case (record c { selector = x }) (sound_arms names arms) (sound more) else Refuse Turns (sound more)) (Case c arms more)) (sym free)
+      (same_case c x arms (sound_arms names arms) more (sound more) (same_expr names c.selector whole) these rest)
+  same_steps comb written (Refuse x more) e own = absurd cc
+
+  same_arms : (comb : Bool) (written : List Bool) (c : Selection) (x : Expr) (arms : Arms) → arm_refusals comb written arms ≡ [] → ArmsRight c.names arms → ArmsOwnLabels arms → AreSameArms c x (sound_arms c.names arms) arms
+  same_arms comb written c x (Otherwise body) e right own = same_otherwise c x body (sound body) (same_steps comb written body e own)
+  same_arms comb written c x (Arm at labels body others) e right own =
+      same_arm c x labels (map (sound_expr c.names) labels) body (sound body) others (sound_arms c.names others) (same_labels c.names labels right.0)
+      (same_steps comb written body (left_nil (step_refusals comb written body) (arm_refusals comb written others) e) own.0)
+      (same_arms comb written c x others (right_nil (step_refusals comb written body) (arm_refusals comb written others) e) right.1 own.1) at
 
 -- Latches.
 
@@ -104,6 +174,7 @@ latch_same : (a b : Steps) → AreSame a b → latch_of a ≡ latch_of b
 latch_same a b s = ap first_of (ap (latches a) s.targets_are ∙ same_latches a b (targets b) s)
 
 pub accepted_sound : AcceptedAreSound
-accepted_sound comb written steps e cases =
-    let s : AreSame (sound steps) steps = same_steps comb written steps e cases in
-    (s.targets_are, latch_same (sound steps) steps s, s.runs_on)
+accepted_sound comb written s names e =
+    let steps : Steps = steps_of s names in
+    let same : AreSame (sound steps) steps = same_steps comb written steps e (own-steps s names) in
+    (same.targets_are, latch_same (sound steps) steps same, same.runs_on)

@@ -1,24 +1,25 @@
 -- What a process adds to a builder (IEEE 1364-2005, 9.9): the cells of its statements, and then joints of the variables of a
 -- combinational process, or registers of those of a clocked one.
-use Rattle.std.specs.Prelude.{◌≡◌, ℕ, ◌<◌, Bool, false, not, List, [], ◌∷◌, ◌++◌, map, length, slice_set, if◌then◌else◌}
+use Rattle.std.specs.Prelude.{◌≡◌, ℕ, ◌<◌, Bool, true, false, not, List, [], ◌∷◌, ◌++◌, map, length, None, slice_set, if◌then◌else◌}
 use Rattle.netlist_core.specs.declared.bit.Bit.{Bit}
 use Rattle.netlist_core.specs.declared.bit.Bit.TheVariants.{Fixed, Net}
 use Rattle.netlist_core.specs.declared.port.Register.{Register}
 use Rattle.vlog_meaning.specs.Scopes.{Store}
 use Rattle.vlog_effects.specs.Effects.{Values, numbers, left_by}
 use Rattle.vlog_effects.specs.Expressions.{bits_of}
-use Rattle.vlog_effects.specs.Latches.{targets}
+use Rattle.vlog_effects.specs.Latches.{targets, latch_of}
 use Rattle.vlog_effects.specs.Steps.{Steps}
 use Rattle.elab_expr.specs.declared.builder.Joint.{Joint}
 use Rattle.elab_expr.specs.Building.{Building, signal, with_signal, with_register, start_bits, declared_at}
 use Rattle.flat_runs.specs.Parts.{AllJoin, AreStored, with_joints, with_registers}
 use Rattle.process_latches.specs.declared.marks.Write.{Write}
-use Rattle.process_latches.specs.Writes.{target_of}
+use Rattle.process_latches.specs.Sound.{sound}
+use Rattle.process_latches.specs.Writes.{writes, target_of}
 use Rattle.proc_muxes.specs.declared.choice.Choice.{Choice}
 use Rattle.proc_muxes.specs.Builds.{Work, Builds, distinct, stands}
 use Rattle.proc_muxes.specs.Shows.{Conforms, last_held}
 use Rattle.process_cells.specs.declared.kept.Kept.{Kept}
-use Rattle.process_cells.specs.Ready.{AllWait}
+use Rattle.process_cells.specs.Ready.{AllWait, IsAccepted}
 
 -- the variables that steps assign, in order of first assignment
 abbrev pub variables : Steps → List ℕ
@@ -98,6 +99,14 @@ pub record Clocks (steps : Steps) (old new : Building) : Type 0 where
   pub stored : AreStored old (variables steps) (last_bits steps done (variables steps)) registers
   pub named : AreNamed old (variables steps) registers
   pub is : new ≡ with_registers (given_own old done) registers
+
+-- What is asked where the statements of a process are built, with the numbers of its variables, which those of its assignments
+-- tell that are sound.
+pub record CanBeBuilt (is_combinational : Bool) (steps : Steps) : Type 0 where
+  pub accepted : IsAccepted is_combinational steps
+  pub kinds : HasOneKind steps
+  pub unlatched : is_combinational ≡ true → latch_of steps ≡ None
+  pub numbers : map (λ x. x.number) (distinct (map target_of (writes (sound steps)))) ≡ variables steps
 
 -- The code's parts.
 

@@ -1,7 +1,7 @@
 -- What a builder has before the statements of a process are built in it, besides the signals of the scope.
 use Rattle.std.specs.Prelude.{◌≡◌, ℕ, Bool, false, List, [], ◌∷◌, length}
 use Rattle.netlist_core.specs.declared.bit.Bit.{Bit}
-use Rattle.vlog_effects.specs.Steps.{Steps, Done, Assign, Choose, Case, Refuse}
+use Rattle.vlog_effects.specs.Steps.{Steps}
 use Rattle.vlog_effects.specs.Latches.{Target}
 use Rattle.elab_expr.specs.Building.{Building, AllBelow, signal}
 use Rattle.elab_proc.specs.Refusals.{step_refusals}
@@ -12,14 +12,6 @@ use Rattle.proc_muxes.specs.Working.{pending_of}
 abbrev pub AllWait : Work → List Target → Type 0
 AllWait a [] = Unit {0}
 AllWait a (x ∷ more) = (x.is_blocking ≡ false → a.pending x.number ≡ signal a.building x.number) × AllWait a more
-
--- Cases are not built yet.
-abbrev pub HasNoCase : Steps → Type 0
-HasNoCase Done = Unit {0}
-HasNoCase (Assign s more) = HasNoCase more
-HasNoCase (Choose at c then_part else_part more) = HasNoCase then_part × HasNoCase else_part × HasNoCase more
-HasNoCase (Case c arms more) = ⊥
-HasNoCase (Refuse x more) = HasNoCase more
 
 -- Nothing is refused in the statements, where some signals have writers elsewhere.
 abbrev pub IsAccepted : Bool → Steps → Type 0

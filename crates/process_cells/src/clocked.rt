@@ -9,7 +9,7 @@ ghost use Rattle.flat_runs.specs.Meanings.{Clocked};
 ghost use Rattle.flat_runs.specs.Adding.{HasOwnNets, AddsItem};
 ghost use Rattle.flat_runs.specs.Parts.{StandsBelow};
 ghost use Rattle.proc_muxes.specs.Counts.{cells_of};
-ghost use Rattle.process_cells.specs.Ready.{HasNoCase, IsAccepted, HasPlaces};
+ghost use Rattle.process_cells.specs.Ready.{IsAccepted, HasPlaces};
 ghost use Rattle.process_cells.specs.Processes.{variables, process_effect, HasOneKind, Clocks};
 
 use crate::registers::store_all;
@@ -30,7 +30,6 @@ pub fn build_clocked(
     numbers: &[u32],
 ) -> Result<(), ElabError>
     requires accepted { IsAccepted false (steps_of body.now (names_of scope.old)) }
-    requires cases { HasNoCase (steps_of body.now (names_of scope.old)) }
     requires kinds { HasOneKind (steps_of body.now (names_of scope.old)) }
     requires variables { numbers.now ≡ variables (steps_of body.now (names_of scope.old)) }
     requires sized { AreSized (names_of scope.old) }

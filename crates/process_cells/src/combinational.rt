@@ -10,7 +10,7 @@ ghost use Rattle.flat_runs.specs.Meanings.{Combinational};
 ghost use Rattle.flat_runs.specs.Adding.{HasOwnNets, AddsItem};
 ghost use Rattle.flat_runs.specs.Parts.{StandsBelow};
 ghost use Rattle.proc_muxes.specs.Counts.{cells_of};
-ghost use Rattle.process_cells.specs.Ready.{HasNoCase, IsAccepted, HasPlaces};
+ghost use Rattle.process_cells.specs.Ready.{IsAccepted, HasPlaces};
 ghost use Rattle.process_cells.specs.Processes.{variables, process_effect, Combines};
 
 use crate::joints::rejoin_all;
@@ -31,7 +31,6 @@ pub fn build_combinational(
     numbers: &[u32],
 ) -> Result<(), ElabError>
     requires accepted { IsAccepted true (steps_of body.now (names_of scope.old)) }
-    requires cases { HasNoCase (steps_of body.now (names_of scope.old)) }
     requires unlatched { latch_of (steps_of body.now (names_of scope.old)) ≡ None }
     requires variables { numbers.now ≡ variables (steps_of body.now (names_of scope.old)) }
     requires sized { AreSized (names_of scope.old) }

@@ -1,5 +1,5 @@
 //! Laws of processes.
-ghost use Rattle.process_cells.specs.Laws.{AcceptedAreReady, AcceptedAreSound, CombinationalAreAdded, ClockedAreAdded};
+ghost use Rattle.process_cells.specs.Laws.{AcceptedAreReady, AcceptedAreSound, MixedAreRefused, AcceptedCanBeBuilt, CombinationalAreAdded, ClockedAreAdded};
 
 /// A statement in which nothing is refused can be built, where the builder has the signals of the scope.
 pub fn accepted_statements_are_ready()
@@ -9,6 +9,17 @@ pub fn accepted_statements_are_ready()
 /// Statements in which nothing is refused are those that latches are looked for in.
 pub fn accepted_statements_are_sound()
     ensures { AcceptedAreSound }
+{}
+
+/// In a process in which no second kind of assignment is refused each variable has assignments of one kind.
+pub fn mixed_assignments_are_refused()
+    ensures { MixedAreRefused }
+{}
+
+/// The body of a process in which nothing is refused can be built: nothing is refused in its statements, each variable has
+/// assignments of one kind, and a combinational one has no latch.
+pub fn accepted_bodies_can_be_built()
+    ensures { AcceptedCanBeBuilt }
 {}
 
 /// A process is added by the cells of its statements, and then by the joints of its variables, which a combinational one

@@ -12,30 +12,30 @@ use Rattle.process_cells.proofs.clocked.build_clocked.Goals as goal
 
 pub all_waiting-requires-clause-known : goal.all_waiting-requires-clause-known
 all_waiting-requires-clause-known c =
-    let g : Given false (names_of c.args.scope.now) c.args.body.now c.args.builder.now c.args.waiting.now = record { accepted = c.requires.accepted; cases = c.requires.cases; sized = c.requires.sized; signals = c.requires.signals; own = c.requires.own; places = c.requires.places } in
+    let g : Given false (names_of c.args.scope.now) c.args.body.now c.args.builder.now c.args.waiting.now = record { accepted = c.requires.accepted; sized = c.requires.sized; signals = c.requires.signals; own = c.requires.own; places = c.requires.places } in
     subst (λ (l : List ℕ). AllKnown (length c.args.builder.now.signals) l) (sym c.requires.variables) (known_clocked (names_of c.args.scope.now) c.args.body.now c.args.builder.now c.args.waiting.now g)
 
 pub build_statement-requires-clause-ready : goal.build_statement-requires-clause-ready
 build_statement-requires-clause-ready c =
-    let g : Given false (names_of c.args.scope.now) c.args.body.now c.args.builder.now c.args.waiting.now = record { accepted = c.requires.accepted; cases = c.requires.cases; sized = c.requires.sized; signals = c.requires.signals; own = c.requires.own; places = c.requires.places } in
+    let g : Given false (names_of c.args.scope.now) c.args.body.now c.args.builder.now c.args.waiting.now = record { accepted = c.requires.accepted; sized = c.requires.sized; signals = c.requires.signals; own = c.requires.own; places = c.requires.places } in
     let is : c.all_waiting.new.waiting ≡ all_waiting c.args.builder.now (variables (steps_of c.args.body.now (names_of c.args.scope.now))) c.args.waiting.now = c.in_ok-all_waiting.ensures ∙ ap (λ (l : List ℕ). all_waiting c.args.builder.now l c.args.waiting.now) c.requires.variables in
     ready_clocked (names_of c.args.scope.now) c.args.body.now c.args.builder.now c.args.waiting.now c.all_waiting.new.waiting g is
 
 pub build_statement-requires-clause-places : goal.build_statement-requires-clause-places
 build_statement-requires-clause-places c =
-    let g : Given false (names_of c.args.scope.now) c.args.body.now c.args.builder.now c.args.waiting.now = record { accepted = c.requires.accepted; cases = c.requires.cases; sized = c.requires.sized; signals = c.requires.signals; own = c.requires.own; places = c.requires.places } in
+    let g : Given false (names_of c.args.scope.now) c.args.body.now c.args.builder.now c.args.waiting.now = record { accepted = c.requires.accepted; sized = c.requires.sized; signals = c.requires.signals; own = c.requires.own; places = c.requires.places } in
     let is : c.all_waiting.new.waiting ≡ all_waiting c.args.builder.now (variables (steps_of c.args.body.now (names_of c.args.scope.now))) c.args.waiting.now = c.in_ok-all_waiting.ensures ∙ ap (λ (l : List ℕ). all_waiting c.args.builder.now l c.args.waiting.now) c.requires.variables in
     places_before (names_of c.args.scope.now) c.args.body.now c.args.builder.now c.args.waiting.now c.all_waiting.new.waiting g is
 
 pub set_aside-requires-clause-fit : goal.set_aside-requires-clause-fit
 set_aside-requires-clause-fit c =
-    let g : Given false (names_of c.args.scope.now) c.args.body.now c.args.builder.now c.args.waiting.now = record { accepted = c.requires.accepted; cases = c.requires.cases; sized = c.requires.sized; signals = c.requires.signals; own = c.requires.own; places = c.requires.places } in
+    let g : Given false (names_of c.args.scope.now) c.args.body.now c.args.builder.now c.args.waiting.now = record { accepted = c.requires.accepted; sized = c.requires.sized; signals = c.requires.signals; own = c.requires.own; places = c.requires.places } in
     let is : c.all_waiting.new.waiting ≡ all_waiting c.args.builder.now (variables (steps_of c.args.body.now (names_of c.args.scope.now))) c.args.waiting.now = c.in_ok-all_waiting.ensures ∙ ap (λ (l : List ℕ). all_waiting c.args.builder.now l c.args.waiting.now) c.requires.variables in
     subst (AllFit (work c.build_statement.new.builder c.build_statement.new.variables)) (sym c.as_slice.ensures) (fit_after (names_of c.args.scope.now) c.args.body.now c.args.builder.now c.args.waiting.now c.all_waiting.new.waiting g is c.build_statement.new.builder c.build_statement.new.variables c.in_ok-changes.changes c.in_ok-changes.ensures.built)
 
 pub store_all-requires : goal.store_all-requires
 store_all-requires c =
-    let g : Given false (names_of c.args.scope.now) c.args.body.now c.args.builder.now c.args.waiting.now = record { accepted = c.requires.accepted; cases = c.requires.cases; sized = c.requires.sized; signals = c.requires.signals; own = c.requires.own; places = c.requires.places } in
+    let g : Given false (names_of c.args.scope.now) c.args.body.now c.args.builder.now c.args.waiting.now = record { accepted = c.requires.accepted; sized = c.requires.sized; signals = c.requires.signals; own = c.requires.own; places = c.requires.places } in
     let is : c.all_waiting.new.waiting ≡ all_waiting c.args.builder.now (variables (steps_of c.args.body.now (names_of c.args.scope.now))) c.args.waiting.now = c.in_ok-all_waiting.ensures ∙ ap (λ (l : List ℕ). all_waiting c.args.builder.now l c.args.waiting.now) c.requires.variables in
     let have : c.in_ok-variables.variables.items ≡ all_have (work c.build_statement.new.builder c.build_statement.new.variables) c.in_ok-changes.changes = c.in_ok-variables.ensures.have ∙ ap (all_have (work c.build_statement.new.builder c.build_statement.new.variables)) c.as_slice.ensures in
     let back : work c.set_aside.new.builder c.set_aside.new.variables ≡ given_back c.in_ok-changes.changes (work c.build_statement.new.builder c.build_statement.new.variables) = c.in_ok-variables.ensures.back ∙ ap (λ (l : List Change). given_back l (work c.build_statement.new.builder c.build_statement.new.variables)) c.as_slice.ensures in
@@ -43,7 +43,7 @@ store_all-requires c =
 
 pub returns-clause-clocks : goal.returns-clause-clocks
 returns-clause-clocks c =
-    let g : Given false (names_of c.args.scope.now) c.args.body.now c.args.builder.now c.args.waiting.now = record { accepted = c.requires.accepted; cases = c.requires.cases; sized = c.requires.sized; signals = c.requires.signals; own = c.requires.own; places = c.requires.places } in
+    let g : Given false (names_of c.args.scope.now) c.args.body.now c.args.builder.now c.args.waiting.now = record { accepted = c.requires.accepted; sized = c.requires.sized; signals = c.requires.signals; own = c.requires.own; places = c.requires.places } in
     let is : c.all_waiting.new.waiting ≡ all_waiting c.args.builder.now (variables (steps_of c.args.body.now (names_of c.args.scope.now))) c.args.waiting.now = c.in_ok-all_waiting.ensures ∙ ap (λ (l : List ℕ). all_waiting c.args.builder.now l c.args.waiting.now) c.requires.variables in
     let have : c.in_ok-variables.variables.items ≡ all_have (work c.build_statement.new.builder c.build_statement.new.variables) c.in_ok-changes.changes = c.in_ok-variables.ensures.have ∙ ap (all_have (work c.build_statement.new.builder c.build_statement.new.variables)) c.as_slice.ensures in
     let back : work c.set_aside.new.builder c.set_aside.new.variables ≡ given_back c.in_ok-changes.changes (work c.build_statement.new.builder c.build_statement.new.variables) = c.in_ok-variables.ensures.back ∙ ap (λ (l : List Change). given_back l (work c.build_statement.new.builder c.build_statement.new.variables)) c.as_slice.ensures in
@@ -56,7 +56,7 @@ returns-clause-added c =
 
 pub returns-clause-stands : goal.returns-clause-stands
 returns-clause-stands c =
-    let g : Given false (names_of c.args.scope.now) c.args.body.now c.args.builder.now c.args.waiting.now = record { accepted = c.requires.accepted; cases = c.requires.cases; sized = c.requires.sized; signals = c.requires.signals; own = c.requires.own; places = c.requires.places } in
+    let g : Given false (names_of c.args.scope.now) c.args.body.now c.args.builder.now c.args.waiting.now = record { accepted = c.requires.accepted; sized = c.requires.sized; signals = c.requires.signals; own = c.requires.own; places = c.requires.places } in
     let is : c.all_waiting.new.waiting ≡ all_waiting c.args.builder.now (variables (steps_of c.args.body.now (names_of c.args.scope.now))) c.args.waiting.now = c.in_ok-all_waiting.ensures ∙ ap (λ (l : List ℕ). all_waiting c.args.builder.now l c.args.waiting.now) c.requires.variables in
     let have : c.in_ok-variables.variables.items ≡ all_have (work c.build_statement.new.builder c.build_statement.new.variables) c.in_ok-changes.changes = c.in_ok-variables.ensures.have ∙ ap (all_have (work c.build_statement.new.builder c.build_statement.new.variables)) c.as_slice.ensures in
     let back : work c.set_aside.new.builder c.set_aside.new.variables ≡ given_back c.in_ok-changes.changes (work c.build_statement.new.builder c.build_statement.new.variables) = c.in_ok-variables.ensures.back ∙ ap (λ (l : List Change). given_back l (work c.build_statement.new.builder c.build_statement.new.variables)) c.as_slice.ensures in
@@ -65,7 +65,7 @@ returns-clause-stands c =
 
 pub returns-clause-places : goal.returns-clause-places
 returns-clause-places c =
-    let g : Given false (names_of c.args.scope.now) c.args.body.now c.args.builder.now c.args.waiting.now = record { accepted = c.requires.accepted; cases = c.requires.cases; sized = c.requires.sized; signals = c.requires.signals; own = c.requires.own; places = c.requires.places } in
+    let g : Given false (names_of c.args.scope.now) c.args.body.now c.args.builder.now c.args.waiting.now = record { accepted = c.requires.accepted; sized = c.requires.sized; signals = c.requires.signals; own = c.requires.own; places = c.requires.places } in
     let is : c.all_waiting.new.waiting ≡ all_waiting c.args.builder.now (variables (steps_of c.args.body.now (names_of c.args.scope.now))) c.args.waiting.now = c.in_ok-all_waiting.ensures ∙ ap (λ (l : List ℕ). all_waiting c.args.builder.now l c.args.waiting.now) c.requires.variables in
     let have : c.in_ok-variables.variables.items ≡ all_have (work c.build_statement.new.builder c.build_statement.new.variables) c.in_ok-changes.changes = c.in_ok-variables.ensures.have ∙ ap (all_have (work c.build_statement.new.builder c.build_statement.new.variables)) c.as_slice.ensures in
     let back : work c.set_aside.new.builder c.set_aside.new.variables ≡ given_back c.in_ok-changes.changes (work c.build_statement.new.builder c.build_statement.new.variables) = c.in_ok-variables.ensures.back ∙ ap (λ (l : List Change). given_back l (work c.build_statement.new.builder c.build_statement.new.variables)) c.as_slice.ensures in
