@@ -16,8 +16,10 @@ mod values;
 
 pub use laws::{ranges_of_examples, scopes_of_examples};
 pub use lent::Lent;
-pub use opening::{Given, Head, Opening, Step};
+pub use opening::{Given, Head, Opening, Parts, Step, is_among};
+pub use own::OwnNames;
 pub use parameter::{ParameterBits, parameter_decl};
 pub use range::{RangeError, VectorBits, range_bits};
 pub use refusal::Refusal;
 pub use signal::{Port, Signal, What};
+pub use values::turn_decl;

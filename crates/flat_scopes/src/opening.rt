@@ -4,6 +4,7 @@
 //! `opened_of` makes of it. Nothing is refused on the way: what is wrong is listed as a step at its place.
 ghost use Rattle.std.specs.Prelude.{◌≡◌, [], IfOk, OnOk};
 ghost use Rattle.vlog_meaning.specs.Scopes.{names_of, with_name};
+ghost use Rattle.flat_scopes.specs.Owns.{what_of};
 ghost use Rattle.flat_scopes.specs.Views.{opened_of};
 ghost use Rattle.flat_scopes.specs.Openings.{unopened, step as with_step, refuse as with_refusal, own_name as with_own_name, plain_name as with_plain, genvar_names as with_genvars, instance_names as with_instances, is_among as among};
 
@@ -61,6 +62,19 @@ pub struct Opening<'a> {
     pub(crate) constructs: u32,
 }
 
+/// What a scope that was opened is made of.
+#[derive(Drop)]
+pub struct Parts<'a> {
+    /// The names that it declares itself.
+    pub own: OwnNames,
+    /// What all names are declared as.
+    pub scope: Scope,
+    /// The signals of the design so far.
+    pub signals: Vec<Signal>,
+    /// What its items list.
+    pub steps: Vec<Step<'a>>,
+}
+
 /// What a name is declared as from now on, or that it is not.
 pub(crate) fn set_name(scope: &mut Scope, name: &str, decl: Option<Decl>) -> Result<(), AllocError>
     ensures { IfOk result (λ done. names_of scope.new ≡ with_name (names_of scope.old) name.now decl) }
@@ -80,7 +94,7 @@ pub(crate) fn set_name(scope: &mut Scope, name: &str, decl: Option<Decl>) -> Res
 }
 
 /// Whether a name is one of these.
-pub(crate) fn is_among(names: &[Lent<'_, Identifier>], name: &str) -> bool
+pub fn is_among(names: &[Lent<'_, Identifier>], name: &str) -> bool
     ensures { result ≡ among names.now name.now }
 {
     for one in names {
@@ -125,6 +139,21 @@ impl<'a> Opening<'a> {
         ensures { result.now ≡ (opened_of self.now).steps }
     {
         self.steps.as_slice()
+    }
+
+    /// The parts of the scope.
+    pub fn into_parts(self) -> Parts<'a>
+        ensures own { what_of result.own ≡ (opened_of self.entry).own }
+        ensures names { names_of result.scope ≡ (opened_of self.entry).names }
+        ensures signals { result.signals.items ≡ (opened_of self.entry).signals }
+        ensures steps { result.steps.items ≡ (opened_of self.entry).steps }
+    {
+        Parts {
+            own: self.own,
+            scope: self.scope,
+            signals: self.signals,
+            steps: self.steps,
+        }
     }
 
     /// Adds a step.

@@ -10,7 +10,7 @@ use std::marker::Model;
 
 /// Names and what each stands for.
 #[derive(Drop)]
-pub(crate) struct OwnNames {
+pub struct OwnNames {
     alloc: Global,
     names: BTreeMap<String, What>,
 }
@@ -37,7 +37,7 @@ impl OwnNames {
     }
 
     /// What the name stands for, if it is one of these.
-    pub(crate) fn get(&self, name: &str) -> Option<What>
+    pub fn get(&self, name: &str) -> Option<What>
         ensures { result ≡ what_of self.now name.now }
     {
         self.names.get(name).copied()

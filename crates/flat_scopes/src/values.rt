@@ -1,7 +1,8 @@
 //! The parameters of a scope (IEEE 1364-2005, 4.10 and 12.2).
-ghost use Rattle.std.specs.Prelude.{◌≡◌, ◌≤◌, IfOk};
+ghost use Rattle.std.specs.Prelude.{◌≡◌, ◌≤◌, true, IfOk};
 ghost use Rattle.std.specs.Option.{option_map};
 ghost use Rattle.vlog_meaning.specs.Answers.{least, refusal, const_error};
+ghost use Rattle.vlog_meaning.specs.declared.scope.Decl.TheVariants.{Constant};
 ghost use Rattle.vlog_meaning.specs.Scopes.{names_of};
 ghost use Rattle.vlog_meaning.specs.Senses.{sense};
 ghost use Rattle.flat_scopes.specs.Openings.{refused_range};
@@ -55,6 +56,24 @@ fn zero_word(width: u8) -> Word
     ensures { result ≡ word width 0 }
 {
     Word::new(width, 0).unwrap()
+}
+
+/// The word of 32 bits.
+#[tactic(auto, using(crate::proofs::Valued::word_is))]
+fn integer_word(value: u32) -> Word
+    ensures { result ≡ word 32 value }
+{
+    Word::new(32, value as u128).unwrap()
+}
+
+/// What a loop's variable is declared as in a turn: a signed number of 32 bits (IEEE 1364-2005, 12.4.1).
+pub fn turn_decl(value: u32) -> Decl
+    ensures { result ≡ Constant (word 32 value) true }
+{
+    Decl::Constant {
+        value: integer_word(value),
+        is_signed: true,
+    }
 }
 
 /// What a parameter whose value is refused is declared as.
@@ -126,7 +145,7 @@ impl<'a> Opening<'a> {
     }
 
     /// A new constant.
-    fn constant_name(&mut self, name: &Identifier, decl: Decl) -> Result<(), AllocError>
+    pub fn constant_name(&mut self, name: &Identifier, decl: Decl) -> Result<(), AllocError>
         ensures { IfOk result (λ done. opened_of self.new ≡ with_constant (opened_of self.old) name.now decl ((opened_of self.old).own name.now.name)) }
     {
         if self.what(name.name.as_str()).is_some() {

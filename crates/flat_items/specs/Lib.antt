@@ -1,0 +1,3 @@
+pub mod Gifts
+pub mod Views
+pub mod Wires

@@ -1,0 +1,16 @@
+//! Flattened items: what the instances and generate constructs of a design stand for (IEEE 1364-2005, 12.1 to 12.4).
+#![tactic(auto)]
+
+mod error;
+mod giving;
+mod item;
+mod joint;
+mod left;
+mod wire;
+
+pub use error::{ItemError, ParameterError};
+pub use giving::{Giving, first_fault, give_values, parameters_of};
+pub use item::FlatItem;
+pub use joint::{Joint, connect};
+pub use left::is_left;
+pub use wire::{Wire, ports_of, wires_of};
