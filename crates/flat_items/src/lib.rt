@@ -3,14 +3,18 @@
 
 mod error;
 mod giving;
+mod instance;
 mod item;
 mod joint;
 mod left;
+mod place;
 mod wire;
 
 pub use error::{ItemError, ParameterError};
 pub use giving::{Giving, first_fault, give_values, parameters_of};
+pub use instance::{Entered, open_instance};
 pub use item::FlatItem;
 pub use joint::{Joint, connect};
 pub use left::is_left;
+pub use place::Place;
 pub use wire::{Wire, ports_of, wires_of};
