@@ -1,0 +1,4 @@
+mod Faultless
+mod Naming
+mod Rules
+mod Starting

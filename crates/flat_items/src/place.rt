@@ -11,5 +11,5 @@ pub struct Place {
     pub(crate) scope: Scope,
     pub(crate) own: OwnNames,
     pub(crate) around: Option<u32>,
-    pub(crate) within: Vec<u32>,
+    pub(crate) within: Vec<usize>,
 }

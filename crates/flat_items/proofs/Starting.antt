@@ -1,0 +1,20 @@
+-- The scope of a turn.
+use Rattle.std.proofs.Common.{◌≡◌, List, true, Some, ap, ◌∙◌}
+use Rattle.vlog_syntax.specs.declared.item.GenerateLoop.{GenerateLoop}
+use Rattle.vlog_meaning.specs.declared.scope.Decl.{Decl}
+use Rattle.vlog_meaning.specs.declared.scope.Decl.TheVariants.{Constant}
+use Rattle.vlog_meaning.specs.Scopes.{Names}
+use Rattle.flat_scopes.specs.declared.signal.Signal.{Signal}
+use Rattle.flat_scopes.specs.declared.signal.What.TheVariants as w
+use Rattle.flat_scopes.specs.Openings.{Opened, unopened, own_name}
+use Rattle.flat_scopes.specs.Valued.{constant_name}
+use Rattle.flat_scopes.specs.Words.{word}
+use Rattle.flat_items.specs.declared.task.Turn.{Turn}
+use Rattle.flat_items.specs.Flattened.{turn_start}
+use Rattle.flat_items.specs.Places.{Place}
+
+pub turn_starts : (o n : Opened) (p : Place) (signals : List Signal) (x : Turn) (head : GenerateLoop) (decl : Decl) (names : Names)
+    → names ≡ p.names → o ≡ unopened names signals → head ≡ x.head → decl ≡ Constant (word 32 x.value) true → n ≡ constant_name o head.name decl (o.own head.name.name) → n ≡ turn_start p signals x
+turn_starts o n p signals x head decl names same is heads decls e =
+    let over : Names → GenerateLoop → Decl → Opened = λ (m : Names) (h : GenerateLoop) (d : Decl). own_name (unopened m signals) h.name.name w.Constant (Some d) in
+    e ∙ ap (λ (y : Opened). constant_name y head.name decl (y.own head.name.name)) is ∙ ap (λ (m : Names). over m head decl) same ∙ ap (λ (h : GenerateLoop). over p.names h decl) heads ∙ ap (λ (d : Decl). over p.names x.head d) decls

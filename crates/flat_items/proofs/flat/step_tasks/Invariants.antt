@@ -1,0 +1,6 @@
+use Rattle.std.proofs.Common.{◌≡◌}
+use Rattle.flat_items.specs.Flattened.{tasks_of}
+use Rattle.flat_items.proofs.flat.step_tasks.Given as goal
+
+abbrev pub invariant-loop-step : goal.invariant-loop-step
+invariant-loop-step l = l.tasks.items ≡ tasks_of l.place l.yielded

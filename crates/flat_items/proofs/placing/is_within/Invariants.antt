@@ -1,0 +1,6 @@
+use Rattle.std.proofs.Common.{◌≡◌, drop}
+use Rattle.flat_items.specs.Flattened.{is_within}
+use Rattle.flat_items.proofs.placing.is_within.Given as goal
+
+abbrev pub invariant-loop-one : goal.invariant-loop-one
+invariant-loop-one l = is_within l.number (drop l.one-index l.within) ≡ is_within l.number l.within

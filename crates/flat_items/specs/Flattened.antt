@@ -1,0 +1,185 @@
+-- What a design is flattened to (IEEE 1364-2005, 12.1 and 12.4). Each part of it is replaced by what it stands for, the first part
+-- first: an instance by the items of its module, a condition by what it chooses, a loop by its turns.
+use Rattle.std.specs.Prelude.{◌≡◌, ℕ, ◌+◌, ◌^◌, ◌%◌, ◌==◌, Bool, true, false, ◌||◌, List, [], ◌∷◌, ◌++◌, length, map, codes, decimal, IsSome, Option, None, Some, slice_get, Result, Ok, Err, if◌then◌else◌}
+use Rattle.std.specs.Str.{bytes_eq}
+use Rattle.mcy_base.specs.declared.span.Span.{Span}
+use Rattle.vlog_syntax.specs.declared.expr.Expr.{Expr}
+use Rattle.vlog_syntax.specs.declared.identifier.Identifier.{Identifier}
+use Rattle.vlog_syntax.specs.declared.item.Item.{Item, out-Item}
+use Rattle.vlog_syntax.specs.declared.item.Item.TheOpen as o
+use Rattle.vlog_syntax.specs.declared.item.Item.TheOpen.{Item-F}
+use Rattle.vlog_syntax.specs.declared.item.PlainItem.{PlainItem}
+use Rattle.vlog_syntax.specs.declared.item.PlainItem.TheVariants as p
+use Rattle.vlog_syntax.specs.declared.module.Module.{Module}
+use Rattle.vlog_syntax.specs.declared.stmt.Assignment.{Assignment}
+use Rattle.vlog_meaning.specs.declared.fault.Fault.{Fault}
+use Rattle.vlog_meaning.specs.declared.scope.Decl.TheVariants as d
+use Rattle.vlog_meaning.specs.Answers.{least, const_error}
+use Rattle.vlog_meaning.specs.Scopes.{Names, nothing}
+use Rattle.vlog_meaning.specs.Senses.{sense, own, assigned, constant_faults, constant_faults_at}
+use Rattle.flat_scopes.specs.declared.opening.Head.{Head}
+use Rattle.flat_scopes.specs.declared.opening.Step.{Step}
+use Rattle.flat_scopes.specs.declared.opening.Step.TheVariants as s
+use Rattle.flat_scopes.specs.declared.signal.Signal.{Signal}
+use Rattle.flat_scopes.specs.declared.signal.What.{What}
+use Rattle.flat_scopes.specs.declared.signal.What.TheVariants as w
+use Rattle.flat_scopes.specs.Openings.{Opened, unopened, own_name}
+use Rattle.flat_scopes.specs.Opens.{Opens}
+use Rattle.flat_scopes.specs.Owns.{Own}
+use Rattle.flat_scopes.specs.Words.{word}
+use Rattle.flat_items.specs.declared.error.ItemError.{ItemError}
+use Rattle.flat_items.specs.declared.error.ItemError.TheVariants as e
+use Rattle.flat_items.specs.declared.item.FlatItem.{FlatItem}
+use Rattle.flat_items.specs.declared.item.FlatItem.TheVariants as f
+use Rattle.flat_items.specs.declared.task.Task.{Task}
+use Rattle.flat_items.specs.declared.task.Task.TheVariants as t
+use Rattle.flat_items.specs.declared.task.Turn.{Turn}
+use Rattle.flat_items.specs.Instances.{inner_prefix, no_names}
+use Rattle.flat_items.specs.Places.{Place}
+
+-- What there is so far: the signals, the scopes and the items.
+pub record Flat : Type 0 where
+  pub signals : List Signal
+  pub places : List Place
+  pub items : List FlatItem
+
+abbrev pub add_all : Flat → List FlatItem → Flat
+add_all flat items = record flat { items = flat.items ++ items }
+
+-- a scope that was opened is the next place
+abbrev pub entered : Flat → (prefix : List ℕ) → (around : Option ℕ) → (within : List ℕ) → Opened → Flat
+entered flat prefix around within child =
+    record flat {
+      signals = child.signals;
+      places = flat.places ++ record { prefix = prefix; names = child.names; own = child.own; around = around; within = within } ∷ [];
+    }
+
+abbrev pub tasks_of : (place : ℕ) → List Step → List Task
+tasks_of k steps = map (t.Step k) steps
+
+-- Steps of the scope with the number k, but for generate constructs: what they list, and what is left to be replaced.
+
+abbrev pub assigned_items : (place : ℕ) → List Assignment → List FlatItem
+assigned_items k [] = []
+assigned_items k (a ∷ more) = f.Assigns k a.left a.value ∷ assigned_items k more
+
+abbrev pub plain_items : (place : ℕ) → PlainItem → List FlatItem
+plain_items k (p.ContinuousAssign at None assignments) = assigned_items k assignments
+plain_items k (p.ContinuousAssign at (Some delay) assignments) = f.Refuses (e.Delay delay.span) ∷ []
+plain_items k (p.Process process) = f.Runs k process ∷ []
+plain_items k other = []
+
+abbrev pub plain_tasks : (place : ℕ) → PlainItem → List Task
+plain_tasks k (p.ModuleInstantiation name values instances) = map (t.Instance k name values) instances
+plain_tasks k other = []
+
+-- why a given value is no constant was listed with its instance
+abbrev pub step_items : (place : ℕ) → Step → List FlatItem
+step_items k (s.Declares n) = f.Declares n ∷ []
+step_items k (s.Refuses r) = f.Refuses (e.Declaration r) ∷ []
+step_items k (s.RefusesGiven c) = []
+step_items k (s.Starts n value) = f.Starts n k value ∷ []
+step_items k (s.Drives name value) = f.Drives k name value ∷ []
+step_items k (s.Lists x) = plain_items k x
+step_items k (s.Generates n item) = []
+
+abbrev pub step_tasks : (place : ℕ) → Step → List Task
+step_tasks k (s.Lists x) = plain_tasks k x
+step_tasks k (s.Generates n item) = t.Generates k n item ∷ []
+step_tasks k other = []
+
+-- Instances.
+
+-- the number of the first module of this name
+abbrev pub module_from : ℕ → List Module → List ℕ → Option ℕ
+module_from k [] name = None
+module_from k (m ∷ more) name = if bytes_eq m.name name then Some k else module_from (k + 1) more name
+
+abbrev pub module_at : List Module → List ℕ → Option ℕ
+module_at modules name = module_from 0 modules name
+
+abbrev pub is_within : ℕ → List ℕ → Bool
+is_within n [] = false
+is_within n (m ∷ more) = (m == n) || is_within n more
+
+-- the module of an instance, or why it has none: there is no such module, or it stands in itself
+abbrev pub placed_in : Identifier → Option ℕ → (within : List ℕ) → Result ℕ ItemError
+placed_in name None within = Err (e.Unknown name.span)
+placed_in name (Some n) within = if is_within n within then Err (e.Recursive name.span) else Ok n
+
+-- Constants of generate constructs: conditions stand for themselves, a loop's start and step have the 32 bits of its variable.
+
+abbrev pub faultless : Option Fault → ℕ → Result ℕ ItemError
+faultless None value = Ok value
+faultless (Some fault) value = Err (e.Constant (const_error fault))
+
+abbrev pub condition_in : Names → Expr → Result ℕ ItemError
+condition_in names x = faultless (least (constant_faults (sense names x))) (own nothing (sense names x))
+
+abbrev pub integer_in : Names → Expr → Result ℕ ItemError
+integer_in names x = faultless (least (constant_faults_at (sense names x) (assigned (sense names x) 32))) ((sense names x).value nothing (assigned (sense names x) 32) % 2 ^ 32)
+
+-- what a condition chooses, where there is something
+abbrev pub arm_tasks : (place number : ℕ) → Option Item → List Task
+arm_tasks k n None = []
+arm_tasks k n (Some item) = t.Arm k n item ∷ []
+
+abbrev pub chosen_tasks : (place number : ℕ) → Result ℕ ItemError → Item → Option Item → List Task
+chosen_tasks k n (Err x) first second = t.Refuses x ∷ []
+chosen_tasks k n (Ok value) first second = arm_tasks k n (if value == 0 then second else Some first)
+
+-- Blocks (12.4.3).
+
+abbrev pub own_label : Item-F Item → Option Identifier
+own_label (o.GenerateBlock at name items) = name
+own_label other = None
+
+abbrev pub label_of : Item → Option Identifier
+label_of x = own_label (out-Item x)
+
+-- the items of a block, which may be one item without `begin`
+abbrev pub items_in : Item → Item-F Item → List Item
+items_in x (o.GenerateBlock at name items) = items
+items_in x (o.NullGenerate at) = []
+items_in x other = x ∷ []
+
+abbrev pub block_items : Item → List Item
+block_items x = items_in x (out-Item x)
+
+-- A block without a label is named by the number of its construct, behind as many zeros as there must be so that the scope
+-- around has no other name like it.
+pub data IsFree (own_names : Own) (number : ℕ) : (prefix name : List ℕ) → Type 0 where
+  free : (prefix : List ℕ) → own_names (prefix ++ decimal number) ≡ None → IsFree own_names number prefix (prefix ++ decimal number)
+  taken : (prefix name : List ℕ) → IsSome (own_names (prefix ++ decimal number)) → IsFree own_names number (prefix ++ codes "0") name → IsFree own_names number prefix name
+
+pub data IsBlockName (own_names : Own) (number : ℕ) : Option Identifier → List ℕ → Type 0 where
+  labelled : (label : Identifier) → IsBlockName own_names number (Some label) label.name
+  unlabelled : (name : List ℕ) → IsFree own_names number (codes "genblk") name → IsBlockName own_names number None name
+
+abbrev pub block_head : (prefix : List ℕ) → Head
+block_head prefix = record { prefix = prefix; ports = []; given = [] }
+
+-- A block of this name in the scope with the number k is opened over that scope.
+pub record OpensBlock (k : ℕ) (place : Place) (name : List ℕ) (start : Opened) (block : Item) (flat : Flat) (tasks : List Task) (next : Flat) : Type 0 where
+  pub child : Opened
+  pub opens : Opens (block_head (inner_prefix place.prefix name)) no_names start (block_items block) child
+  pub listed : tasks ≡ tasks_of (length flat.places) child.steps
+  pub enters : next ≡ entered flat (inner_prefix place.prefix name) (Some k) place.within child
+
+-- Loops (12.4.1).
+
+-- What a name stands for in the scope with the number k: it is looked for there, and then in the scopes around.
+pub data Sees (places : List Place) (name : List ℕ) : ℕ → Option What → Type 0 where
+  here : (k : ℕ) (place : Place) (what : What) → slice_get places k ≡ Some place → place.own name ≡ Some what → Sees places name k (Some what)
+  outside : (k j : ℕ) (place : Place) (what : Option What) → slice_get places k ≡ Some place → place.own name ≡ None → place.around ≡ Some j → Sees places name j what → Sees places name k what
+  nowhere : (k : ℕ) (place : Place) → slice_get places k ≡ Some place → place.own name ≡ None → place.around ≡ None → Sees places name k None
+
+-- why a name is no genvar
+abbrev pub genvar_fault : Option What → Span → Option ItemError
+genvar_fault (Some w.Genvar) at = None
+genvar_fault (Some (w.Variable k)) at = Some (e.NotConstant at)
+genvar_fault other at = Some (e.Unknown at)
+
+-- in a turn the variable is a constant, a signed number of 32 bits
+abbrev pub turn_start : Place → List Signal → Turn → Opened
+turn_start place signals x = own_name (unopened place.names signals) x.head.name.name w.Constant (Some (d.Constant (word 32 x.value) true))

@@ -1,0 +1,158 @@
+//! Instances of modules (IEEE 1364-2005, 12.1.2): which module an instance has, and what it is replaced by.
+ghost use Rattle.std.specs.Prelude.{◌≡◌, ◌∷◌, Some, slice_get, IfOk, IfSome};
+ghost use Rattle.flat_items.specs.Flattened.{add_all, module_at, is_within, placed_in};
+ghost use Rattle.flat_items.specs.Places.{Place as Spot};
+ghost use Rattle.flat_items.specs.Replacing.{PlacesInstance, Replaces};
+ghost use Rattle.flat_items.specs.Views.{flat_of};
+ghost use Rattle.flat_items.specs.declared.task.Task.TheVariants.{Instance as Placed};
+
+use crate::error::ItemError;
+use crate::flat::Flat;
+use crate::generate::one;
+use crate::instance::{Entered, open_instance};
+use crate::item::FlatItem;
+use crate::joint::Joint;
+use crate::task::Task;
+use std::alloc::{AllocError, Global};
+use vlog_syntax::{Identifier, Instance, Module, ParameterValues};
+
+/// The number of the first module of this name.
+pub(crate) fn module_at(modules: &[Module], name: &str) -> Option<usize>
+    ensures { result ≡ module_at modules.now name.now }
+{
+    for (number, one) in modules.iter().enumerate() {
+        if one.name.as_str() == name {
+            return Some(number);
+        }
+    }
+    None
+}
+
+/// The module of this number.
+fn numbered(modules: &[Module], number: usize) -> Option<&Module>
+    ensures { IfSome result (λ m. slice_get modules.now number ≡ Some m.now) }
+{
+    modules.get(number)
+}
+
+/// Whether the module of this number is one of these.
+fn is_within(number: usize, within: &[usize]) -> bool
+    ensures { result ≡ is_within number within.now }
+{
+    for one in within {
+        if *one == number {
+            return true;
+        }
+    }
+    false
+}
+
+/// The number of the module of this name, for an instance in these modules, or why it has none.
+fn placed_in(modules: &[Module], name: &Identifier, within: &[usize]) -> Result<usize, ItemError>
+    ensures { result ≡ placed_in name.now (module_at modules.now name.now.name) within.now }
+{
+    match module_at(modules, name.name.as_str()) {
+        None => Err(ItemError::Unknown(name.span)),
+        Some(number) => {
+            if is_within(number, within) {
+                Err(ItemError::Recursive(name.span))
+            } else {
+                Ok(number)
+            }
+        }
+    }
+}
+
+/// A module and those around it.
+pub(crate) fn inner_modules(
+    alloc: Global,
+    number: usize,
+    within: &[usize],
+) -> Result<Vec<usize>, AllocError>
+    ensures { IfOk result (λ all. all.items ≡ number ∷ within.now) }
+{
+    let mut all = Vec::new(alloc);
+    all.push(number)?;
+    all.extend_from_slice(within)?;
+    Ok(all)
+}
+
+impl<'a> Flat<'a> {
+    /// Lists items.
+    fn list_all(&mut self, items: Vec<FlatItem<'a>>) -> Result<(), AllocError>
+        ensures { IfOk result (λ done. flat_of self.new ≡ add_all (flat_of self.old) items.entry.items) }
+    {
+        let mut items = items;
+        self.items.append(&mut items)?;
+        Ok(())
+    }
+
+    /// Opens the module of an instance as the next scope.
+    fn enter_instance(
+        &mut self,
+        modules: &'a [Module],
+        number: usize,
+        place: u32,
+        values: &'a ParameterValues,
+        instance: &'a Instance,
+    ) -> Result<Vec<Task<'a>>, AllocError>
+        ensures { IfOk result (λ tasks. (p : Spot) → slice_get (flat_of self.old).places place ≡ Some p → PlacesInstance modules.now number place p values.now instance.now (flat_of self.old) tasks.items (flat_of self.new)) }
+    {
+        let inside = self.next_place()?;
+        let signals = self.take_signals();
+        let Some(around) = self.place(place) else {
+            return Err(AllocError);
+        };
+        let Some(declaration) = numbered(modules, number) else {
+            return Err(AllocError);
+        };
+        let joint = Joint {
+            outside: place,
+            inside,
+        };
+        let within = inner_modules(self.alloc, number, around.within.as_slice())?;
+        let entered = open_instance(
+            self.alloc,
+            joint,
+            around,
+            signals,
+            declaration,
+            values,
+            instance,
+        )?;
+        let Entered {
+            prefix,
+            child,
+            items,
+        } = entered;
+        self.list_all(items)?;
+        let tasks = self.enter(prefix, None, within, child)?;
+        Ok(tasks)
+    }
+
+    /// What is left of an instance.
+    pub(crate) fn instance(
+        &mut self,
+        modules: &'a [Module],
+        place: u32,
+        name: &'a Identifier,
+        values: &'a ParameterValues,
+        instance: &'a Instance,
+    ) -> Result<Vec<Task<'a>>, AllocError>
+        ensures { IfOk result (λ tasks. Replaces modules.now (Placed place name.now values.now instance.now) (flat_of self.old) tasks.items (flat_of self.new)) }
+    {
+        let Some(around) = self.place(place) else {
+            return Err(AllocError);
+        };
+        match placed_in(modules, name, around.within.as_slice()) {
+            Err(error) => {
+                let tasks = one(self.alloc, Task::Refuses(error))?;
+                Ok(tasks)
+            }
+            Ok(number) => {
+                let tasks = self.enter_instance(modules, number, place, values, instance)?;
+                Ok(tasks)
+            }
+        }
+    }
+}
