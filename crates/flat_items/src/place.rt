@@ -7,7 +7,7 @@ use vlog_meaning::Scope;
 /// around it where it is a generate block, and the numbers of the modules around, from the innermost on.
 #[derive(Drop)]
 pub struct Place {
-    pub(crate) prefix: Text,
+    pub prefix: Text,
     pub(crate) scope: Scope,
     pub(crate) own: OwnNames,
     pub(crate) around: Option<u32>,
