@@ -1,22 +1,24 @@
 #!/usr/bin/env python3
-"""The cases of crates/tag_cases: tag scripts, and what each says by Python's own parser, or why it is refused.
+"""The cases of crates/tag_cases: tag scripts, and what each says and asks by Python itself, or why it is refused.
 
     python3 tests/tag_scripts.py input > crates/tag_cases/stdin
     python3 tests/tag_scripts.py output > crates/tag_cases/stdout
 
-A script stands on one line, with `^` between its lines. Scripts that are taken are random programs in the language, which Python's `ast`
-takes apart. Those that are refused are worked by the rules of docs/FORMATS.md and docs/DECISIONS.md, or made from good ones by an edit
-with a fault that is known.
+A script stands on one line, with `^` between its lines. Scripts that are taken are random programs in the language and worked ones,
+which Python's `ast` takes apart; Python runs each with some words of the tests, some of which are not there or not expected. Those
+that are refused are worked by the rules of docs/FORMATS.md and docs/DECISIONS.md.
 """
 
 import ast
 import random
+import re
 import sys
 
 sys.setrecursionlimit(20000)
 
 TESTS = ["t", "u"]
 TAGS = ["X", "Y"]
+WORDS = ["PASS", "FAIL", "HANG", "UNKNOWN"]
 
 
 def expr(node, names):
@@ -62,6 +64,47 @@ def statements(nodes, names):
         else:
             assert isinstance(node, ast.Pass)
     return text
+
+
+class Need(Exception):
+    pass
+
+
+class Unexpected(Exception):
+    pass
+
+
+def asked(code, words):
+    """What a script asks or how it ends, where the tests have these words, and HANG is not expected of the first."""
+    tags = 0
+
+    def result(name):
+        test = TESTS.index(name)
+        if words[test] is None:
+            raise Need(test)
+        if (test, words[test]) == (0, 2):
+            raise Unexpected(test)
+        return WORDS[words[test]]
+
+    def tag(name):
+        nonlocal tags
+        tags |= 1 << TAGS.index(name)
+
+    try:
+        exec(code, {"result": result, "tag": tag})
+    except Need as need:
+        return f"Need({need.args[0]})"
+    except Unexpected as unexpected:
+        return f"Unexpected({unexpected.args[0]})"
+    except AssertionError as failed:
+        return f"AssertFailed({failed.__traceback__.tb_next.tb_lineno})"
+    return f"Done({tags})"
+
+
+def asks(text):
+    plain = re.sub(r"\b0+(?=\d)", "", text)
+    code = compile(plain.replace("^", "\n"), "script", "exec")
+    return " ".join(asked(code, (t, u)) for t in (None, 0, 1, 2) for u in (None, 0, 1, 3))
 
 
 def names_of(tree):
@@ -152,6 +195,15 @@ WORKED = [
     ("pass", "script"),
     ('if result("t") == "PASS":^    tag("X")^else:^    tag("Y")', None),
     ("a = 1^b = 007^tag('X')  # a tag", "script (set n0 1) (set n1 7) (tag g0)"),
+    # what is not asked, what a failed assertion leaves, and what differs
+    ('tag("X")', None),
+    ('tag("X")^assert 0^tag("Y")', None),
+    ('tag("X")^assert result("t") == "PASS"', None),
+    ('if 0 and result("t"):^  tag("X")^elif 1 or result("u"):^  tag("Y")', None),
+    ('if "" or result("u") == "UNKNOWN" and not result("t"):^  tag("X")', None),
+    ('if result("u") == "PASS":^  tag("X")^elif result("t") == "PASS":^  tag("Y")', None),
+    ('assert 1 != "1" and "" != 0 and True == 1 and not "" == False', None),
+    ('a = result("u") and "x" or 5^assert a == "x"^a = 0^assert not a', None),
     # an indentation that fits no block
     (" pass", "Indent(1)"),
     ("\tpass", "Indent(1)"),
@@ -280,6 +332,8 @@ def cases():
 def main():
     for text, said in cases():
         print(text if sys.argv[1] == "input" else said)
+        if sys.argv[1] == "output" and said.startswith("script"):
+            print(asks(text))
 
 
 main()
