@@ -1,0 +1,11 @@
+use Rattle.gate_words.proofs.SumLemmas.{carry-made}
+use Rattle.gate_words.proofs.sums.carry_of.Goals as goal
+
+pub returns : goal.returns
+returns c =
+    carry-made c.args.gates.now c.args.a c.args.b c.args.carry
+    (record { gates = c.and.new.self; lit = c.in_ok-both.both })
+    (record { gates = c.xor.new.self; lit = c.in_ok-apart.apart })
+    (record { gates = c.and-2.new.self; lit = c.in_ok-passed.passed })
+    (record { gates = c.or.new.self; lit = c.in_ok-next.next })
+    c.in_ok-both.ensures.made c.in_ok-apart.ensures.made c.in_ok-passed.ensures.made c.in_ok-next.ensures.made
