@@ -1,5 +1,8 @@
-pub mod Growing
-pub mod Numbers
-pub mod RowLemmas
-pub mod SumLemmas
 pub mod Adders
+pub mod Growing
+pub mod Moving
+pub mod Numbers
+pub mod ProductLemmas
+pub mod RowLemmas
+pub mod ShiftLemmas
+pub mod SumLemmas

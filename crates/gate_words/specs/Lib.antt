@@ -1,3 +1,5 @@
 pub mod Bits
+pub mod Products
 pub mod Rows
+pub mod Shifts
 pub mod Sums
