@@ -41,7 +41,7 @@ moved-all Up n fill bits past = take-append-le (length bits) (replicate n fill) 
 moved-all Down n fill bits past =
     ap (λ l. l ++ replicate (length bits - length l) fill) (drop_all n bits past) ∙ ap (λ (k : ℕ). replicate k fill) (let e : length bits - 0 ≡ length bits = omega arith in e)
 
-take-append-take : {X : Type 0} (k w : ℕ) (xs ys : List X) → k ≤ w → take k (xs ++ take w ys) ≡ take k (xs ++ ys)
+pub take-append-take : {X : Type 0} (k w : ℕ) (xs ys : List X) → k ≤ w → take k (xs ++ take w ys) ≡ take k (xs ++ ys)
 take-append-take k w [] ys le = take-take k w ys le
 take-append-take zero w (x ∷ xs) ys le = refl
 take-append-take (suc k) w (x ∷ xs) ys le = ap (λ l. x ∷ l) (take-append-take k w xs ys (omega (arith, le)))

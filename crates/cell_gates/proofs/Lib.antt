@@ -1,0 +1,4 @@
+pub mod CellLemmas
+pub mod CellNumbers
+pub mod Laying
+pub mod PortWidths

@@ -1,0 +1,3 @@
+pub mod CellRows
+pub mod Weights
+pub mod Meanings
