@@ -17,7 +17,8 @@ pub(crate) fn one_bit(
     requires { IsLit (count gates.now) lit }
     ensures { IfOk result (λ found. found.items ≡ negated_if negate lit ∷ []) }
 {
-    let most = gates.free() + gates.len();
+    // Both are small, so a negated literal is a number of its type.
+    let _ = gates.free() + gates.len();
     let mut found = Vec::new(alloc);
     found.push(lit.negated_if(negate))?;
     Ok(found)

@@ -63,7 +63,8 @@ pub fn negated_row(
     requires { All (IsLit (count gates.now)) bits.now }
     ensures { IfOk result (λ found. found.items ≡ map negated bits.now) }
 {
-    let most = gates.free() + gates.len();
+    // Both are small, so a negated literal is a number of its type.
+    let _ = gates.free() + gates.len();
     let mut found = Vec::new(alloc);
     for bit in bits {
         found.push(bit.negated())?;

@@ -158,7 +158,8 @@ fn ordered(
     requires { All (IsLit (count gates.now)) bits.now }
     ensures { IfOk result (λ found. found.items ≡ ordered signed bits.now) }
 {
-    let most = gates.free() + gates.len();
+    // Both are small, so a negated literal is a number of its type.
+    let _ = gates.free() + gates.len();
     let mut found = Vec::from_slice(alloc, bits)?;
     if signed {
         if let Some(top) = found.pop() {
@@ -187,7 +188,8 @@ pub fn is_less(
     let second = ordered(alloc, signed, b, gates)?;
     let flipped = negated_row(alloc, &second, gates)?;
     let carry = carry_out(&first, &flipped, GateLit::Fixed(true), gates)?;
-    let most = gates.free() + gates.len();
+    // Both are small, so a negated literal is a number of its type.
+    let _ = gates.free() + gates.len();
     Ok(carry.negated())
 }
 
