@@ -1,0 +1,13 @@
+use Rattle.std.proofs.Common.{◌≡◌, List, length, take, drop}
+use Rattle.vlog_syntax.specs.declared.stmt.Stmt.{Stmt}
+use Rattle.tb_machine.specs.Phases.{all_woken}
+use Rattle.tb_machine.specs.Nodes.{tree_of, IsCode}
+use Rattle.tb_machine.specs.Machine.{all_suspended, StacksBelow}
+use Rattle.tb_machine.proofs.Wakes.{with_first}
+use Rattle.tb_machine.proofs.wake.wake_all.Given as goal
+
+abbrev pub invariant-loop-i : goal.invariant-loop-i
+invariant-loop-i g l = record {
+  ran : (trees : List Stmt) → IsCode l.nodes trees → all_woken (g.E.Evaluator.meaning l.evaluator) l.event l.initial.left (all_suspended l.nodes (tree_of trees) l.initial.processes) l.initial.scene ≡ with_first (take l.i (all_suspended l.nodes (tree_of trees) l.processes)) (all_woken (g.E.Evaluator.meaning l.evaluator) l.event l.left (drop l.i (all_suspended l.nodes (tree_of trees) l.processes)) l.scene);
+  below : StacksBelow (length l.nodes) l.processes;
+}

@@ -1,0 +1,7 @@
+pub mod Worlds
+pub mod Steps
+pub mod Nodes
+pub mod Machine
+pub mod Phases
+pub mod Simulations
+pub mod Laws
