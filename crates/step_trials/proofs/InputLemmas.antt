@@ -1,0 +1,87 @@
+-- The bits of all inputs together.
+use Rattle.std.proofs.Common.{suc, ◌≡◌, ℕ, ◌+◌, ◌*◌, ◌/◌, ◌%◌, ◌<◌, ◌^◌, Bool, List, [], ◌∷◌, ◌++◌, length, nat_eq, refl, sym, ◌∙◌, ap, subst, arith}
+use Rattle.std.proofs.Math.Nat.{mod-lt, mod-eq_of_lt, div-eq_of_lt, div-div-eq-div-mul, add-mul-mod_self_left, add-mul-div_left, pow-succ'}
+use Rattle.std.proofs.lemmas.Nat.{mod-pow-add, pow_pos}
+use Rattle.std.proofs.lemmas.List.{map-append}
+use Rattle.netlist_core.specs.declared.bit.Bit.{Bit}
+use Rattle.netlist_core.specs.declared.bit.Bit.TheVariants.{Fixed, Net}
+use Rattle.netlist_core.specs.declared.raw.RawNetlist.{RawNetlist}
+use Rattle.netlist_core.specs.Numbers.{number}
+use Rattle.netlist_core.specs.Runs.{Nets, bit_value, values, port_numbers}
+use Rattle.netlist_core.specs.Settled.{with_net, laid, laid_all}
+use Rattle.netlist_core.specs.Solutions.{FitPorts}
+use Rattle.netlist_core.proofs.Settles.{length-values, number-fits}
+use Rattle.cell_meaning.proofs.Parts.{number-append}
+use Rattle.step_trials.specs.Inputs.{joined, input_bits, parts}
+
+-- Laying a number.
+
+half-again : (v k : ℕ) → v / 2 / 2 ^ k ≡ v / 2 ^ suc k
+half-again v k = div-div-eq-div-mul v 2 (2 ^ k) ∙ ap (λ (n : ℕ). v / n) (sym (pow-succ' 2 k))
+
+-- the low bits of a number: bit 0, and those above it
+low-whole : (v k : ℕ) → v % 2 ^ suc k ≡ (v / 2 ^ 1 % 2 ^ k) * 2 ^ 1 + v % 2 ^ 1
+low-whole v k =
+    let parts_of : v % 2 ^ (k + 1) ≡ (v / 2 ^ 1 % 2 ^ k) * 2 ^ 1 + v % 2 ^ 1 = mod-pow-add v k 1 in
+    let same : k + 1 ≡ suc k = omega arith in
+    rw same at parts_of
+
+cut-bit : (v k : ℕ) → v % 2 ^ suc k % 2 ≡ v % 2
+cut-bit v k = (let whole = low-whole v k in omega (arith, whole))
+
+cut-half : (v k : ℕ) → v % 2 ^ suc k / 2 ≡ v / 2 % 2 ^ k
+cut-half v k = (let whole = low-whole v k in omega (arith, whole))
+
+-- only the low bits of a number are laid
+pub laid-low : (nets : Nets) (bits : List Bit) (v : ℕ) → laid nets bits (v % 2 ^ length bits) ≡ laid nets bits v
+laid-low nets [] v = refl
+laid-low nets (Fixed b ∷ more) v = ap (laid nets more) (cut-half v (length more)) ∙ laid-low nets more (v / 2)
+laid-low nets (Net n ∷ more) v =
+    ap (λ w. laid (with_net nets n (nat_eq w 1)) more (v % 2 ^ suc (length more) / 2)) (cut-bit v (length more))
+    ∙ ap (laid (with_net nets n (nat_eq (v % 2) 1)) more) (cut-half v (length more))
+    ∙ laid-low (with_net nets n (nat_eq (v % 2) 1)) more (v / 2)
+
+laid-append : (nets : Nets) (xs ys : List Bit) (v : ℕ) → laid nets (xs ++ ys) v ≡ laid (laid nets xs v) ys (v / 2 ^ length xs)
+laid-append nets [] ys v = ap (laid nets ys) (let whole : v ≡ v / 2 ^ 0 = omega arith in whole)
+laid-append nets (Fixed b ∷ xs) ys v = laid-append nets xs ys (v / 2) ∙ ap (laid (laid nets xs (v / 2)) ys) (half-again v (length xs))
+laid-append nets (Net n ∷ xs) ys v =
+    let start : Nets = with_net nets n (nat_eq (v % 2) 1) in
+    laid-append start xs ys (v / 2) ∙ ap (laid (laid start xs (v / 2)) ys) (half-again v (length xs))
+
+-- a number that is laid over all ports is laid over each in its part
+pub laid-parts : (nets : Nets) (ports : List (List Bit)) (v : ℕ) → laid nets (joined ports) v ≡ laid_all nets ports (parts ports v)
+laid-parts nets [] v = refl
+laid-parts nets (bits ∷ more) v =
+    laid-append nets bits (joined more) v
+    ∙ laid-parts (laid nets bits v) more (v / 2 ^ length bits)
+    ∙ ap (λ (start : Nets). laid_all start more (parts more (v / 2 ^ length bits))) (sym (laid-low nets bits v))
+
+pub laid_all-none : (nets : Nets) (ports : List (List Bit)) → laid_all nets ports [] ≡ nets
+laid_all-none nets [] = refl
+laid_all-none nets (bits ∷ more) = refl
+
+pub parts-fit : (ports : List (List Bit)) (v : ℕ) → FitPorts ports (parts ports v)
+parts-fit [] v = tt
+parts-fit (bits ∷ more) v = (mod-lt v (pow_pos (length bits)), parts-fit more (v / 2 ^ length bits))
+
+-- The number of the bits at all ports.
+
+number-low : (xs ys : List Bool) → number (xs ++ ys) % 2 ^ length xs ≡ number xs
+number-low xs ys = ap (λ (n : ℕ). n % 2 ^ length xs) (number-append xs ys) ∙ add-mul-mod_self_left (number xs) (2 ^ length xs) (number ys) ∙ mod-eq_of_lt (number-fits xs)
+
+number-high : (xs ys : List Bool) → number (xs ++ ys) / 2 ^ length xs ≡ number ys
+number-high xs ys = ap (λ (n : ℕ). n / 2 ^ length xs) (number-append xs ys) ∙ add-mul-div_left (number xs) (number ys) (pow_pos (length xs)) ∙ ap (λ (n : ℕ). n + number ys) (div-eq_of_lt (number-fits xs)) ∙ (let whole : 0 + number ys ≡ number ys = omega arith in whole)
+
+pub parts-values : (nets : Nets) (ports : List (List Bit)) → parts ports (number (values nets (joined ports))) ≡ port_numbers nets ports
+parts-values nets [] = refl
+parts-values nets (bits ∷ more) =
+    let whole : values nets (bits ++ joined more) ≡ values nets bits ++ values nets (joined more) = map-append (bit_value nets) bits (joined more) in
+    let wide : length (values nets bits) ≡ length bits = length-values nets bits in
+    let low : number (values nets (bits ++ joined more)) % 2 ^ length bits ≡ number (values nets bits) = rw (whole, ← wide) (number-low (values nets bits) (values nets (joined more))) in
+    let high : number (values nets (bits ++ joined more)) / 2 ^ length bits ≡ number (values nets (joined more)) = rw (whole, ← wide) (number-high (values nets bits) (values nets (joined more))) in
+    let rest : parts more (number (values nets (joined more))) ≡ port_numbers nets more = parts-values nets more in
+    rw (low, high, rest) refl
+
+-- it is one of those that are tried
+pub inputs-tried : (netlist : RawNetlist) (nets : Nets) → number (values nets (input_bits netlist)) < 2 ^ length (input_bits netlist)
+inputs-tried netlist nets = subst (λ (n : ℕ). number (values nets (input_bits netlist)) < 2 ^ n) (length-values nets (input_bits netlist)) (number-fits (values nets (input_bits netlist)))

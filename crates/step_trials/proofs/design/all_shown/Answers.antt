@@ -1,0 +1,27 @@
+use Rattle.std.proofs.Common.{◌≤◌, ℕ, List, ◌∷◌, [], length, sym, ◌∙◌, subst, arith}
+use Rattle.std.proofs.lemmas.Nat.{pow_below}
+use Rattle.std.proofs.lemmas.List.{length-append}
+use Rattle.step_trials.specs.Equal.{design}
+use Rattle.step_trials.specs.Trials.{ShowsAt}
+use Rattle.step_trials.proofs.TrialLemmas.{ShowsAll-push}
+use Rattle.step_trials.proofs.design.all_shown.Goals as goal
+
+pub overflow_cast-bits : goal.overflow_cast-bits
+overflow_cast-bits c =
+    let few : length c.args.bits.now ≤ 8 = rw c.requires.bits c.requires.small in
+    omega (arith, few)
+
+pub pow-count-requires : goal.pow-count-requires
+pow-count-requires c =
+    let few : length c.args.bits.now ≤ 8 = rw c.requires.bits c.requires.small in
+    pow_below (length c.args.bits.now) 32 (omega (arith, few))
+
+pub loop-number-preserved : goal.loop-number-preserved
+loop-number-preserved c =
+    let lists : List (List ℕ) = c.loop-number.list.items in
+    let list : List ℕ = c.in_ok-shown_for.field-0 in
+    let one : ShowsAt (design c.args.netlist.now.raw) (length lists) list = subst (λ (n : ℕ). ShowsAt (design c.args.netlist.now.raw) n list) (c.from.ensures ∙ sym c.loop-number.invariant.count) c.in_ok-shown_for.ensures in
+    rw c.in_ok-push.ensures.items (record {
+      count = omega (arith, length-append lists (list ∷ []), c.loop-number.invariant.count);
+      shows = ShowsAll-push (design c.args.netlist.now.raw) lists list c.loop-number.invariant.shows one;
+    })

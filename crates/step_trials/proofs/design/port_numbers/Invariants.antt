@@ -1,0 +1,7 @@
+use Rattle.std.proofs.Common.{◌≡◌, take}
+use Rattle.netlist_core.specs.Runs.{bits_at, port_numbers}
+use Rattle.step_trials.specs.Tables.{nets_of}
+use Rattle.step_trials.proofs.design.port_numbers.Given as goal
+
+abbrev pub invariant-loop-port : goal.invariant-loop-port
+invariant-loop-port l = l.list.items ≡ port_numbers (nets_of l.table) (bits_at (take l.port-index l.ports))

@@ -1,0 +1,12 @@
+pub mod Distinct
+pub mod Members
+pub mod Pieces
+pub mod Texts
+pub mod ThinText
+pub mod Unrepeated
+pub mod Positions
+pub mod ThinNames
+pub mod ThinNets
+pub mod InOrder
+pub mod Accepted
+pub mod ThinSound
