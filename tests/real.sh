@@ -265,7 +265,7 @@ ends 0 "$(for n in 0 1; do
     done
 done | sed '=' | sed 'N; s/\n/: /')" "" list
 cp config.mcy was && sed 's/^modes inv$/modes inv const0/' was >config.mcy
-refuses 99 "mcy: not built" "" run
+refuses 10 "mcy: database: meta 1" "./mcy.db-wal " run
 sed 's/^eq$/run true/' was >config.mcy
 refuses 3 "mcy: config.mcy:$(grep -n '^eq$' was | cut -d: -f1): UnsupportedCommand" "" run
 {
@@ -282,6 +282,14 @@ cp was config.mcy && mv rtl/parity.v rtl/other.v
 refuses 6 "mcy: rtl/parity.v: missing" "" status
 sed 's/^rtl.*/rtl\/other.v/; s/^read_verilog.*/read_verilog other.v/' was >config.mcy
 refuses 10 "mcy: database: meta 1" "./mcy.db-wal " status
+
+# Three mutations of twelve sites in two modes, picked from each line first.
+rm -rf "$room/here" && cp -r "$root/examples/parity" "$room/here" && cd "$room/here" && chmod -R go+rX . && chmod 777 . || exit 1
+sed 's/^modes inv$/modes inv const0/; s/^tags /size 3\npick even\n&/' "$root/examples/parity/config.mcy" >config.mcy
+ends 0 "$(printf 'Sites: 12\nMutations: 3')" "" init
+ends 0 '1: const0 g cell xor_0 A 0 rtl/parity.v:2 [] !unfinished
+2: inv g cell xor_0 B 0 rtl/parity.v:2 [] !unfinished
+3: inv g cell xor_1 Y 0 rtl/parity.v:3 [] !unfinished' "" list
 
 # A folder with the database of a finished campaign, to which others may write.
 finished_folder() {

@@ -5,7 +5,7 @@ use mcy_outside::{MemoryFiles, MemorySink};
 use std::alloc::{AllocError, Global};
 
 /// For how many bytes a sink has room.
-const ROOM: usize = 1000;
+const ROOM: usize = 4096;
 
 /// What the next call finds.
 #[derive(Drop)]

@@ -171,7 +171,6 @@ readable_of map c made = record {
   got = record { before = record { config = made.config; got = made.got_config; says = made.made.says; built = made.made.built }; names = made.made.names; got = made.got_files };
   parsed = made.made.parsed;
   design = made.made.design;
-  all = made.made.all;
   few = made.made.few;
 }
 

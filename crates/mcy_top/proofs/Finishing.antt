@@ -4,7 +4,7 @@ use Rattle.std.proofs.lemmas.Bool.Decides.{eqb_tells}
 use Rattle.mcy_keeper.specs.declared.book.Entry.{Entry}
 use Rattle.mcy_keeper.specs.declared.book.Book.{Book}
 use Rattle.netlist_core.specs.declared.raw.RawNetlist.{RawNetlist}
-use Rattle.mcy_top.specs.declared.site.Site.{Site}
+use Rattle.mutation_sites.specs.declared.site.Site.{Site}
 use Rattle.mcy_top.specs.declared.prepared.Prepared.{Prepared}
 use Rattle.result_book.specs.declared.script.Ask.TheVariants.{Need}
 use Rattle.result_book.specs.Scripts.{Answer, ask, is_ended}

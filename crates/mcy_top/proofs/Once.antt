@@ -2,16 +2,15 @@
 use Rattle.std.proofs.Common.{◌≡◌, inl, inr, arith, ℕ, ◌+◌, Bool, true, false, MatchBool, List, [], ◌∷◌, ◌++◌, length, map, slice_get, Option, None, Some, refl, sym, ap, subst, ◌∙◌}
 use Rattle.mcy_keeper.specs.declared.book.Book.{Book}
 use Rattle.netlist_core.specs.declared.raw.RawNetlist.{RawNetlist}
-use Rattle.mcy_top.specs.declared.site.Site.{Site}
-use Rattle.mcy_top.specs.declared.thin.ThinModule.{ThinModule}
+use Rattle.mutation_sites.specs.declared.site.Site.{Site}
 use Rattle.mcy_top.specs.declared.prepared.Prepared.{Prepared}
 use Rattle.result_book.specs.declared.script.Ask.{Ask}
 use Rattle.result_book.specs.declared.script.Ask.TheVariants.{Need}
 use Rattle.mcy_base.specs.declared.file.SourceFile.{SourceFile}
 use Rattle.project_file.specs.declared.project.Project.{Project}
 use Rattle.project_file.specs.Projects.{design_files, IsProject}
-use Rattle.mcy_top.specs.ThinNetlists.{netlist_of}
-use Rattle.mcy_top.specs.Sites.{sites}
+use Rattle.thin_source.specs.ThinNetlists.{netlist_of}
+use Rattle.mcy_top.specs.Mutations.{all_sites, picked_sites}
 use Rattle.result_book.specs.Scripts.{Answer, ask, is_ended}
 use Rattle.mcy_top.specs.Campaigns.{campaign_of, file_item, meta_of, IsDesign, IsPlan}
 use Rattle.result_book.specs.Rows.{IsWellFormed}
@@ -35,10 +34,13 @@ plan_once c d one two same =
     let design : IsDesign two.made.project two.files one.made.parsed = subst (λ (p : Project). IsDesign p two.files one.made.parsed) project (subst (λ (fs : List SourceFile). IsDesign one.made.project fs one.made.parsed) files one.made.design) in
     let parsed : one.made.parsed ≡ two.made.parsed = design_once two.made.project two.files one.made.parsed two.made.parsed design two.made.design in
     let netlist : c.netlist ≡ d.netlist = one.made.netlist ∙ ap netlist_of parsed ∙ sym two.made.netlist in
-    let places : c.sites ≡ d.sites = one.made.places ∙ ap (λ (m : ThinModule). sites (netlist_of m)) parsed ∙ sym two.made.places in
+    let picked : picked_sites one.made.project (netlist_of one.made.parsed) ≡ picked_sites two.made.project (netlist_of two.made.parsed) = λ i. picked_sites (project i) (netlist_of (parsed i)) in
+    let places : c.sites ≡ d.sites = one.made.places ∙ picked ∙ sym two.made.places in
+    let counted : length (all_sites one.made.project (netlist_of one.made.parsed)) ≡ length (all_sites two.made.project (netlist_of two.made.parsed)) = λ i. length (all_sites (project i) (netlist_of (parsed i))) in
+    let count : c.site_count ≡ d.site_count = one.made.count ∙ counted ∙ sym two.made.count in
     let derived : campaign_of one.config one.made.project one.files one.made.parsed ≡ campaign_of two.config two.made.project two.files two.made.parsed = λ i. campaign_of (config i) (project i) (files i) (parsed i) in
     let campaign : c.campaign ≡ d.campaign = one.made.campaign ∙ derived ∙ sym two.made.campaign in
-    λ i. record { campaign = campaign i; sites = places i; netlist = netlist i }
+    λ i. record { campaign = campaign i; site_count = count i; sites = places i; netlist = netlist i }
 
 -- a good book's words are true for the campaign that it is well-formed for
 pub true_of : (c : Prepared) (book : Book) → IsPlan c → IsWellFormed c.campaign book → IsBlankOrGood book → AreTrue c book.journal

@@ -12,19 +12,18 @@ use Rattle.project_file.specs.declared.error.ProjectError.TheVariants.{NotUtf8}
 use Rattle.project_file.specs.declared.project.Project.{Project}
 use Rattle.project_file.specs.Projects.{design_files, IsCut, IsFault, IsProject}
 use Rattle.mcy_top.specs.declared.outcome.Part.{Part}
-use Rattle.mcy_top.specs.declared.outcome.Part.TheVariants.{Source, Modes, Tests, Logic, Size}
+use Rattle.mcy_top.specs.declared.outcome.Part.TheVariants.{Source, Tests, Logic}
 use Rattle.mcy_top.specs.declared.outcome.Refusal.{Refusal}
 use Rattle.mcy_top.specs.declared.outcome.Refusal.TheVariants.{ProjectBad, SourceBad, Memory, Unbuilt}
-use Rattle.mcy_top.specs.declared.thin.ThinModule.{ThinModule}
-use Rattle.mcy_top.specs.Limits.{max_bytes, max_free_bits}
+use Rattle.thin_source.specs.declared.thin.ThinModule.{ThinModule}
+use Rattle.mcy_top.specs.Limits.{max_bytes}
+use Rattle.step_trials.specs.Inputs.{max_free_bits}
 use Rattle.mcy_top.specs.Projects.{IsBuilt, IsUnbuilt}
-use Rattle.mcy_top.specs.Sites.{sites}
-use Rattle.mcy_top.specs.ThinModules.{IsSource, input_names}
-use Rattle.mcy_top.specs.ThinNetlists.{netlist_of}
+use Rattle.thin_source.specs.ThinModules.{IsSource, input_names}
 use Rattle.mcy_top.specs.declared.prepared.Prepared.{Prepared}
-use Rattle.mcy_top.specs.Campaigns.{config_name, file_item, Got, GotAll, IsDesign, IsMade, IsPrepared}
+use Rattle.mcy_top.specs.Campaigns.{config_name, file_item, names_of, Got, GotAll, IsDesign, IsMade, IsPrepared}
 use Rattle.mcy_top.specs.Reads.{GotSources, HasProject, IsNext, IsRead, IsUnmade, IsUntaken, IsUntakenDesign}
-use Rattle.mcy_top.proofs.ThinText.{source_once}
+use Rattle.thin_source.proofs.ThinText.{source_once}
 
 -- Lists of one, two and four, by what is read of them.
 
@@ -72,24 +71,16 @@ project_not_fault config p e h (inl k) = cut_not_utf8 config e k h.utf8
 project_not_fault config p e h (inr k) = let is : None ≡ Some e = sym h.faultless ∙ k.1 in cc
 
 unbuilt_once : (p : Project) (a b : Part) → IsUnbuilt p a → IsUnbuilt p b → a ≡ b
-unbuilt_once p Modes Modes h k = refl
-unbuilt_once p Modes Tests h k = absurd (h k.0)
-unbuilt_once p Modes Logic h k = absurd (h k.0)
-unbuilt_once p Tests Modes h k = absurd (k h.0)
 unbuilt_once p Tests Tests h k = refl
-unbuilt_once p Tests Logic h k = absurd (h.1 k.1)
-unbuilt_once p Logic Modes h k = absurd (k h.0)
-unbuilt_once p Logic Tests h k = absurd (k.1 h.1)
+unbuilt_once p Tests Logic h k = absurd (h k.0)
+unbuilt_once p Logic Tests h k = absurd (k h.0)
 unbuilt_once p Logic Logic h k = refl
 unbuilt_once p Source b h k = absurd h
-unbuilt_once p Size b h k = absurd h
 unbuilt_once p a Source h k = absurd k
-unbuilt_once p a Size h k = absurd k
 
 built_not_unbuilt : (p : Project) (part : Part) → IsBuilt p → ¬ IsUnbuilt p part
-built_not_unbuilt p Modes built h = h built.modes
-built_not_unbuilt p Tests built h = h.1 built.tests
-built_not_unbuilt p Logic built h = h.2 built.logic
+built_not_unbuilt p Tests built h = h built.tests
+built_not_unbuilt p Logic built h = h.1 built.logic
 built_not_unbuilt p part built h = absurd h
 
 -- a project file is refused for one thing,
@@ -120,9 +111,6 @@ given_same held max a b one two = let is : Some a ≡ Some b = sym one.same ∙ 
 -- what is held under a name, if not too much
 abbrev pub IsThere : Held → List ℕ → Type 0
 IsThere told name = (bytes : List ℕ) × Gives (told name) max_bytes bytes
-
-abbrev pub names_of : List SourceFile → List (List ℕ)
-names_of files = map (λ (file : SourceFile). file.name) files
 
 got_head : (told : Held) (file : SourceFile) (files : List SourceFile) → GotAll (Some told) (file ∷ files) → Gives (told file.name) max_bytes file.bytes
 got_head told file files got = All-head (λ (f : SourceFile). Gives (told f.name) max_bytes f.bytes) file files got
@@ -201,39 +189,27 @@ design_once p files m n h k =
     let file : h.file ≡ k.file = cc in
     source_once k.file.bytes m n (subst (λ (f : SourceFile). IsSource f.bytes m) file h.text) k.text
 
-many_sites_not : (p : Project) (files : List SourceFile) (m n : ThinModule) → IsDesign p files m → IsDesign p files n → p.size < length (sites (netlist_of m)) → ¬ (length (sites (netlist_of n)) ≤ p.size)
-many_sites_not p files m n h k many all =
-    let more : p.size < length (sites (netlist_of n)) = subst (λ (d : ThinModule). p.size < length (sites (netlist_of d))) (design_once p files m n h k) many in
-    omega arith
-
 -- the sources are refused for one thing,
 pub untaken_design_once : (p : Project) (files : List SourceFile) (r q : Refusal) → r ≢ Memory → q ≢ Memory → IsUntakenDesign p files r → IsUntakenDesign p files q → r ≡ q
 untaken_design_once p files Memory q m n h k = absurd (m refl)
 untaken_design_once p files r Memory m n h k = absurd (n refl)
 untaken_design_once p files (Unbuilt Source) (Unbuilt Source) m n h k = refl
-untaken_design_once p files (Unbuilt Source) (Unbuilt Size) m n h (d, is, many) = absurd (h d is)
 untaken_design_once p files (Unbuilt Source) (SourceBad e) m n h (d, is, wide) = absurd (h d is)
-untaken_design_once p files (Unbuilt Size) (Unbuilt Source) m n (d, is, many) k = absurd (k d is)
-untaken_design_once p files (Unbuilt Size) (Unbuilt Size) m n h k = refl
-untaken_design_once p files (Unbuilt Size) (SourceBad e) m n (d, is, many) (d', is', wide) = absurd (many_sites_not p files d d' is is' many wide.all)
 untaken_design_once p files (SourceBad e) (Unbuilt Source) m n (d, is, wide) k = absurd (k d is)
-untaken_design_once p files (SourceBad e) (Unbuilt Size) m n (d, is, wide) (d', is', many) = absurd (many_sites_not p files d' d is' is many wide.all)
 untaken_design_once p files (SourceBad e) (SourceBad f) m n (d, is, wide) (d', is', wide') = ap SourceBad (wide.is ∙ sym wide'.is)
 untaken_design_once p files (Unbuilt Source) q m n h k = absurd k
-untaken_design_once p files (Unbuilt Size) q m n h k = absurd k
 untaken_design_once p files (SourceBad e) q m n h k = absurd k
 untaken_design_once p files r q m n h k = absurd h
 
 -- and those that are taken for none
-pub untaken_design_not : (p : Project) (files : List SourceFile) (m : ThinModule) (r : Refusal) → IsDesign p files m → length (sites (netlist_of m)) ≤ p.size → length (input_names m.ports) ≤ max_free_bits → r ≢ Memory → ¬ IsUntakenDesign p files r
-untaken_design_not p files m Memory is all few some h = some refl
-untaken_design_not p files m (Unbuilt Source) is all few some h = h m is
-untaken_design_not p files m (Unbuilt Size) is all few some (d, is', many) = many_sites_not p files d m is' is many all
-untaken_design_not p files m (SourceBad e) is all few some (d, is', wide) =
+pub untaken_design_not : (p : Project) (files : List SourceFile) (m : ThinModule) (r : Refusal) → IsDesign p files m → length (input_names m.ports) ≤ max_free_bits → r ≢ Memory → ¬ IsUntakenDesign p files r
+untaken_design_not p files m Memory is few some h = some refl
+untaken_design_not p files m (Unbuilt Source) is few some h = h m is
+untaken_design_not p files m (SourceBad e) is few some (d, is', wide) =
     let same : d ≡ m = design_once p files d m is' is in
     let many : max_free_bits < length (input_names m.ports) = subst (λ (d : ThinModule). max_free_bits < length (input_names d.ports)) same wide.many in
     omega arith
-untaken_design_not p files m r is all few some h = absurd h
+untaken_design_not p files m r is few some h = absurd h
 
 -- Where the sources are refused, the files make no campaign,
 pub untaken_unmade : (held : Option Held) (p : Project) (files : List SourceFile) (r : Refusal) → GotSources held p files → IsUntakenDesign p files r → IsUnmade held r

@@ -5,17 +5,17 @@ use Rattle.mcy_base.specs.declared.file.SourceFile.{SourceFile}
 use Rattle.mcy_outside.specs.Files.{Held, Gives, IsLarge}
 use Rattle.project_file.specs.declared.project.Project.{Project}
 use Rattle.project_file.specs.Projects.{design_files, IsProject}
-use Rattle.mcy_top.specs.declared.thin.ThinModule.{ThinModule}
+use Rattle.thin_source.specs.declared.thin.ThinModule.{ThinModule}
 use Rattle.result_book.specs.declared.campaign.Campaign.{Campaign}
 use Rattle.result_book.specs.Campaigns.{eq_kind}
 use Rattle.mcy_top.specs.declared.prepared.Prepared.{Prepared}
-use Rattle.mcy_top.specs.Limits.{max_bytes, max_free_bits}
+use Rattle.mcy_top.specs.Limits.{max_bytes}
+use Rattle.step_trials.specs.Inputs.{max_free_bits}
 use Rattle.mcy_top.specs.Projects.{change_tags, IsBuilt}
-use Rattle.mcy_top.specs.ThinModules.{IsSource, input_names}
-use Rattle.mcy_top.specs.ThinNetlists.{netlist_of}
-use Rattle.mcy_top.specs.Sites.{sites}
-use Rattle.mcy_top.specs.SiteTexts.{site_text}
-use Rattle.mcy_top.specs.SiteLines.{site_line}
+use Rattle.thin_source.specs.ThinModules.{IsSource, input_names}
+use Rattle.thin_source.specs.ThinNetlists.{netlist_of}
+use Rattle.mutation_sites.specs.SiteTexts.{site_text}
+use Rattle.mcy_top.specs.Mutations.{all_sites, picked_sites, site_line}
 
 abbrev pub config_name : List ℕ
 config_name = codes "config.mcy"
@@ -36,36 +36,35 @@ file_item file = file.name ++ (codes "\n" ++ file.bytes)
 abbrev pub meta_of : List ℕ → List SourceFile → List (List ℕ)
 meta_of config files = codes "1" ∷ config ∷ map file_item files
 
--- the name of file 0
-abbrev pub first_name : List SourceFile → List ℕ
-first_name [] = []
-first_name (file ∷ more) = file.name
+-- the files' names
+abbrev pub names_of : List SourceFile → List (List ℕ)
+names_of files = map (λ file. file.name) files
 
--- The campaign of a project and its sources. The sites of the netlist are its mutations.
+-- The campaign of a project and its sources. The sites that are picked are its mutations.
 abbrev pub campaign_of : List ℕ → Project → List SourceFile → ThinModule → Campaign
 campaign_of config project files m = record {
   meta = meta_of config files;
-  mutations = map (site_text (netlist_of m) (first_name files)) (sites (netlist_of m));
-  lines = map (site_line (netlist_of m)) (sites (netlist_of m));
+  mutations = map (site_text (netlist_of m) (names_of files)) (picked_sites project (netlist_of m));
+  lines = map (site_line (netlist_of m)) (picked_sites project (netlist_of m));
   test_names = codes "same" ∷ [];
   kinds = eq_kind ∷ [];
   expect = map (λ test. test.expect) project.tests;
   tags = change_tags;
 }
 
--- a campaign, with the netlist and the sites of its sources
+-- a campaign, with the netlist of its sources, how many sites that has, and those of the mutations
 pub record IsPrepared (config : List ℕ) (files : List SourceFile) (c : Prepared) : Type 0 where
   pub project : Project
   pub says : IsProject config project
   pub built : IsBuilt project
-  pub names : map (λ file. file.name) files ≡ design_files project
+  pub names : names_of files ≡ design_files project
   pub parsed : ThinModule
   pub design : IsDesign project files parsed
-  pub all : length (sites (netlist_of parsed)) ≤ project.size
   pub few : length (input_names parsed.ports) ≤ max_free_bits
   pub campaign : c.campaign ≡ campaign_of config project files parsed
   pub netlist : c.netlist ≡ netlist_of parsed
-  pub places : c.sites ≡ sites (netlist_of parsed)
+  pub count : c.site_count ≡ length (all_sites project (netlist_of parsed))
+  pub places : c.sites ≡ picked_sites project (netlist_of parsed)
 
 -- that of some project and sources
 pub record IsPlan (c : Prepared) : Type 0 where

@@ -7,14 +7,12 @@ use Rattle.mcy_outside.specs.Files.{Held}
 use Rattle.project_file.specs.declared.project.Project.{Project}
 use Rattle.mcy_top.specs.declared.command.Command.{Command}
 use Rattle.mcy_top.specs.declared.prepared.Prepared.{Prepared}
-use Rattle.mcy_top.specs.declared.thin.ThinModule.{ThinModule}
+use Rattle.thin_source.specs.declared.thin.ThinModule.{ThinModule}
 use Rattle.mcy_top.specs.declared.outcome.Outcome.{Outcome}
 use Rattle.mcy_top.specs.declared.outcome.Outcome.TheVariants.{Done, Unfinished, Memory}
-use Rattle.mcy_top.specs.Limits.{max_free_bits}
+use Rattle.step_trials.specs.Inputs.{max_free_bits}
 use Rattle.mcy_top.specs.Commands.{command_of, stop_of}
-use Rattle.mcy_top.specs.ThinModules.{input_names}
-use Rattle.mcy_top.specs.ThinNetlists.{netlist_of}
-use Rattle.mcy_top.specs.Sites.{sites}
+use Rattle.thin_source.specs.ThinModules.{input_names}
 use Rattle.mcy_top.specs.Campaigns.{IsDesign, IsMade}
 use Rattle.mcy_top.specs.Reads.{GotSources}
 use Rattle.mcy_top.specs.Life.{Takes}
@@ -28,7 +26,6 @@ pub record IsReadable (held : Option Held) : Type 0 where
   pub got : GotSources (Some map) project files
   pub parsed : ThinModule
   pub design : IsDesign project files parsed
-  pub all : length (sites (netlist_of parsed)) ≤ project.size
   pub few : length (input_names parsed.ports) ≤ max_free_bits
 
 -- the command is given, the files are there, and each book that a load may give is one that the command takes

@@ -1,19 +1,10 @@
 -- Which projects are built so far, and the part of another one that is not (docs/PROFILE.md).
-use Rattle.std.specs.Prelude.{◌≡◌, ℕ, ◌%◌, true, false, List, [], ◌∷◌, codes, map}
+use Rattle.std.specs.Prelude.{◌≡◌, ◌%◌, List, [], ◌∷◌, ℕ, codes, map}
 use Rattle.project_file.specs.declared.project.Project.{Project}
-use Rattle.project_file.specs.declared.project.ModeFlags.{ModeFlags}
 use Rattle.project_file.specs.declared.project.TestPlan.{TestPlan}
 use Rattle.project_file.specs.declared.project.TestKind.TheVariants.{Eq}
 use Rattle.mcy_top.specs.declared.outcome.Part.{Part}
-use Rattle.mcy_top.specs.declared.outcome.Part.TheVariants.{Modes, Tests, Logic}
-
-abbrev pub inv_alone : ModeFlags
-inv_alone = record { inv = true; const0 = false; const1 = false; cnot0 = false; cnot1 = false }
-
--- mutations invert bits, and they are not picked evenly
-pub record IsInverting (project : Project) : Type 0 where
-  pub modes : project.modes ≡ inv_alone
-  pub plain : project.even ≡ false
+use Rattle.mcy_top.specs.declared.outcome.Part.TheVariants.{Tests, Logic}
 
 -- the test `same` compares the mutant with the design, and PASS and FAIL, bits 0 and 1, are expected
 pub record IsSame (test : TestPlan) : Type 0 where
@@ -40,13 +31,11 @@ pub record IsTagging (project : Project) : Type 0 where
 
 -- the project is built
 pub record IsBuilt (project : Project) : Type 0 where
-  pub modes : IsInverting project
   pub tests : TestsSame project
   pub logic : IsTagging project
 
 -- the first part of the project that is not built, in this order
 abbrev pub IsUnbuilt : Project → Part → Type 0
-IsUnbuilt project Modes = ¬ IsInverting project
-IsUnbuilt project Tests = IsInverting project × (¬ TestsSame project)
-IsUnbuilt project Logic = IsInverting project × TestsSame project × (¬ IsTagging project)
+IsUnbuilt project Tests = ¬ TestsSame project
+IsUnbuilt project Logic = TestsSame project × (¬ IsTagging project)
 IsUnbuilt project part = ⊥

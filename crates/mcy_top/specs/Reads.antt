@@ -1,22 +1,20 @@
 -- What is read, in its order, and why the files make no campaign.
-use Rattle.std.specs.Prelude.{◌≡◌, ◌⊎◌, ℕ, ◌<◌, ◌≤◌, List, [], ◌∷◌, length, map, ⊤, Option}
+use Rattle.std.specs.Prelude.{◌≡◌, ◌⊎◌, ℕ, ◌<◌, List, [], ◌∷◌, length, map, ⊤, Option}
 use Rattle.mcy_base.specs.declared.file.SourceFile.{SourceFile}
 use Rattle.mcy_base.specs.declared.kind.Kind.TheVariants.{FreeBits}
 use Rattle.mcy_base.specs.Causes.{Rose}
 use Rattle.mcy_outside.specs.Files.{Held}
 use Rattle.project_file.specs.declared.project.Project.{Project}
 use Rattle.project_file.specs.Projects.{design_files, IsFault, IsProject}
-use Rattle.mcy_top.specs.declared.thin.ThinModule.{ThinModule}
-use Rattle.mcy_top.specs.declared.outcome.Part.TheVariants.{Source, Size}
+use Rattle.thin_source.specs.declared.thin.ThinModule.{ThinModule}
+use Rattle.mcy_top.specs.declared.outcome.Part.TheVariants.{Source}
 use Rattle.mcy_top.specs.declared.outcome.SourceFault.TheVariants.{TooMany}
 use Rattle.mcy_top.specs.declared.outcome.SourceError.{SourceError}
 use Rattle.mcy_top.specs.declared.outcome.Refusal.{Refusal}
 use Rattle.mcy_top.specs.declared.outcome.Refusal.TheVariants.{ProjectBad, SourceBad, Missing, TooLarge, ReadFault, Memory, Unbuilt}
-use Rattle.mcy_top.specs.Limits.{max_free_bits}
+use Rattle.step_trials.specs.Inputs.{max_free_bits}
 use Rattle.mcy_top.specs.Projects.{IsBuilt, IsUnbuilt}
-use Rattle.mcy_top.specs.ThinModules.{input_names}
-use Rattle.mcy_top.specs.ThinNetlists.{netlist_of}
-use Rattle.mcy_top.specs.Sites.{sites}
+use Rattle.thin_source.specs.ThinModules.{input_names}
 use Rattle.mcy_top.specs.Campaigns.{config_name, Got, GotAll, IsDesign, Lacks, Exceeds}
 
 -- why bytes are no project that is built
@@ -48,17 +46,15 @@ pub record GotSources (held : Option Held) (project : Project) (files : List Sou
   pub names : map (λ file. file.name) files ≡ design_files project
   pub got : GotAll held files
 
--- all sites are taken, and there are more free bits than the equivalence test takes
-pub record IsTooWide (project : Project) (m : ThinModule) (error : SourceError) : Type 0 where
-  pub all : length (sites (netlist_of m)) ≤ project.size
+-- there are more free bits than the equivalence test takes
+pub record IsTooWide (m : ThinModule) (error : SourceError) : Type 0 where
   pub many : max_free_bits < length (input_names m.ports)
   pub is : error ≡ record { file = []; fault = TooMany FreeBits }
 
 -- why the files of a design make no campaign
 abbrev pub IsUntakenDesign : Project → List SourceFile → Refusal → Type 0
 IsUntakenDesign project files (Unbuilt Source) = (m : ThinModule) → ¬ IsDesign project files m
-IsUntakenDesign project files (Unbuilt Size) = (m : ThinModule) × IsDesign project files m × (project.size < length (sites (netlist_of m)))
-IsUntakenDesign project files (SourceBad error) = (m : ThinModule) × IsDesign project files m × IsTooWide project m error
+IsUntakenDesign project files (SourceBad error) = (m : ThinModule) × IsDesign project files m × IsTooWide m error
 IsUntakenDesign project files Memory = ⊤
 IsUntakenDesign project files refusal = ⊥
 

@@ -6,10 +6,10 @@ use Rattle.mcy_keeper.specs.Books.{IsBlank}
 use Rattle.result_book.specs.declared.script.TestWord.TheVariants.{Pass, Fail}
 use Rattle.result_book.specs.Scripts.{word_code}
 use Rattle.result_book.specs.Rows.{IsRow, IsWellFormed}
-use Rattle.mcy_top.specs.declared.site.Site.{Site}
+use Rattle.mutation_sites.specs.declared.site.Site.{Site}
 use Rattle.netlist_core.specs.declared.raw.RawNetlist.{RawNetlist}
 use Rattle.mcy_top.specs.declared.prepared.Prepared.{Prepared}
-use Rattle.mcy_top.specs.Equal.{OneStepEqual, design, mutant}
+use Rattle.step_trials.specs.Equal.{OneStepEqual, design, mutant}
 use Rattle.mcy_top.specs.Campaigns.{IsPlan}
 
 -- The word of an equivalence test: PASS where the mutant does in one step what the design does, FAIL where it does

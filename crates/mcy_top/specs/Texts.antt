@@ -9,7 +9,7 @@ use Rattle.mcy_top.specs.declared.prepared.Prepared.{Prepared}
 
 -- the sites that there are, and the mutations that were taken
 abbrev pub init_text : Prepared → List ℕ
-init_text c = number_line (codes "Sites") (length c.sites) ++ number_line (codes "Mutations") (length c.campaign.mutations)
+init_text c = number_line (codes "Sites") c.site_count ++ number_line (codes "Mutations") (length c.campaign.mutations)
 
 -- the text of a command over a book
 abbrev pub text_of : Command → Prepared → Book → List ℕ

@@ -11,14 +11,10 @@ use result_book::BookError;
 pub enum Part {
     /// The sources are not one file in the thin form whose module is the top.
     Source,
-    /// Other modes than `inv` alone are asked for, or an even pick.
-    Modes,
     /// The tests are not one equivalence test `same`, of which PASS and FAIL are expected.
     Tests,
     /// The tags are not CHANGED and NOCHANGE, the logic is not the one that tags by that test, or there is a report.
     Logic,
-    /// There are more sites than mutations are to be taken.
-    Size,
 }
 
 /// What is wrong with a source.

@@ -1,26 +1,22 @@
 //! What a project and its sources define before any test is run.
 //!
-//! `campaign` is what the book and the texts are made of. Mutation n of it is `netlist` broken at site n of `sites`.
+//! `campaign` is what the book and the texts are made of. Mutation n of it is `netlist` broken at site n of `sites`, which
+//! are picked of the `site_count` sites that there are.
 ghost use Rattle.std.specs.Prelude.{◌≡◌, ◌≤◌, [], ◌∷◌, IfOk, codes, length, map};
 ghost use Rattle.project_file.specs.Projects.{design_files, IsProject};
 ghost use Rattle.result_book.specs.Campaigns.{eq_kind};
-ghost use Rattle.mcy_top.specs.Limits.{max_free_bits};
+ghost use Rattle.step_trials.specs.Inputs.{max_free_bits};
 ghost use Rattle.mcy_top.specs.Projects.{change_tags, IsBuilt};
-ghost use Rattle.mcy_top.specs.Sites.{sites};
-ghost use Rattle.mcy_top.specs.ThinModules.{input_names};
-ghost use Rattle.mcy_top.specs.ThinNetlists.{netlist_of};
+ghost use Rattle.thin_source.specs.ThinModules.{input_names};
+ghost use Rattle.thin_source.specs.ThinNetlists.{netlist_of};
 
-use crate::checked::CheckedNetlist;
-use crate::lower::lower;
-use crate::site::Site;
-use crate::site_line::site_lines;
-use crate::site_text::site_texts;
-use crate::sites::sites;
-use crate::thin::ThinModule;
+use crate::mutations::{all_sites, picked_sites, site_lines, site_texts};
 use mcy_base::{Bytes, BytesList, Items, SourceFile, Text, TextList};
+use mutation_sites::Site;
 use project_file::{Project, TestPlan};
 use result_book::{Campaign, EQ_KIND, NumberList};
 use std::alloc::{AllocError, Global};
+use thin_source::{CheckedNetlist, ThinModule, lower};
 
 /// The name of the project file.
 pub(crate) const CONFIG_NAME: &str = "config.mcy";
@@ -31,15 +27,16 @@ pub(crate) const MAX_BYTES: u32 = 1_048_576;
 /// Sites by number, from 0.
 pub type SiteList = Items<Site>;
 
-/// A campaign, and the netlist with the sites at which its mutations break it.
+/// A campaign, and the netlist with how many sites it has, and those at which the mutations break it.
 #[derive(Drop)]
 pub struct Prepared {
     pub campaign: Campaign,
+    pub site_count: usize,
     pub sites: SiteList,
     pub netlist: CheckedNetlist,
 }
 
-ghost use Rattle.mcy_top.specs.Campaigns.{campaign_of, file_item, first_name, meta_of, IsDesign, IsPrepared};
+ghost use Rattle.mcy_top.specs.Campaigns.{campaign_of, file_item, meta_of, names_of, IsDesign, IsPrepared};
 
 /// What a book keeps of a file.
 fn file_item(alloc: Global, file: &SourceFile) -> Result<Bytes, AllocError>
@@ -62,16 +59,6 @@ fn make_meta(alloc: Global, config: &[u8], files: &[SourceFile]) -> Result<Bytes
         meta.push(file_item(alloc, file)?)?;
     }
     Ok(BytesList::from_vec(meta))
-}
-
-/// The name of file 0.
-fn first_name(files: &[SourceFile]) -> &str
-    ensures { result.now ≡ first_name files.now }
-{
-    match files {
-        [file, ..] => file.name.as_str(),
-        [] => "",
-    }
 }
 
 /// The names of the tests that are built.
@@ -109,7 +96,7 @@ fn expected(alloc: Global, tests: &[TestPlan]) -> Result<NumberList, AllocError>
     Ok(NumberList::from_vec(tests.iter().map(|test| test.expect).collect(alloc)?))
 }
 
-/// The campaign of a project and its sources, which are built, and its netlist with the sites.
+/// The campaign of a project and its sources, which are built, and its netlist with the sites of the mutations.
 pub(crate) fn prepare(
     alloc: Global,
     config: &[u8],
@@ -119,19 +106,19 @@ pub(crate) fn prepare(
 ) -> Result<Prepared, AllocError>
     requires says { IsProject config.now project.now }
     requires built { IsBuilt project.now }
-    requires names { map (λ file. file.name) files.now ≡ design_files project.now }
+    requires names { names_of files.now ≡ design_files project.now }
     requires design { IsDesign project.now files.now parsed.now }
-    requires all { length (sites (netlist_of parsed.now)) ≤ project.now.size }
     requires few { length (input_names parsed.now.ports) ≤ max_free_bits }
     ensures { IfOk result (λ prepared. IsPrepared config.now files.now prepared) }
 {
     let checked = lower(alloc, parsed)?;
     let netlist = checked.netlist();
-    let places = sites(alloc, netlist)?;
+    let all = all_sites(alloc, project, netlist)?;
+    let sites = picked_sites(alloc, project, netlist, &all)?;
     let campaign = Campaign {
         meta: make_meta(alloc, config, files)?,
-        mutations: site_texts(alloc, netlist, first_name(files), &places)?,
-        lines: site_lines(alloc, netlist, &places)?,
+        mutations: site_texts(alloc, netlist, files, &sites)?,
+        lines: site_lines(alloc, netlist, &sites)?,
         test_names: test_names(alloc)?,
         kinds: test_kinds(alloc)?,
         expect: expected(alloc, project.tests.as_slice())?,
@@ -139,7 +126,8 @@ pub(crate) fn prepare(
     };
     Ok(Prepared {
         campaign,
-        sites: SiteList::from_vec(places),
+        site_count: all.len(),
+        sites: SiteList::from_vec(sites),
         netlist: checked,
     })
 }

@@ -1,38 +1,22 @@
-//! Which projects are built so far: one test, one script, and one mode.
+//! Which projects are built so far: one test and one script.
 ghost use Rattle.std.specs.Prelude.{◌≡◌, ◌↔◌, IsTrue, MatchOption, map};
-ghost use Rattle.mcy_top.specs.Projects.{IsBuilt, IsInverting, IsSame, IsTagging, IsUnbuilt, TestsSame, change_tags, same_script};
+ghost use Rattle.mcy_top.specs.Projects.{IsBuilt, IsSame, IsTagging, IsUnbuilt, TestsSame, change_tags, same_script};
 
 use crate::outcome::Part;
 use mcy_base::{Line, Text};
-use project_file::{ModeFlags, Project, TestKind, TestPlan};
-
-const INV_ALONE: ModeFlags = ModeFlags {
-    inv: true,
-    const0: false,
-    const1: false,
-    cnot0: false,
-    cnot1: false,
-};
+use project_file::{Project, TestKind, TestPlan};
 
 /// The first part of the project that is not built, or nothing where the project is.
 pub(crate) fn unbuilt_part(project: &Project) -> Option<Part>
     ensures { MatchOption result (IsBuilt project.now) (λ part. IsUnbuilt project.now part) }
 {
-    if !is_inverting(project) {
-        Some(Part::Modes)
-    } else if !tests_same(project) {
+    if !tests_same(project) {
         Some(Part::Tests)
     } else if !is_tagging(project) {
         Some(Part::Logic)
     } else {
         None
     }
-}
-
-fn is_inverting(project: &Project) -> bool
-    ensures { IsTrue result ↔ IsInverting project.now }
-{
-    project.modes == INV_ALONE && !project.even
 }
 
 fn is_same(test: &TestPlan) -> bool

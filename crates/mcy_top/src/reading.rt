@@ -5,24 +5,22 @@
 ghost use Rattle.std.specs.Prelude.{◌≡◌, ◌≤◌, [], length, map, IfOk, IfErr, MatchOption};
 ghost use Rattle.mcy_base.specs.Causes.{Rose};
 ghost use Rattle.project_file.specs.Projects.{design_files, IsProject};
-ghost use Rattle.mcy_top.specs.Limits.{max_bytes, max_free_bits};
+ghost use Rattle.mcy_top.specs.Limits.{max_bytes};
+ghost use Rattle.step_trials.specs.Inputs.{max_free_bits};
 ghost use Rattle.mcy_top.specs.Projects.{IsBuilt};
-ghost use Rattle.mcy_top.specs.ThinModules.{input_names};
-ghost use Rattle.mcy_top.specs.ThinNetlists.{netlist_of};
-ghost use Rattle.mcy_top.specs.Sites.{sites};
+ghost use Rattle.thin_source.specs.ThinModules.{input_names};
 ghost use Rattle.mcy_top.specs.Campaigns.{config_name, Got, GotAll, IsDesign, IsMade};
 ghost use Rattle.mcy_top.specs.Reads.{IsUnmade, IsUnread, IsUnreadAmong, IsUntaken, IsUntakenDesign, HasReadCause, HasProject, GotSources};
 
-use crate::equal::MAX_FREE_BITS;
-use crate::lower::input_count;
 use crate::outcome::{Part, Refusal, SourceError, SourceFault};
 use crate::prepared::{CONFIG_NAME, MAX_BYTES, Prepared, prepare};
 use crate::project::unbuilt_part;
-use crate::thin::{ThinModule, read_source};
 use mcy_base::{Bytes, FileList, Kind, SourceFile, Text};
 use mcy_outside::{FileError, SourceFiles};
 use project_file::{Project, ProjectError, read_project};
 use std::alloc::{AllocError, Global};
+use step_trials::MAX_FREE_BITS;
+use thin_source::{ThinModule, input_count, read_source};
 
 impl From<AllocError> for Refusal {
     ghost use Rattle.mcy_top.specs.declared.outcome.Refusal.TheVariants.{Memory};
@@ -158,14 +156,6 @@ fn design_of(
     }
 }
 
-/// How many sites the netlist of the module has: three for each line.
-fn site_count(parsed: &ThinModule) -> usize
-    requires { length parsed.now.items ≤ 3 }
-    ensures { result ≡ length (sites (netlist_of parsed.now)) }
-{
-    3 * parsed.items.as_slice().len()
-}
-
 /// The sources have too many free bits together.
 fn too_many_free_bits(alloc: Global) -> Result<SourceError, AllocError>
     ensures { IfOk result (λ error. error ≡ record { file = []; fault = SourceFault.TooMany Kind.FreeBits }) }
@@ -176,23 +166,19 @@ fn too_many_free_bits(alloc: Global) -> Result<SourceError, AllocError>
     })
 }
 
-/// The design that the files say, with all its sites taken and few free bits.
+/// The design that the files say, with few free bits.
 fn take_design(
     alloc: Global,
     project: &Project,
     files: &[SourceFile],
 ) -> Result<ThinModule, Refusal>
     ensures design { IfOk result (λ m. IsDesign project.now files.now m) }
-    ensures all { IfOk result (λ m. length (sites (netlist_of m)) ≤ project.now.size) }
     ensures few { IfOk result (λ m. length (input_names m.ports) ≤ max_free_bits) }
     ensures refused { IfErr result (IsUntakenDesign project.now files.now) }
 {
     let Some(parsed) = design_of(alloc, project, files)? else {
         return Err(Refusal::Unbuilt(Part::Source));
     };
-    if site_count(&parsed) > project.size as usize {
-        return Err(Refusal::Unbuilt(Part::Size));
-    }
     if input_count(parsed.ports.as_slice()) > MAX_FREE_BITS {
         return Err(Refusal::SourceBad(too_many_free_bits(alloc)?));
     }

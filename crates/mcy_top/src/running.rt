@@ -11,13 +11,13 @@ ghost use Rattle.mcy_top.specs.Commands.{IsWithin};
 ghost use Rattle.mcy_top.specs.Rows.{IsTrueWord};
 ghost use Rattle.mcy_top.specs.Running.{book_of, AddsRow, Broke, LeavesNext, Ran, Reached};
 
-use crate::equal::Design;
 use crate::prepared::Prepared;
 use mcy_base::Steps;
 use mcy_keeper::{KeepError, Keeper};
 use result_book::{Ask, State, TestWord};
 use std::alloc::{AllocError, Global};
 use std::sync::ledger::Ledger;
+use step_trials::Design;
 
 /// What runs the tests of a campaign: its design is computed once for all mutations.
 #[derive(Drop)]

@@ -149,7 +149,7 @@ impl Task<'_> {
         ensures { IfOk result (λ text. string_bytes text ≡ init_text self.now.prepared.now) }
     {
         let mut text = String::new(self.alloc);
-        add_number(&mut text, "Sites", self.prepared.sites.as_slice().len())?;
+        add_number(&mut text, "Sites", self.prepared.site_count)?;
         let mutations = self.prepared.campaign.mutations.as_slice().len();
         add_number(&mut text, "Mutations", mutations)?;
         Ok(text)

@@ -1,9 +1,9 @@
 use Rattle.std.proofs.Common.{◌≡◌, ◌∷◌, [], List, Result, Ok, Err, IfOk, MatchOption, Option, Some, None, arith, codes, rules, subst, sym, ◌∙◌}
 use Rattle.mcy_base.specs.declared.file.SourceFile.{SourceFile}
 use Rattle.project_file.specs.declared.project.Project.{Project}
-use Rattle.mcy_top.specs.declared.thin.ThinModule.{ThinModule}
+use Rattle.thin_source.specs.declared.thin.ThinModule.{ThinModule}
 use Rattle.mcy_top.specs.Campaigns.{IsDesign}
-use Rattle.mcy_top.specs.ThinModules.{IsSource}
+use Rattle.thin_source.specs.ThinModules.{IsSource}
 use Rattle.mcy_top.proofs.Takes.{one_is}
 use Rattle.mcy_top.proofs.reading.design_of.Goals as goal
 

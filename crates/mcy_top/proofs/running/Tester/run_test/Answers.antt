@@ -5,7 +5,7 @@ use Rattle.mcy_top.proofs.running.Tester.run_test.Goals as goal
 pub is_equal_to_mutant-requires : goal.is_equal_to_mutant-requires
 is_equal_to_mutant-requires c =
     let below : c.args.mutation < length c.args.self.now.prepared.now.sites = omega (arith, plan_count c.args.self.now.prepared.now c.requires.plan, c.requires.mutation) in
-    rw (c.args.self.now.same, c.as_slice.ensures) (plan_site c.args.self.now.prepared.now c.args.mutation _ _ c.requires.plan below)
+    rw (c.args.self.now.same, c.as_slice.ensures) (plan_site c.args.self.now.prepared.now c.args.mutation _ c.requires.plan below)
 
 pub returns-then-branch : goal.returns-then-branch
 returns-then-branch c =

@@ -1,5 +1,0 @@
-use Rattle.std.proofs.Common.{length}
-use Rattle.mcy_top.proofs.bits.+lay.Given as goal
-
-abbrev pub decreases-lay : goal.decreases-lay
-decreases-lay l = length l.bits.now
