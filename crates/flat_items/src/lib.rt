@@ -14,6 +14,7 @@ mod left;
 mod names;
 mod place;
 mod placing;
+mod scope;
 mod task;
 mod turn;
 mod walk;

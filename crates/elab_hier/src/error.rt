@@ -1,0 +1,36 @@
+//! Why a flattened design is not built.
+ghost use Rattle.std.specs.Prelude.{◌≡◌};
+ghost use Rattle.elab_hier.specs.declared.error.BuildError.TheVariants.{Memory};
+
+use flat_assigns::Refusal;
+use flat_items::ItemError;
+use mcy_base::Kind;
+use std::alloc::AllocError;
+
+/// Why an item is refused.
+#[derive(Clone, Copy, Debug, PartialEq, Eq)]
+pub enum Reason {
+    /// It is listed as a refusal.
+    Listed(ItemError),
+    /// What is refused in an assignment or a connection.
+    Wire(Refusal),
+}
+
+/// Why a flattened design is not built.
+#[derive(Clone, Copy, Debug, PartialEq, Eq)]
+pub enum BuildError {
+    /// An item is refused.
+    Refused(Reason),
+    /// There would be more than the limit.
+    TooMany(Kind),
+    /// There is no memory for it.
+    Memory,
+}
+
+impl From<AllocError> for BuildError {
+    ghost from_gives = { λ _ e. e ≡ Memory };
+
+    fn from(_error: AllocError) -> Self {
+        BuildError::Memory
+    }
+}
