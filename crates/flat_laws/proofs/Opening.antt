@@ -1,0 +1,343 @@
+-- What each declaration keeps of a scope that is being opened: signals only become more and keep their bits, names are those of
+-- signals with the same bits, and each new signal is declared once.
+use Rattle.std.proofs.Common.{◌≡◌, ◌⊎◌, inl, inr, ℕ, zero, suc, ◌+◌, ◌<◌, ◌≤◌, Bool, true, false, List, [], ◌∷◌, ◌++◌, length, Option, None, Some, Result, Ok, Err, refl, sym, ap, ◌∙◌, subst, arith, true≢false}
+use Rattle.std.specs.Prelude.{slice_get, slice_set, nat_eq, not, ◌&&◌, ◌||◌, is_some, if◌then◌else◌}
+use Rattle.std.specs.Str.{bytes_eq}
+use Rattle.std.proofs.lemmas.List.{length_push, length-set}
+use Rattle.std.proofs.lemmas.Slice.Eq.{bytes_eq-Decides}
+use Rattle.vlog_syntax.specs.declared.identifier.Identifier.{Identifier}
+use Rattle.vlog_syntax.specs.declared.expr.Expr.{Expr}
+use Rattle.vlog_syntax.specs.declared.item.Direction.{Direction}
+use Rattle.vlog_syntax.specs.declared.item.DataType.{DataType}
+use Rattle.vlog_syntax.specs.declared.item.DataType.TheVariants.{Wire, Reg, Integer}
+use Rattle.vlog_syntax.specs.declared.item.DeclaredName.{DeclaredName}
+use Rattle.vlog_syntax.specs.declared.item.Instance.{Instance}
+use Rattle.vlog_meaning.specs.declared.scope.Decl.{Decl}
+use Rattle.vlog_meaning.specs.declared.scope.Decl.TheVariants as d
+use Rattle.vlog_meaning.specs.Scopes.{Names}
+use Rattle.flat_scopes.specs.declared.opening.Head.{Head}
+use Rattle.flat_scopes.specs.declared.opening.Step.{Step}
+use Rattle.flat_scopes.specs.declared.opening.Step.TheVariants as s
+use Rattle.flat_scopes.specs.declared.range.VectorBits.{VectorBits}
+use Rattle.flat_scopes.specs.declared.range.RangeError.{RangeError}
+use Rattle.flat_scopes.specs.declared.refusal.Refusal.{Refusal}
+use Rattle.flat_scopes.specs.declared.refusal.Refusal.TheVariants as r
+use Rattle.flat_scopes.specs.declared.signal.Signal.{Signal}
+use Rattle.flat_scopes.specs.declared.signal.What.{What}
+use Rattle.flat_scopes.specs.declared.signal.What.TheVariants as w
+use Rattle.flat_scopes.specs.Openings.{Opened, step, refuse, own_name, plain_name, genvar_names, instance_names, refused_range, refused_type, type_of, new_signal, same_signal, has_bits, again_port, again_data, is_among, port_found, port_name, data_name, variable_start, initial, port_names, data_names}
+use Rattle.flat_scopes.specs.Ranges.{bits_of_range}
+use Rattle.flat_laws.specs.Ports.{IsDirected, HasDirection}
+use Rattle.flat_laws.specs.Sound.{AreSized, HasBits, NamesSignal, OwnsSignal}
+use Rattle.flat_laws.proofs.Lists.{either, holds_more, holds_last, holds_set, below, here, below_more}
+use Rattle.flat_laws.proofs.Sizes.{IsWithin, type_within}
+
+-- Signals.
+
+-- the signals are there with the same bits, and ports with a direction; there may be more
+pub record Grows (old new : List Signal) : Type 0 where
+  pub longer : length old ≤ length new
+  pub same : (width low k : ℕ) → HasBits width low (slice_get old k) → HasBits width low (slice_get new k)
+  pub directed : (k : ℕ) → HasDirection (slice_get old k) → HasDirection (slice_get new k)
+
+pub grows_self : (signals : List Signal) → Grows signals signals
+grows_self signals = record { longer = omega arith; same = λ width low k h. h; directed = λ k h. h }
+
+pub grows_on : (a b c : List Signal) → Grows a b → Grows b c → Grows a c
+grows_on a b c g h =
+    let first = g.longer in
+    let second = h.longer in
+    record { longer = omega (arith, first, second); same = λ width low k x. h.same width low k (g.same width low k x); directed = λ k x. h.directed k (g.directed k x) }
+
+no_bits : (width low : ℕ) → HasBits width low None → ⊥
+no_bits width low h = h
+
+grows_more : (signals : List Signal) (g : Signal) → Grows signals (signals ++ g ∷ [])
+grows_more signals g =
+    let long = length_push signals g in
+    record { longer = omega (arith, long); same = λ width low k. holds_more (HasBits width low) (no_bits width low) signals (g ∷ []) k; directed = λ k. holds_more HasDirection (λ (h : ⊥). h) signals (g ∷ []) k }
+
+grows_set : (signals : List Signal) (k : ℕ) (g new : Signal) → slice_get signals k ≡ Some g → new.bits ≡ g.bits → (IsDirected g.direction → IsDirected new.direction) → Grows signals (slice_set signals k new)
+grows_set signals k g new e bits dir =
+    let long = length-set signals k new in
+    let width : g.bits.width ≡ new.bits.width = ap (λ (b : VectorBits). b.width) (sym bits) in
+    let low : g.bits.low ≡ new.bits.low = ap (λ (b : VectorBits). b.low) (sym bits) in
+    let there : (w l : ℕ) → HasBits w l (slice_get signals k) → HasBits w l (Some new) = λ w l h. let own : HasBits w l (Some g) = subst (HasBits w l) e h in (sym width ∙ own.0, sym low ∙ own.1) in
+    let led : HasDirection (slice_get signals k) → HasDirection (Some new) = λ h. dir (subst HasDirection e h) in
+    record {
+      longer = omega (arith, long);
+      same = λ w l n. holds_set (HasBits w l) new signals k n (there w l);
+      directed = λ n. holds_set HasDirection new signals k n led;
+    }
+
+sized_more : (signals : List Signal) (g : Signal) → AreSized signals → IsWithin g.bits → AreSized (signals ++ g ∷ [])
+sized_more [] g h b = (b.0, b.1, tt)
+sized_more (x ∷ signals) g h b = (h.0, h.1, sized_more signals g h.2 b)
+
+sized_set : (signals : List Signal) (k : ℕ) (g new : Signal) → slice_get signals k ≡ Some g → new.bits ≡ g.bits → AreSized signals → AreSized (slice_set signals k new)
+sized_set [] k g new e bits h = h
+sized_set (x ∷ signals) zero g new e bits h =
+    let same : x ≡ g = cc in
+    let width : x.bits.width ≡ new.bits.width = ap (λ (y : Signal). y.bits.width) same ∙ ap (λ (b : VectorBits). b.width) (sym bits) in
+    (subst (λ (n : ℕ). 1 ≤ n) width h.0, subst (λ (n : ℕ). n ≤ 128) width h.1, h.2)
+sized_set (x ∷ signals) (suc k) g new e bits h = (h.0, h.1, sized_set signals k g new e bits h.2)
+
+pub named_on : (old new : List Signal) (x : Option Decl) → Grows old new → NamesSignal old x → NamesSignal new x
+named_on old new (Some (d.Signal width low is_signed k)) g h = g.same width low k h
+named_on old new (Some (d.Constant value is_signed)) g h = tt
+named_on old new None g h = tt
+
+pub owned_on : (n m : ℕ) (x : Option What) → n ≤ m → OwnsSignal n x → OwnsSignal m x
+owned_on n m (Some (w.Variable k)) le h = omega (arith, le, h)
+owned_on n m (Some w.Constant) le h = tt
+owned_on n m (Some w.Genvar) le h = tt
+owned_on n m (Some w.Inside) le h = tt
+owned_on n m None le h = tt
+
+-- Steps.
+
+abbrev pub StepStands : ℕ → Step → Type 0
+StepStands n (s.Declares k) = k < n
+StepStands n (s.Starts k value) = k < n
+StepStands n other = Unit {0}
+
+abbrev pub AllSteps : ℕ → List Step → Type 0
+AllSteps n [] = Unit {0}
+AllSteps n (x ∷ more) = StepStands n x × AllSteps n more
+
+abbrev pub listed : ℕ → Step → ℕ
+listed k (s.Declares n) = if nat_eq n k then 1 else 0
+listed k other = 0
+
+abbrev pub times_listed : ℕ → List Step → ℕ
+times_listed k [] = 0
+times_listed k (x ∷ more) = listed k x + times_listed k more
+
+abbrev pub IsRefusal : Step → Type 0
+IsRefusal (s.Refuses x) = Unit {0}
+IsRefusal other = ⊥
+
+abbrev pub SomeRefused : List Step → Type 0
+SomeRefused [] = ⊥
+SomeRefused (x ∷ more) = IsRefusal x ⊎ SomeRefused more
+
+pub step_on : (n m : ℕ) (x : Step) → n ≤ m → StepStands n x → StepStands m x
+step_on n m (s.Declares k) le h = omega (arith, le, h)
+step_on n m (s.Starts k value) le h = omega (arith, le, h)
+step_on n m (s.Refuses x) le h = tt
+step_on n m (s.RefusesGiven x) le h = tt
+step_on n m (s.Drives name value) le h = tt
+step_on n m (s.Lists x) le h = tt
+step_on n m (s.Generates k item) le h = tt
+
+pub steps_on : (n m : ℕ) (xs : List Step) → n ≤ m → AllSteps n xs → AllSteps m xs
+steps_on n m [] le h = tt
+steps_on n m (x ∷ xs) le h = (step_on n m x le h.0, steps_on n m xs le h.1)
+
+pub steps_more : (n : ℕ) (xs ys : List Step) → AllSteps n xs → AllSteps n ys → AllSteps n (xs ++ ys)
+steps_more n [] ys h g = g
+steps_more n (x ∷ xs) ys h g = (h.0, steps_more n xs ys h.1 g)
+
+pub times_more : (k : ℕ) (xs ys : List Step) → times_listed k (xs ++ ys) ≡ times_listed k xs + times_listed k ys
+times_more k [] ys = omega arith
+times_more k (x ∷ xs) ys = let e = times_more k xs ys in omega (arith, e)
+
+pub refused_more : (xs ys : List Step) → SomeRefused xs → SomeRefused (xs ++ ys)
+refused_more [] ys h = absurd h
+refused_more (x ∷ xs) ys (inl h) = inl h
+refused_more (x ∷ xs) ys (inr h) = inr (refused_more xs ys h)
+
+pub refused_last : (xs : List Step) (x : Step) → IsRefusal x → SomeRefused (xs ++ x ∷ [])
+refused_last [] x h = inl h
+refused_last (y ∷ xs) x h = inr (refused_last xs x h)
+
+-- Scopes.
+
+-- A scope that is being opened from another one on stands, and has what that has.
+pub record Keeps (start o : Opened) : Type 0 where
+  pub grows : Grows start.signals o.signals
+  pub sized : AreSized o.signals
+  pub names : (name : List ℕ) → NamesSignal o.signals (o.names name)
+  pub own : (name : List ℕ) → OwnsSignal (length o.signals) (o.own name)
+  pub steps : AllSteps (length o.signals) o.steps
+  pub once : (k : ℕ) → times_listed k o.steps + below k (length start.signals) ≡ times_listed k start.steps + below k (length o.signals)
+  pub owned : (name : List ℕ) (x : What) → start.own name ≡ Some x → o.own name ≡ Some x
+  pub refused : SomeRefused start.steps → SomeRefused o.steps
+
+pub kept_step : (start o : Opened) (x : Step) → Keeps start o → StepStands (length o.signals) x → ((k : ℕ) → listed k x ≡ 0) → Keeps start (step o x)
+kept_step start o x h stands none = record {
+  grows = h.grows;
+  sized = h.sized;
+  names = h.names;
+  own = h.own;
+  steps = steps_more (length o.signals) o.steps (x ∷ []) h.steps (stands, tt);
+  once = λ k.
+      let e : times_listed k (o.steps ++ x ∷ []) ≡ times_listed k o.steps + (listed k x + 0) = times_more k o.steps (x ∷ []) in
+      let z = none k in
+      let f = h.once k in
+      omega (arith, e, z, f);
+  owned = h.owned;
+  refused = λ some. refused_more o.steps (x ∷ []) (h.refused some);
+}
+
+pub kept_refuse : (start o : Opened) (x : Refusal) → Keeps start o → Keeps start (refuse o x)
+kept_refuse start o x h = kept_step start o (s.Refuses x) h tt (λ k. refl)
+
+-- a name that the scope did not declare leaves those that it did
+still_owned : (name other : List ℕ) (what x : What) (own : List ℕ → Option What) → own name ≡ None → own other ≡ Some x → (if bytes_eq name other then Some what else own other) ≡ Some x
+still_owned name other what x own none e = go (bytes_eq name other) refl where
+  go : (b : Bool) → bytes_eq name other ≡ b → (if b then Some what else own other) ≡ Some x
+  go false is = e
+  go true is =
+      let same : name ≡ other = (bytes_eq-Decides name other).0 is in
+      let clash : None ≡ Some x = sym none ∙ ap own same ∙ e in
+      absurd (true≢false (sym (ap is_some clash)))
+
+pub kept_name : (start o : Opened) (name : List ℕ) (what : What) (decl : Option Decl) → Keeps start o → o.own name ≡ None → OwnsSignal (length o.signals) (Some what) → NamesSignal o.signals decl → Keeps start (own_name o name what decl)
+kept_name start o name what decl h none owns named = record {
+  grows = h.grows;
+  sized = h.sized;
+  names = λ other. either (NamesSignal o.signals) (bytes_eq name other) decl (o.names other) named (h.names other);
+  own = λ other. either (OwnsSignal (length o.signals)) (bytes_eq name other) (Some what) (o.own other) owns (h.own other);
+  steps = h.steps;
+  once = h.once;
+  owned = λ other x e. still_owned name other what x o.own none (h.owned other x e);
+  refused = h.refused;
+}
+
+-- a name for an instance, a block or a genvar
+pub kept_plain : (start o : Opened) (id : Identifier) (what : What) (found : Option What) → Keeps start o → o.own id.name ≡ found → OwnsSignal (length o.signals) (Some what) → Keeps start (plain_name o id what found)
+kept_plain start o id what None h e owns = kept_name start o id.name what None h e owns tt
+kept_plain start o id what (Some other) h e owns = kept_refuse start o (r.Twice id.span) h
+
+pub kept_genvars : (start o : Opened) (names : List DeclaredName) → Keeps start o → Keeps start (genvar_names o names)
+kept_genvars start o [] h = h
+kept_genvars start o (n ∷ more) h = kept_genvars start (plain_name o n.name w.Genvar (o.own n.name.name)) more (kept_plain start o n.name w.Genvar (o.own n.name.name) h refl tt)
+
+pub kept_instances : (start o : Opened) (instances : List Instance) → Keeps start o → Keeps start (instance_names o instances)
+kept_instances start o [] h = h
+kept_instances start o (x ∷ more) h = kept_instances start (plain_name o x.name w.Inside (o.own x.name.name)) more (kept_plain start o x.name w.Inside (o.own x.name.name) h refl tt)
+
+-- types
+
+pub kept_range : (start o : Opened) (x : Result VectorBits RangeError) → Keeps start o → Keeps start (refused_range o x)
+kept_range start o (Ok bits) h = h
+kept_range start o (Err e) h = kept_refuse start o (r.Range e) h
+
+pub kept_type : (start o : Opened) (x : DataType) → Keeps start o → Keeps start (refused_type o x)
+kept_type start o (Wire v) h = kept_range start o (bits_of_range o.names v.range) h
+kept_type start o (Reg v) h = kept_range start o (bits_of_range o.names v.range) h
+kept_type start o Integer h = h
+
+-- signals
+
+pub kept_signal : (start o : Opened) (prefix : List ℕ) (id : Identifier) (scope : Names) (x : DataType) (direction : Option Direction) (has_type : Bool) → Keeps start o → o.own id.name ≡ None → Keeps start (new_signal prefix o id (type_of scope x) direction has_type)
+kept_signal start o prefix id scope x direction has_type h none =
+    let t = type_of scope x in
+    let n = length o.signals in
+    let g : Signal = record { name = prefix ++ id.name; span = id.span; bits = t.bits; is_signed = t.is_signed; direction = direction; has_type = has_type } in
+    let signals : List Signal = o.signals ++ g ∷ [] in
+    let grown : Grows o.signals signals = grows_more o.signals g in
+    let long : length signals ≡ n + 1 = length_push o.signals g in
+    let last : HasBits t.bits.width t.bits.low (slice_get signals n) = holds_last (HasBits t.bits.width t.bits.low) g o.signals (refl, refl) in
+    let inside : n < length signals = omega (arith, long) in
+    let longer : n ≤ length signals = omega (arith, long) in
+    record {
+      grows = grows_on start.signals o.signals signals h.grows grown;
+      sized = sized_more o.signals g h.sized (type_within scope x);
+      names = λ other. either (NamesSignal signals) (bytes_eq id.name other) (Some (d.Signal t.bits.width t.bits.low t.is_signed n)) (o.names other) last (named_on o.signals signals (o.names other) grown (h.names other));
+      own = λ other. either (OwnsSignal (length signals)) (bytes_eq id.name other) (Some (w.Variable n)) (o.own other) inside (owned_on n (length signals) (o.own other) longer (h.own other));
+      steps = steps_more (length signals) o.steps (s.Declares n ∷ []) (steps_on n (length signals) o.steps longer h.steps) (inside, tt);
+      once = λ k.
+          let e : times_listed k (o.steps ++ s.Declares n ∷ []) ≡ times_listed k o.steps + (here k n + 0) = times_more k o.steps (s.Declares n ∷ []) in
+          let f : below k (length signals) ≡ below k n + here k n = ap (below k) long ∙ below_more k n in
+          let g = h.once k in
+          omega (arith, e, f, g);
+      owned = λ other what e. still_owned id.name other (w.Variable n) what o.own none (h.owned other what e);
+      refused = λ some. refused_more o.steps (s.Declares n ∷ []) (h.refused some);
+    }
+
+kept_same : (start o : Opened) (name : List ℕ) (k : ℕ) (g : Signal) (t : _) (direction : Option Direction) (has_type : Bool) → Keeps start o → slice_get o.signals k ≡ Some g → (IsDirected g.direction → IsDirected direction) → Keeps start (same_signal o name k g t direction has_type)
+kept_same start o name k g t direction has_type h e dir =
+    let is_signed = g.is_signed || t.is_signed in
+    let new : Signal = record g { is_signed = is_signed; direction = direction; has_type = has_type } in
+    let signals : List Signal = slice_set o.signals k new in
+    let grown : Grows o.signals signals = grows_set o.signals k g new e refl dir in
+    let long : length signals ≡ length o.signals = length-set o.signals k new in
+    let there : HasBits g.bits.width g.bits.low (slice_get signals k) = grown.same g.bits.width g.bits.low k (subst (HasBits g.bits.width g.bits.low) (sym e) (refl, refl)) in
+    record {
+      grows = grows_on start.signals o.signals signals h.grows grown;
+      sized = sized_set o.signals k g new e refl h.sized;
+      names = λ other. either (NamesSignal signals) (bytes_eq name other) (Some (d.Signal g.bits.width g.bits.low is_signed k)) (o.names other) there (named_on o.signals signals (o.names other) grown (h.names other));
+      own = λ other. owned_on (length o.signals) (length signals) (o.own other) grown.longer (h.own other);
+      steps = steps_on (length o.signals) (length signals) o.steps grown.longer h.steps;
+      once = λ n. h.once n ∙ ap (λ (m : ℕ). times_listed n start.steps + below n m) (sym long);
+      owned = h.owned;
+      refused = h.refused;
+    }
+
+-- the second declaration of a port
+
+kept_again_port : (start o : Opened) (id : Identifier) (k : ℕ) (g : Option Signal) (t : _) (direction : Direction) → Keeps start o → slice_get o.signals k ≡ g → Keeps start (again_port o id k g t direction)
+kept_again_port start o id k None t direction h e = kept_refuse start o (r.Twice id.span) h
+kept_again_port start o id k (Some g) t direction h e =
+    either (Keeps start) (not (is_some g.direction) && has_bits g t && not t.has_type) (same_signal o id.name k g t (Some direction) g.has_type) (refuse o (r.Twice id.span))
+    (kept_same start o id.name k g t (Some direction) g.has_type h e (λ x. tt))
+    (kept_refuse start o (r.Twice id.span) h)
+
+kept_again_data : (start o : Opened) (id : Identifier) (k : ℕ) (g : Option Signal) (t : _) → Keeps start o → slice_get o.signals k ≡ g → Keeps start (again_data o id k g t)
+kept_again_data start o id k None t h e = kept_refuse start o (r.Twice id.span) h
+kept_again_data start o id k (Some g) t h e =
+    either (Keeps start) (is_some g.direction && has_bits g t && not g.has_type) (same_signal o id.name k g t g.direction true) (refuse o (r.Twice id.span))
+    (kept_same start o id.name k g t g.direction true h e (λ x. x))
+    (kept_refuse start o (r.Twice id.span) h)
+
+pub kept_found : (start o : Opened) (head : Head) (id : Identifier) (scope : Names) (x : DataType) (direction : Direction) (found : Option What) → Keeps start o → o.own id.name ≡ found → Keeps start (port_found head o id (type_of scope x) direction found)
+kept_found start o head id scope x direction None h e = kept_signal start o head.prefix id scope x (Some direction) (type_of scope x).has_type h e
+kept_found start o head id scope x direction (Some (w.Variable k)) h e = kept_again_port start o id k (slice_get o.signals k) (type_of scope x) direction h refl
+kept_found start o head id scope x direction (Some w.Constant) h e = kept_refuse start o (r.Twice id.span) h
+kept_found start o head id scope x direction (Some w.Genvar) h e = kept_refuse start o (r.Twice id.span) h
+kept_found start o head id scope x direction (Some w.Inside) h e = kept_refuse start o (r.Twice id.span) h
+
+pub kept_port : (start o : Opened) (head : Head) (id : Identifier) (scope : Names) (x : DataType) (direction : Direction) → Keeps start o → Keeps start (port_name head o id (type_of scope x) direction)
+kept_port start o head id scope x direction h =
+    either (Keeps start) (is_among head.ports id.name) (port_found head o id (type_of scope x) direction (o.own id.name)) (refuse o (r.Unknown id.span))
+    (kept_found start o head id scope x direction (o.own id.name) h refl)
+    (kept_refuse start o (r.Unknown id.span) h)
+
+kept_data : (start o : Opened) (head : Head) (id : Identifier) (scope : Names) (x : DataType) (found : Option What) → Keeps start o → o.own id.name ≡ found → Keeps start (data_name head o id (type_of scope x) found)
+kept_data start o head id scope x None h e = kept_signal start o head.prefix id scope x None true h e
+kept_data start o head id scope x (Some (w.Variable k)) h e = kept_again_data start o id k (slice_get o.signals k) (type_of scope x) h refl
+kept_data start o head id scope x (Some w.Constant) h e = kept_refuse start o (r.Twice id.span) h
+kept_data start o head id scope x (Some w.Genvar) h e = kept_refuse start o (r.Twice id.span) h
+kept_data start o head id scope x (Some w.Inside) h e = kept_refuse start o (r.Twice id.span) h
+
+-- initial values
+
+kept_start : (start o : Opened) (found : Option What) (value : Expr) → Keeps start o → OwnsSignal (length o.signals) found → Keeps start (variable_start o found value)
+kept_start start o (Some (w.Variable k)) value h owns = kept_step start o (s.Starts k value) h owns (λ n. refl)
+kept_start start o (Some w.Constant) value h owns = h
+kept_start start o (Some w.Genvar) value h owns = h
+kept_start start o (Some w.Inside) value h owns = h
+kept_start start o None value h owns = h
+
+pub kept_initial : (start o : Opened) (t : _) (n : DeclaredName) (value : Option Expr) → Keeps start o → Keeps start (initial o t n value)
+kept_initial start o t n None h = h
+kept_initial start o t n (Some x) h =
+    either (Keeps start) t.is_wire (step o (s.Drives n.name x)) (variable_start o (o.own n.name.name) x)
+    (kept_step start o (s.Drives n.name x) h tt (λ k. refl))
+    (kept_start start o (o.own n.name.name) x h (h.own n.name.name))
+
+pub kept_ports : (start o : Opened) (head : Head) (scope : Names) (x : DataType) (direction : Direction) (names : List DeclaredName) → Keeps start o → Keeps start (port_names head o (type_of scope x) direction names)
+kept_ports start o head scope x direction [] h = h
+kept_ports start o head scope x direction (n ∷ more) h =
+    let t = type_of scope x in
+    let mid = port_name head o n.name t direction in
+    kept_ports start (initial mid t n n.initial) head scope x direction more (kept_initial start mid t n n.initial (kept_port start o head n.name scope x direction h))
+
+pub kept_all_data : (start o : Opened) (head : Head) (scope : Names) (x : DataType) (names : List DeclaredName) → Keeps start o → Keeps start (data_names head o (type_of scope x) names)
+kept_all_data start o head scope x [] h = h
+kept_all_data start o head scope x (n ∷ more) h =
+    let t = type_of scope x in
+    let mid = data_name head o n.name t (o.own n.name.name) in
+    kept_all_data start (initial mid t n n.initial) head scope x more (kept_initial start mid t n n.initial (kept_data start o head n.name scope x (o.own n.name.name) h refl))
