@@ -2,3 +2,4 @@ mod Faultless
 mod Naming
 mod Rules
 mod Starting
+mod Tops

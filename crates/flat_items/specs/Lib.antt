@@ -5,3 +5,4 @@ pub mod Places
 pub mod Replacing
 pub mod Views
 pub mod Wires
+pub mod Tops

@@ -1,0 +1,40 @@
+-- Lookups of scopes and modules, from what the code has in hand.
+use Rattle.std.proofs.Common.{◌≡◌, ℕ, zero, suc, ◌+◌, ◌<◌, ◌≤◌, Bool, true, false, List, [], ◌∷◌, map, length, Option, None, Some, refl, sym, ap, ◌∙◌, arith, true≢false}
+use Rattle.std.specs.Prelude.{slice_get, if◌then◌else◌}
+use Rattle.std.specs.Option.{is_some}
+use Rattle.std.specs.Str.{bytes_eq}
+use Rattle.vlog_syntax.specs.declared.module.Module.{Module}
+use Rattle.flat_scopes.specs.Owns.{what_of}
+use Rattle.flat_items.specs.declared.place.Place.{Place as Kept}
+use Rattle.flat_items.specs.Flattened.{module_from, module_at}
+use Rattle.flat_items.specs.Places.{place_of}
+use Rattle.flat_items.specs.Tops.{IsTop, own_at}
+
+pub own_found : (xs : List Kept) (k : ℕ) (p : Kept) (name : List ℕ) → slice_get xs k ≡ Some p → own_at (map place_of xs) k name ≡ what_of p.own name
+own_found [] k p name h = absurd (true≢false (sym (ap is_some h)))
+own_found (x ∷ xs) zero p name h = let same : x ≡ p = cc in ap (λ (y : Kept). what_of y.own name) same
+own_found (x ∷ xs) (suc k) p name h = own_found xs k p name h
+
+pub own_none : (xs : List Kept) (k : ℕ) (name : List ℕ) → slice_get xs k ≡ None → None ≡ own_at (map place_of xs) k name
+own_none [] k name h = refl
+own_none (x ∷ xs) zero name h = absurd (true≢false (ap is_some h))
+own_none (x ∷ xs) (suc k) name h = own_none xs k name h
+
+-- the number of a module is that of one
+numbered : (k n : ℕ) (xs : List Module) (name : List ℕ) → module_from k xs name ≡ Some n → (i : ℕ) × (n ≡ k + i) × (i < length xs)
+numbered k n [] name h = absurd (true≢false (sym (ap is_some h)))
+numbered k n (x ∷ xs) name h = go (bytes_eq x.name name) (λ g. numbered (k + 1) n xs name g) h where
+  go : (b : Bool) → (module_from (k + 1) xs name ≡ Some n → (i : ℕ) × (n ≡ k + 1 + i) × (i < length xs)) → (if b then Some k else module_from (k + 1) xs name) ≡ Some n → (i : ℕ) × (n ≡ k + i) × (i < length (x ∷ xs))
+  go true later e = let same : k ≡ n = cc in (0, omega (arith, same), omega arith)
+  go false later e = let r = later e in let a = r.1 in let b = r.2 in (r.0 + 1, omega (arith, a), omega (arith, b))
+
+-- a number of a module is none that is past the end
+pub top_none : (modules : List Module) (name : List ℕ) (n : ℕ) (o : Option ℕ) → o ≡ module_at modules name → o ≡ Some n → length modules ≤ n → module_at modules name ≡ None
+top_none modules name n o h is past =
+    let r = numbered 0 n modules name (sym h ∙ is) in
+    let a = r.1 in
+    let b = r.2 in
+    absurd (omega (arith, a, b, past))
+
+pub top_found : (modules : List Module) (name : List ℕ) (n : ℕ) (o : Option ℕ) (m : Module) → o ≡ module_at modules name → o ≡ Some n → slice_get modules n ≡ Some m → IsTop modules name m
+top_found modules name n o m h is there = (n, sym h ∙ is, there)
