@@ -23,11 +23,13 @@ use Rattle.flat_laws.specs.Laws.{FlattenedAreSound, TopHasPorts}
 use Rattle.flat_laws.specs.Ports.{AreAccepted, ArePorts}
 use Rattle.flat_laws.specs.Sound.{times_declared}
 use Rattle.flat_laws.proofs.Lists.{either, below, below_none}
-use Rattle.flat_laws.proofs.Opening.{Keeps, Grows, SomeRefused, IsRefusal, grows_self, grows_on}
+use Rattle.flat_laws.proofs.Growing.{Grows, SomeRefused, IsRefusal, grows_self, grows_on}
+use Rattle.flat_laws.proofs.Opening.{Keeps}
 use Rattle.flat_laws.proofs.Opened.{kept_module}
 use Rattle.flat_laws.proofs.Items.{AreListed}
 use Rattle.flat_laws.proofs.Ports.{port_on, module_ports}
-use Rattle.flat_laws.proofs.Parts.{AllTasks, TaskStands, FlatStands, Moves, left, times_left, left_more, tasks_on, tasks_more, step_moves, refusal_moves, one_moves, none_moves, chosen_moves, instance_moves, block_moves, inner_kept, turn_moves, unopened_kept, start_moves}
+use Rattle.flat_laws.proofs.Parts.{AllTasks, TaskStands, FlatStands, Moves, left, times_left, left_more, tasks_on, tasks_more, step_moves, refusal_moves, one_moves, none_moves, chosen_moves}
+use Rattle.flat_laws.proofs.Entering.{instance_moves, block_moves, inner_kept, turn_moves, unopened_kept, start_moves}
 
 moved : (modules : List Module) (task : Task) (flat : Flat) (tasks : List Task) (next : Flat) → Replaces modules task flat tasks next → FlatStands flat → TaskStands (length flat.signals) (length flat.places) task → Moves (λ k. left k task) flat tasks next
 moved modules task flat tasks next (step k x old) h there = step_moves k x old h there

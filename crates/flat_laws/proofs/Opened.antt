@@ -38,7 +38,8 @@ use Rattle.flat_scopes.specs.Ranges.{bits_of_range}
 use Rattle.flat_scopes.specs.Valued.{refused_bits, parameter_bits, given_for, value_sense, value_fault, declared_as, zero_as, constant_name, valued, parameter_name, parameter_names, parameters}
 use Rattle.flat_laws.specs.Sound.{NamesSignal}
 use Rattle.flat_laws.proofs.Lists.{either}
-use Rattle.flat_laws.proofs.Opening.{Keeps, AllSteps, SomeRefused, times_listed, times_more, kept_step, kept_refuse, kept_name, kept_plain, kept_genvars, kept_instances, kept_range, kept_type, kept_ports, kept_all_data, steps_more}
+use Rattle.flat_laws.proofs.Growing.{AllSteps, SomeRefused, times_listed, times_more, steps_more}
+use Rattle.flat_laws.proofs.Opening.{Keeps, kept_step, kept_refuse, kept_name, kept_plain, kept_genvars, kept_instances, kept_range, kept_type, kept_ports, kept_all_data}
 
 -- Parameters.
 

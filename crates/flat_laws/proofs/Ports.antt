@@ -26,7 +26,8 @@ use Rattle.flat_scopes.specs.Opens.{Opens, signal_port, port_at, all_parameters,
 use Rattle.flat_items.specs.Wires.{name_in, declared_ports, ports_of}
 use Rattle.flat_laws.specs.Ports.{IsDirected, HasDirection, IsPort, ArePorts}
 use Rattle.flat_laws.proofs.Lists.{either, holds_last, holds_there}
-use Rattle.flat_laws.proofs.Opening.{Keeps, Grows, SomeRefused, grows_self, refused_last, refused_more, kept_type, kept_port, kept_initial, kept_ports}
+use Rattle.flat_laws.proofs.Growing.{Grows, SomeRefused, grows_self, refused_last, refused_more}
+use Rattle.flat_laws.proofs.Opening.{Keeps, kept_type, kept_port, kept_initial, kept_ports}
 use Rattle.flat_laws.proofs.Opened.{kept_items, kept_all_parameters, kept_port_declaration, kept_all_ports}
 
 -- a name is a port, or something is refused
