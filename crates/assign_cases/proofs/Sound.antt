@@ -6,33 +6,21 @@ use Rattle.std.proofs.lemmas.List.{length-append}
 use Rattle.mcy_base.specs.declared.span.Span.{Span}
 use Rattle.mcy_base.specs.declared.word.Word.{Word}
 use Rattle.netlist_core.specs.declared.bit.Bit.{Bit}
-use Rattle.netlist_core.specs.declared.cell.Cell.{Cell}
 use Rattle.vlog_meaning.specs.declared.scope.Decl.{Decl}
 use Rattle.vlog_meaning.specs.declared.scope.Decl.TheVariants.{Signal, Constant}
 use Rattle.vlog_meaning.specs.Scopes.{Names, with_name}
-use Rattle.elab_expr.specs.declared.builder.Joint.{Joint}
 use Rattle.elab_expr.specs.Building.{Building, AllBelow, IsSignal, HasSignals, empty, fresh_bits, signal, with_declared}
-use Rattle.flat_runs.specs.Parts.{AreCellsBelow, AreJointsBelow, StandsBelow}
-use Rattle.flat_runs.proofs.Signals.{below_more, ports_more, declared_own, empty_owns, fresh_below}
+use Rattle.flat_runs.proofs.Growing.{declared_stand, empty_stands}
+use Rattle.flat_runs.proofs.Signals.{below_more, declared_own, empty_owns, fresh_below}
 use Rattle.flat_assigns.specs.Built.{IsReady}
 
 -- A signal that is declared.
 
-cells_more : (n m : ℕ) (cells : List Cell) → n ≤ m → AreCellsBelow n cells → AreCellsBelow m cells
-cells_more n m [] le h = tt
-cells_more n m (cell ∷ more) le h = (ports_more n m cell.ports le h.0, cells_more n m more le h.1)
-
-joints_more : (n m : ℕ) (joints : List Joint) → n ≤ m → AreJointsBelow n joints → AreJointsBelow m joints
-joints_more n m [] le h = tt
-joints_more n m (j ∷ more) le h = (omega (arith, le, h.0), below_more n m (j.bit ∷ []) le h.1, joints_more n m more le h.2)
-
 pub declared_ready : (b : Building) (name : List ℕ) (span : Span) (width : ℕ) → IsReady b → IsReady (with_declared b name span width)
-declared_ready b name span width h =
-    let le : b.nets ≤ b.nets + width = omega arith in
-    record {
-      own = declared_own b name span width h.own;
-      stands = record { cells = cells_more b.nets (b.nets + width) b.cells le h.stands.cells; joints = joints_more b.nets (b.nets + width) b.joints le h.stands.joints };
-    }
+declared_ready b name span width h = record {
+  own = declared_own b name span width h.own;
+  stands = declared_stand b name span width h.stands;
+}
 
 index_left : (xs ys : List (List Bit)) (k : ℕ) → k < length xs → slice_index_or (xs ++ ys) k [] ≡ slice_index_or xs k []
 index_left [] ys k less = absurd (omega arith)

@@ -1,8 +1,9 @@
 -- A combinational process is the assignments of what it leaves.
-use Rattle.std.proofs.Common.{◌≡◌, ℕ, zero, suc, ◌+◌, ◌/◌, ◌%◌, ◌*◌, ◌^◌, ◌<◌, List, [], ◌∷◌, ◌++◌, length, None, Some, Option, refl, sym, ◌∙◌, ap, subst, inl, inr, arith, append_assoc}
+use Rattle.std.proofs.Common.{◌≡◌, ℕ, zero, suc, ◌+◌, ◌/◌, ◌%◌, ◌*◌, ◌^◌, ◌<◌, ◌≤◌, List, [], ◌∷◌, ◌++◌, length, None, Some, Option, refl, sym, ◌∙◌, ap, subst, inl, inr, arith, append_assoc}
 use Rattle.std.specs.List.{Contains}
 use Rattle.std.specs.Int.{bit_at}
 use Rattle.std.proofs.lemmas.List.{append-nil}
+use Rattle.std.proofs.lemmas.List.Elements.{Contains-append_cases}
 use Rattle.std.proofs.lemmas.Nat.Bits.{bit_at_lowest, bit_at-suc}
 use Rattle.std.proofs.Math.Nat.{pow-suc}
 use Rattle.netlist_core.specs.declared.bit.Bit.{Bit}
@@ -10,14 +11,14 @@ use Rattle.netlist_core.specs.Runs.{Nets}
 use Rattle.vlog_meaning.specs.Scopes.{Store}
 use Rattle.elab_expr.specs.declared.builder.Joint.{Joint}
 use Rattle.elab_expr.specs.Building.{Building, signal, store}
-use Rattle.flat_runs.specs.Meanings.{Place, Meaning, Assign, LeftIs, AllSay, Taken, all_leave, SomeWrites}
-use Rattle.flat_runs.specs.Adding.{HasOwnNets, Extends, AddsItem, Take}
+use Rattle.flat_runs.specs.Meanings.{Place, Meaning, Assign, LeftIs, AllSay, SomeWrites, NoneTwice, NamesOnce}
+use Rattle.flat_runs.specs.Adding.{HasOwnNets, IsBit, Extends, AddsItem}
 use Rattle.flat_runs.specs.Parts.{with_joints, AreJoints, places_from, whole, AllMean, AllJoin}
 use Rattle.flat_runs.specs.Laws.{CombinationalAdd}
 use Rattle.flat_runs.proofs.Lists.{contains_first, contains_more, contains_none, contains_cases}
-use Rattle.flat_runs.proofs.Signals.{bits_in, store_in, store_fits, are_below, own_stays}
+use Rattle.flat_runs.proofs.Signals.{bits_in, store_in, store_fits, are_below, are_apart, own_stays}
 use Rattle.flat_runs.proofs.Chain.{Whole, nothing, one_more}
-use Rattle.flat_runs.proofs.Joining.{assigns_add, runs_without, bit_same}
+use Rattle.flat_runs.proofs.Joining.{assigns_add, place_of, joined_once, runs_without, bit_same}
 
 -- Numbers with the same bits.
 
@@ -159,10 +160,6 @@ value_said signals (k ∷ ks) effect s h = (
   value_said signals ks effect s (λ x within. h x (contains_more ks k x within)),
 )
 
-leave_nothing : (signals : List (List Bit)) (ks : List ℕ) (effect : Store → Store) (s : Store) → all_leave (assigns signals ks effect) s ≡ []
-leave_nothing signals [] effect s = refl
-leave_nothing signals (k ∷ ks) effect s = leave_nothing signals ks effect s
-
 some_write : (signals : List (List Bit)) (ks : List ℕ) (effect : Store → Store) (k i : ℕ) → SomeWrites (assigns signals ks effect) k i → Contains ks k
 some_write signals [] effect k i some = absurd some
 some_write signals (j ∷ ks) effect k i (inl here) = subst (λ (x : ℕ). Contains (j ∷ ks) x) (place_in j 0 (length (bits_in signals j)) k i here) (contains_first ks j)
@@ -190,6 +187,54 @@ process_whole old mid variables effect bits joints own e mean join =
     let S : List (List Bit) → Type 0 = λ (s : List (List Bit)). Whole (assigns s variables effect) mid (with_joints mid joints) in
     one_more (Assign [] (λ s. 0)) (assigns old.signals variables effect) old mid (with_joints mid joints) (are_below old own) first (subst S e.signals rest)
 
+-- Joints of variables.
+
+places_apart : (k i n : ℕ) → NamesOnce (places_from k i n)
+places_apart k i zero = tt
+places_apart k i (suc n) = ((λ has. omega (arith, place_after k (suc i) n k i has)), places_apart k (suc i) n)
+  where
+    place_after : (k i n k' i' : ℕ) → Contains (places_from k i n) (Some (record { signal = k'; bit = i' })) → i ≤ i'
+    place_after k i zero k' i' has = absurd (contains_none (Some (record { signal = k'; bit = i' })) has)
+    place_after k i (suc n) k' i' has = elim (contains_cases (places_from k (suc i) n) (Some (record { signal = k; bit = i })) (Some (record { signal = k'; bit = i' })) has) [
+      | inl same ↦ (let is : record { signal = k; bit = i } ≡ record { signal = k'; bit = i' } = cc in let bit : i ≡ i' = ap (λ (p : Place). p.bit) is in omega arith)
+      | inr later ↦ omega (arith, place_after k (suc i) n k' i' later)
+    ]
+
+-- a joint of a variable is that of one of its bits
+variable_joint : (b : Building) (ks : List ℕ) (bits : List (List Bit)) (joints : List Joint) → AllJoin b ks bits joints → (j : Joint) → Contains joints j → (k : ℕ) × (i : ℕ) × IsBit b k i j.net × Contains ks k
+variable_joint b [] bits joints join j has = absurd (contains_none j (subst (λ (js : List Joint). Contains js j) join has))
+variable_joint b (k ∷ ks) [] joints join j has = absurd join
+variable_joint b (k ∷ ks) (x ∷ bits) joints join j has = elim (Contains-append_cases join.0 join.1 j (subst (λ (js : List Joint). Contains js j) join.2 has)) [
+  | inl first ↦
+      let r = place_of b (whole b k) x join.0 join.3 j first in
+      let same : k ≡ r.0.signal = place_in k 0 (length (signal b k)) r.0.signal r.0.bit r.1 in
+      (r.0.signal, r.0.bit, r.2, subst (λ (n : ℕ). Contains (k ∷ ks) n) same (contains_first ks k))
+  | inr rest ↦ let r = variable_joint b ks bits join.1 join.4 j rest in (r.0, r.1, r.2, contains_more ks k r.0 r.3)
+]
+
+variables_once : (b : Building) (ks : List ℕ) (bits : List (List Bit)) (joints : List Joint) → HasOwnNets b → AllJoin b ks bits joints → NoneTwice ks → (n : ℕ) (x y : Bit) → Contains joints (record { net = n; bit = x }) → Contains joints (record { net = n; bit = y }) → x ≡ y
+variables_once b [] bits joints own join once n x y has_x has_y = absurd (contains_none (record { net = n; bit = x }) (subst (λ (js : List Joint). Contains js (record { net = n; bit = x })) join has_x))
+variables_once b (k ∷ ks) [] joints own join once n x y has_x has_y = absurd join
+variables_once b (k ∷ ks) (z ∷ bits) joints own join once n x y has_x has_y =
+    elim (Contains-append_cases join.0 join.1 (record { net = n; bit = x }) (subst (λ (js : List Joint). Contains js (record { net = n; bit = x })) join.2 has_x)) [
+      | inl first ↦ elim (Contains-append_cases join.0 join.1 (record { net = n; bit = y }) (subst (λ (js : List Joint). Contains js (record { net = n; bit = y })) join.2 has_y)) [
+        | inl second ↦ joined_once b (whole b k) z join.0 own join.3 (places_apart k 0 (length (signal b k))) n x y first second
+        | inr later ↦ absurd (apart x y first later)
+      ]
+      | inr later ↦ elim (Contains-append_cases join.0 join.1 (record { net = n; bit = y }) (subst (λ (js : List Joint). Contains js (record { net = n; bit = y })) join.2 has_y)) [
+        | inl second ↦ absurd (apart y x second later)
+        | inr also ↦ variables_once b ks bits join.1 own join.4 once.1 n x y later also
+      ]
+    ]
+  where
+    apart : (v w : Bit) → Contains join.0 (record { net = n; bit = v }) → Contains join.1 (record { net = n; bit = w }) → ⊥
+    apart v w here later =
+        let r = place_of b (whole b k) z join.0 join.3 (record { net = n; bit = v }) here in
+        let same : k ≡ r.0.signal = place_in k 0 (length (signal b k)) r.0.signal r.0.bit r.1 in
+        let t = variable_joint b ks bits join.1 join.4 (record { net = n; bit = w }) later in
+        let one : t.0 ≡ r.0.signal = (are_apart b own t.0 t.1 r.0.signal r.0.bit n t.2 r.2).0 in
+        once.0 (subst (λ (q : ℕ). Contains ks q) (one ∙ sym same) t.3)
+
 pub combinational_add : CombinationalAdd
 combinational_add old mid variables effect bits joints own settled e mean join =
     let w = process_whole old mid variables effect bits joints own e mean join in
@@ -203,12 +248,17 @@ combinational_add old mid variables effect bits joints own settled e mean join =
           let each : (k : ℕ) → Contains variables k → effect s k ≡ s k = said_value old.signals variables effect s small (settled.fits s) (w.say nets runs).1 in
           λ from same k has. settled.by_others from s same k has ∙ each k has;
       later = λ nets runs said. w.later nets runs (tt, value_said old.signals variables effect (store old nets) (λ k has. said (store old nets) (λ j other. refl) k has));
-      more = w.more;
-      registers = w.registers;
-      takes = λ nets runs. subst (λ (ts : List Taken). Take old nets w.more ts) (leave_nothing old.signals variables effect (store old nets)) (w.takes nets runs);
+      more = [];
+      registers = e.registers ∙ sym (append-nil old.registers);
+      takes = λ nets runs. tt;
       written = λ k i inside written. elim (w.written k i inside written) [
         | inl before ↦ inl before
         | inr some ↦ elim some [ inl none ↦ absurd (contains_none (Some (record { signal = k; bit = i })) none) | inr here ↦ inr (some_write old.signals variables effect k i here) ]
       ];
       writes = λ k i inside written. w.writes k i inside (elim written [ inl before ↦ inl before | inr here ↦ inr (inr (write_some old.signals variables effect k i inside here)) ]);
+      stores = refl;
+      joints = joints;
+      joined = ap (λ (js : List Joint). js ++ joints) e.joints;
+      joins = λ j has. variable_joint old variables bits joints join j has;
+      joins_once = λ once n x y. variables_once old variables bits joints own join once n x y;
     }

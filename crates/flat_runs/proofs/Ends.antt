@@ -21,10 +21,10 @@ use Rattle.elab_expr.specs.Finished.{LeadsTo as Leads}
 use Rattle.elab_expr.proofs.Writing.{joint_found, joint_none, stored_there, stored_told, has_net_there, has_net_told}
 use Rattle.flat_runs.specs.Designs.{Design}
 use Rattle.flat_runs.specs.Adding.{IsBit, IsWritten}
-use Rattle.flat_runs.specs.Finishing.{LeadsTo, no_signal, of_input, of_register, unwritten, to_constant, to_net, all_led, IsFirstWith, AreRegisters, AreOf, IsWhole}
+use Rattle.flat_runs.specs.Finishing.{LeadsTo, no_signal, of_input, of_register, unwritten, to_constant, to_net, all_led, IsFirstWith, AreRegisters, IsPut, ArePut, IsWhole}
 use Rattle.flat_runs.specs.Laws.{ReadyFinishes}
 use Rattle.flat_runs.proofs.Lists.{contains_first, contains_more, contains_none, contains_cases, get_contains, contains_get}
-use Rattle.flat_runs.proofs.Signals.{bits_in, times_get, times_in, are_apart, same_signal}
+use Rattle.flat_runs.proofs.Signals.{bits_in, times_get, times_in, are_apart}
 
 -- Start values.
 
@@ -265,21 +265,23 @@ module _ (b : Building) (design : Design) (ins outs : List Port) (h : IsWhole b 
   from_step n _ (fixed _ v e) = fixed_from n v e
   from_step n _ (goes _ m end e leads) = to_net n m end (joint_found b.joints n (Net m) (stepped_on (joint_of b.joints n) (is_stored b.registers n || some_has (bits_at ins) n) (start_of b.signals b.starts n) m e)) (from_step m end leads)
 
-  -- Registers, each the first of its signal.
+-- Registers, each the first of its signal.
 
-  registers_are : (to : ℕ → Bit) (ks : List ℕ) (rs : List Register) → AreOf b design ks rs
-      → ((k : ℕ) → Contains ks k → (r : Register) → IsFirstWith (signal b k) rs r → IsFirstWith (signal b k) b.registers r)
-      → ((k : ℕ) → Contains ks k → 1 ≤ length (signal b k)) → AreRegisters b design to ks (map (led_register to) rs)
-  registers_are to [] [] are lift some = tt
-  registers_are to [] (r ∷ rs) are lift some = absurd are
-  registers_are to (k ∷ ks) [] are lift some = absurd are
-  registers_are to (k ∷ ks) (r ∷ rs) are lift some = (
-    record { built = r; first = lift k (contains_first ks k) r (inl (are.0, refl)); q = are.0; d = refl; start = are.1 },
-    registers_are to ks rs are.3 (λ j has s first. lift j (contains_more ks k j has) s (inr (other j has, first))) (λ j has. some j (contains_more ks k j has)),
-  )
-    where
-      other : (j : ℕ) → Contains ks j → r.q ≡ signal b j → ⊥
-      other j has e = are.2 (subst (λ (x : ℕ). Contains ks x) (sym (same_signal b h.own k j (some j (contains_more ks k j has)) (sym are.0 ∙ e))) has)
+first_led : (to : ℕ → Bit) (q : List Bit) (rs : List Register) (r : Register) → IsFirstWith q (map (led_register to) rs) r → (s : Register) × IsFirstWith q rs s × (r ≡ led_register to s)
+first_led to q [] r first = absurd first
+first_led to q (s ∷ rs) r first = elim first [
+  | inl here ↦ (s, inl (here.0, refl), sym here.1)
+  | inr later ↦ let t = first_led to q rs r later.1 in (t.0, inr (later.0, t.1), t.2)
+]
+
+registers_are : (b : Building) (design : Design) (to : ℕ → Bit) (led : List Register) → led ≡ map (led_register to) b.registers → (ks : List ℕ) (rs : List Register) → ArePut b design led ks rs → AreRegisters b design to ks rs
+registers_are b design to led is [] [] put = tt
+registers_are b design to led is [] (r ∷ rs) put = absurd put
+registers_are b design to led is (k ∷ ks) [] put = absurd put
+registers_are b design to led is (k ∷ ks) (r ∷ rs) put =
+    let p : IsPut b design led k r = put.0 in
+    let t = first_led to (signal b k) b.registers p.made (subst (λ (l : List Register). IsFirstWith (signal b k) l p.made) is p.first) in
+    (record { built = t.0; first = t.1; q = p.q; d = p.d ∙ ap (λ (x : Register). x.d) t.2; start = p.start }, registers_are b design to led is ks rs put.1)
 
 led_ports : (to : ℕ → Bit) (ports : List Port) → bits_at (map (led_port to) ports) ≡ map (all_led to) (bits_at ports)
 led_ports to [] = refl
@@ -290,11 +292,11 @@ led_signals to b [] = refl
 led_signals to b (k ∷ ks) = ap (λ (rest : List (List Bit)). all_led to (signal b k) ∷ rest) (led_signals to b ks)
 
 pub ready_finishes : ReadyFinishes
-ready_finishes b design ins outs netlist h f = record {
+ready_finishes b design ins outs netlist registers h f put = record {
   to = f.to;
   leads = λ n end. (λ a. (f.leads n end).0 (to_step b design ins outs h n end a), λ e. from_step b design ins outs h n end ((f.leads n end).1 e));
   cells = f.cells;
   inputs = ap bits_at f.inputs ∙ h.inputs;
   outputs = ap bits_at f.outputs ∙ led_ports f.to outs ∙ ap (λ (ports : List (List Bit)). map (all_led f.to) ports) h.outputs ∙ led_signals f.to b design.outputs;
-  registers = subst (λ (rs : List Register). AreRegisters b design f.to design.registers rs) (sym f.registers) (registers_are b design ins outs h f.to design.registers b.registers h.registers (λ k has r first. first) h.some);
+  registers = registers_are b design f.to netlist.registers f.registers design.registers registers put;
 }

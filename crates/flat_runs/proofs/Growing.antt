@@ -1,5 +1,6 @@
 -- Cells that are added one after the other extend every run.
 use Rattle.std.proofs.Common.{◌≡◌, ◌⊎◌, ℕ, zero, suc, ◌+◌, ◌%◌, ◌^◌, ◌<◌, ◌≤◌, Bool, List, [], ◌∷◌, ◌++◌, length, slice_get, Some, refl, sym, ◌∙◌, ap, subst, inl, inr, arith, append_assoc}
+use Rattle.std.proofs.lemmas.Bool.{cases_lt}
 use Rattle.std.proofs.lemmas.List.{append-nil}
 use Rattle.netlist_core.specs.declared.bit.Bit.{Bit}
 use Rattle.netlist_core.specs.declared.bit.Bit.TheVariants.{Fixed, Net}
@@ -7,16 +8,18 @@ use Rattle.netlist_core.specs.declared.cell.Cell.{Cell}
 use Rattle.netlist_core.specs.Numbers.{number}
 use Rattle.netlist_core.specs.Cells.{cell_value}
 use Rattle.netlist_core.specs.Runs.{Nets, bit_value, values, plain, input_ports, output_port, ports_seen, Computes}
-use Rattle.netlist_core.specs.Drivers.{times}
-use Rattle.netlist_core.specs.Checked.{AllNets}
+use Rattle.netlist_core.specs.declared.port.Register.{Register}
+use Rattle.netlist_core.specs.Shapes.{HasShape}
+use Rattle.netlist_core.specs.Drivers.{times, times_at, y_bits}
+use Rattle.netlist_core.specs.Checked.{AllNets, AllWide}
 use Rattle.netlist_core.specs.Settled.{laid, number_at}
 use Rattle.netlist_core.proofs.Settles.{laid-other, laid-number}
 use Rattle.elab_expr.specs.declared.builder.Joint.{Joint}
-use Rattle.elab_expr.specs.Building.{Building, AllBelow, PortsBelow, AreAdded, fresh_bits}
+use Rattle.elab_expr.specs.Building.{Building, AllBelow, PortsBelow, AreAdded, empty, fresh_bits, with_declared}
 use Rattle.flat_runs.specs.Adding.{AgreeBelow, Extended, Extends}
-use Rattle.flat_runs.specs.Parts.{AreCellsBelow, AreJointsBelow, StandsBelow}
-use Rattle.flat_runs.specs.Laws.{CellsExtend}
-use Rattle.flat_runs.proofs.Signals.{below_more, ports_more, fresh_nets, fresh_above, fresh_once, fresh_below}
+use Rattle.flat_runs.specs.Parts.{AreCellsBelow, AreJointsBelow, AreRegistersBelow, AreFormed, owners, StandsBelow}
+use Rattle.flat_runs.specs.Laws.{CellsExtend, DeclaredStandBelow, StartsStandBelow, RegistersStandBelow}
+use Rattle.flat_runs.proofs.Signals.{below_more, ports_more, times_push, fresh_nets, fresh_above, fresh_in, fresh_beyond, fresh_once, fresh_below}
 
 -- Values that agree below.
 
@@ -145,19 +148,83 @@ joints_more : (n m : ℕ) (joints : List Joint) → n ≤ m → AreJointsBelow n
 joints_more n m [] le h = tt
 joints_more n m (j ∷ more) le h = (omega (arith, h.0), below_more n m (j.bit ∷ []) le h.1, joints_more n m more le h.2)
 
+registers_more : (n m : ℕ) (registers : List Register) → n ≤ m → AreRegistersBelow n registers → AreRegistersBelow m registers
+registers_more n m [] le h = tt
+registers_more n m (r ∷ more) le h = (below_more n m r.d le h.0, h.1, registers_more n m more le h.2)
+
 cells_push : (limit : ℕ) (cells : List Cell) (cell : Cell) → AreCellsBelow limit cells → PortsBelow limit cell.ports → AreCellsBelow limit (cells ++ cell ∷ [])
 cells_push limit [] cell h k = (k, tt)
 cells_push limit (x ∷ more) cell h k = (h.0, cells_push limit more cell h.1 k)
 
-cell_stands : (b : Building) (cell : Cell) → StandsBelow b → PortsBelow b.nets (input_ports cell.ports) → output_port cell.ports ≡ fresh_bits b.nets (length (output_port cell.ports)) → StandsBelow (one_cell b cell)
-cell_stands b cell stands low fresh =
+formed_push : (cells : List Cell) (cell : Cell) → AreFormed cells → HasShape cell → AllWide cell.ports → AllNets (output_port cell.ports) → AreFormed (cells ++ cell ∷ [])
+formed_push [] cell h shape wide y = (shape, wide, y, tt)
+formed_push (x ∷ more) cell h shape wide y = (h.0, h.1, h.2, formed_push more cell h.3 shape wide y)
+
+times_y : (n : ℕ) (cells : List Cell) (cell : Cell) → times_at n (y_bits (cells ++ cell ∷ [])) ≡ times_at n (y_bits cells) + times n (output_port cell.ports)
+times_y n [] cell = omega arith
+times_y n (x ∷ more) cell = omega (arith, times_y n more cell)
+
+-- what stands still does where `width` nets are added, each with one owner
+pub owned_more : (from width n old : ℕ) → (n < from → old ≡ 1) → (from ≤ n → old ≡ 0) → n < from + width → old + times n (fresh_bits from width) ≡ 1
+owned_more from width n old low high less = elim (cases_lt n from) [
+  | inl before ↦ omega (arith, low before, fresh_above from width n before)
+  | inr after ↦ omega (arith, high after, fresh_in from width n after less)
+]
+
+pub outside_more : (from width n old : ℕ) → (from ≤ n → old ≡ 0) → from + width ≤ n → old + times n (fresh_bits from width) ≡ 0
+outside_more from width n old high over = omega (arith, high (omega arith), fresh_beyond from width n over)
+
+cell_stands : (b : Building) (cell : Cell) → StandsBelow b → HasShape cell → AllWide cell.ports → PortsBelow b.nets (input_ports cell.ports) → output_port cell.ports ≡ fresh_bits b.nets (length (output_port cell.ports)) → StandsBelow (one_cell b cell)
+cell_stands b cell stands shape wide low fresh =
     let w : ℕ = length (output_port cell.ports) in
     let le : b.nets ≤ b.nets + w = omega arith in
     let y : AllBelow (b.nets + w) (output_port cell.ports) = subst (AllBelow (b.nets + w)) (sym fresh) (fresh_below b.nets w) in
+    let times_is : (n : ℕ) → owners (one_cell b cell) n ≡ owners b n + times n (fresh_bits b.nets w) = λ n.
+    (let e : times n (output_port cell.ports) ≡ times n (fresh_bits b.nets w) = ap (times n) fresh in omega (arith, times_y n b.cells cell, e)) in
     record {
       cells = cells_push (b.nets + w) b.cells cell (cells_more b.nets (b.nets + w) b.cells le stands.cells) (all_below (b.nets + w) cell.ports (ports_more b.nets (b.nets + w) (input_ports cell.ports) le low) y);
       joints = joints_more b.nets (b.nets + w) b.joints le stands.joints;
+      registers = registers_more b.nets (b.nets + w) b.registers le stands.registers;
+      formed = formed_push b.cells cell stands.formed shape wide (subst AllNets (sym fresh) (fresh_nets b.nets w));
+      owned = λ n less. times_is n ∙ owned_more b.nets w n (owners b n) (stands.owned n) (stands.outside n) less;
+      outside = λ n over. times_is n ∙ outside_more b.nets w n (owners b n) (stands.outside n) over;
     }
+
+-- Signals, start values and registers.
+
+pub declared_stand : DeclaredStandBelow
+declared_stand b name span width stands =
+    let le : b.nets ≤ b.nets + width = omega arith in
+    let new : Building = with_declared b name span width in
+    let times_is : (n : ℕ) → owners new n ≡ owners b n + times n (fresh_bits b.nets width) = λ n. omega (arith, times_push n b.signals (fresh_bits b.nets width)) in
+    record {
+      cells = cells_more b.nets (b.nets + width) b.cells le stands.cells;
+      joints = joints_more b.nets (b.nets + width) b.joints le stands.joints;
+      registers = registers_more b.nets (b.nets + width) b.registers le stands.registers;
+      formed = stands.formed;
+      owned = λ n less. times_is n ∙ owned_more b.nets width n (owners b n) (stands.owned n) (stands.outside n) less;
+      outside = λ n over. times_is n ∙ outside_more b.nets width n (owners b n) (stands.outside n) over;
+    }
+
+pub starts_stand : StartsStandBelow
+starts_stand b k start stands = record { cells = stands.cells; joints = stands.joints; registers = stands.registers; formed = stands.formed; owned = stands.owned; outside = stands.outside }
+
+registers_append : (limit : ℕ) (rs more : List Register) → AreRegistersBelow limit rs → AreRegistersBelow limit more → AreRegistersBelow limit (rs ++ more)
+registers_append limit [] more h k = k
+registers_append limit (r ∷ rs) more h k = (h.0, h.1, registers_append limit rs more h.2 k)
+
+pub registers_stand : RegistersStandBelow
+registers_stand b registers stands below = record {
+  cells = stands.cells;
+  joints = stands.joints;
+  registers = registers_append b.nets b.registers registers stands.registers below;
+  formed = stands.formed;
+  owned = stands.owned;
+  outside = stands.outside;
+}
+
+pub empty_stands : StandsBelow empty
+empty_stands = record { cells = tt; joints = tt; registers = tt; formed = tt; owned = λ n less. absurd (omega (arith, less)); outside = λ n over. omega arith }
 
 -- Cells, one after the other.
 
@@ -195,7 +262,7 @@ grown b [] to stands added =
 grown b (cell ∷ more) to stands added =
     let next : Building = one_cell b cell in
     let e : Extends b next = cell_extends b cell stands added.2 added.3 in
-    let there : StandsBelow next = cell_stands b cell stands added.2 added.3 in
+    let there : StandsBelow next = cell_stands b cell stands added.0 added.1 added.2 added.3 in
     let rest : Grown next (record next { cells = next.cells ++ more; nets = to }) = grown next more to there added.4 in
     let P : List Cell → Type 0 = λ (cs : List Cell). Grown b (record b { cells = cs; nets = to }) in
     subst P (append_assoc b.cells (cell ∷ []) more) (extends_again b next (record next { cells = next.cells ++ more; nets = to }) e rest.0, rest.1)

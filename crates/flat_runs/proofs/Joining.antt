@@ -1,5 +1,5 @@
 -- A left side that is joined to bits has the bits of their number.
-use Rattle.std.proofs.Common.{◌≡◌, ◌⊎◌, ℕ, zero, suc, List, [], ◌∷◌, ◌++◌, slice_get, Option, None, Some, sym, ◌∙◌, ap, subst, inl, inr}
+use Rattle.std.proofs.Common.{◌≡◌, ◌⊎◌, ℕ, zero, suc, List, [], ◌∷◌, ◌++◌, slice_get, Option, None, Some, refl, sym, ◌∙◌, ap, subst, inl, inr}
 use Rattle.std.specs.List.{Contains}
 use Rattle.std.proofs.lemmas.List.{append-nil}
 use Rattle.std.proofs.lemmas.List.Elements.{Contains-append_left, Contains-append_right, Contains-append_cases}
@@ -11,10 +11,10 @@ use Rattle.netlist_core.specs.Runs.{Nets, bit_value, values}
 use Rattle.vlog_meaning.specs.Scopes.{Store}
 use Rattle.elab_expr.specs.declared.builder.Joint.{Joint}
 use Rattle.elab_expr.specs.Building.{Building, RunsIn, AllBelow, PortsBelow, signal, store}
-use Rattle.flat_runs.specs.Meanings.{Place, LeftIs}
+use Rattle.flat_runs.specs.Meanings.{Place, LeftIs, NamesOnce}
 use Rattle.elab_expr.specs.Written.{IsJoined, IsStored}
 use Rattle.flat_runs.specs.Adding.{HasOwnNets, IsBit, IsWritten, Extended, Extends}
-use Rattle.flat_runs.specs.Parts.{with_joints, AreJoints, AreJointsBelow, whole, AllJoin}
+use Rattle.flat_runs.specs.Parts.{with_joints, AreJoints, AreJointsBelow, StandsBelow, whole, AllJoin}
 use Rattle.flat_runs.specs.Laws.{AssignsAdd, JointsStandBelow, VariablesStandBelow}
 use Rattle.flat_runs.proofs.Lists.{contains_first, contains_more, contains_none, contains_cases, get_contains, contains_get}
 use Rattle.flat_runs.proofs.Values.{half_of, low_of, digit_injective, value_at}
@@ -66,7 +66,7 @@ joints_of b nets (Some p ∷ more) (x ∷ bits) (j ∷ joints) a l =
     )
 
 -- the place of a joint
-place_of : (b : Building) (left : List (Option Place)) (bits : List Bit) (joints : List Joint) → AreJoints b left bits joints → (joint : Joint) → Contains joints joint → (p : Place) × Contains left (Some p) × IsBit b p.signal p.bit joint.net
+pub place_of : (b : Building) (left : List (Option Place)) (bits : List Bit) (joints : List Joint) → AreJoints b left bits joints → (joint : Joint) → Contains joints joint → (p : Place) × Contains left (Some p) × IsBit b p.signal p.bit joint.net
 place_of b [] bits [] a joint has = absurd (contains_none joint has)
 place_of b [] bits (j ∷ joints) a joint has = absurd a
 place_of b (None ∷ more) [] joints a joint has = absurd a
@@ -79,6 +79,33 @@ place_of b (Some p ∷ more) (x ∷ bits) (j ∷ joints) a joint has = elim (con
   | inl same ↦ (p, contains_first more (Some p), subst (λ (y : Joint). IsBit b p.signal p.bit y.net) same a.0)
   | inr later ↦ let r = place_of b more bits joints a.2 joint later in (r.0, contains_more more (Some p) (Some r.0) r.1, r.2)
 ]
+
+-- no net is joined twice, where no place stands twice
+pub joined_once : (b : Building) (left : List (Option Place)) (bits : List Bit) (joints : List Joint) → HasOwnNets b → AreJoints b left bits joints → NamesOnce left → (n : ℕ) (x y : Bit) → Contains joints (record { net = n; bit = x }) → Contains joints (record { net = n; bit = y }) → x ≡ y
+joined_once b [] bits [] own a once n x y has_x has_y = absurd (contains_none (record { net = n; bit = x }) has_x)
+joined_once b [] bits (j ∷ joints) own a once n x y has_x has_y = absurd a
+joined_once b (None ∷ more) [] joints own a once n x y has_x has_y = absurd a
+joined_once b (None ∷ more) (z ∷ bits) joints own a once n x y has_x has_y = joined_once b more bits joints own a once n x y has_x has_y
+joined_once b (Some p ∷ more) [] joints own a once n x y has_x has_y = absurd a
+joined_once b (Some p ∷ more) (z ∷ bits) [] own a once n x y has_x has_y = absurd a
+joined_once b (Some p ∷ more) (z ∷ bits) (j ∷ joints) own a once n x y has_x has_y = elim (contains_cases joints j (record { net = n; bit = x }) has_x) [
+  | inl first ↦ elim (contains_cases joints j (record { net = n; bit = y }) has_y) [
+    | inl second ↦ ap (λ (k : Joint). k.bit) (sym first ∙ second)
+    | inr later ↦ absurd (apart y first later)
+  ]
+  | inr later ↦ elim (contains_cases joints j (record { net = n; bit = y }) has_y) [
+    | inl second ↦ absurd (apart x second later)
+    | inr also ↦ joined_once b more bits joints own a.2 once.1 n x y later also
+  ]
+]
+  where
+    apart : {v : Bit} → (w : Bit) → j ≡ record { net = n; bit = v } → Contains joints (record { net = n; bit = w }) → ⊥
+    apart w here later =
+        let at : IsBit b p.signal p.bit n = subst (λ (k : ℕ). IsBit b p.signal p.bit k) (ap (λ (k : Joint). k.net) here) a.0 in
+        let r = place_of b more bits joints a.2 (record { net = n; bit = w }) later in
+        let same = are_apart b own r.0.signal r.0.bit p.signal p.bit n r.2 at in
+        let is : r.0 ≡ p = (let first : r.0.signal ≡ p.signal = same.0 in let second : r.0.bit ≡ p.bit = same.1 in λ t. record { signal = first t; bit = second t }) in
+        once.0 (subst (λ (q : Place). Contains more (Some q)) is r.1)
 
 -- the joint of a place
 joint_of : (b : Building) (left : List (Option Place)) (bits : List Bit) (joints : List Joint) → AreJoints b left bits joints → (p : Place) → Contains left (Some p) → (j : Joint) × Contains joints j × IsBit b p.signal p.bit j.net
@@ -192,6 +219,11 @@ assigns_add old mid left value bits joints own e mean a = record {
     | inl before ↦ assign_writes_before old mid joints e k i before
     | inr here ↦ assign_writes_here old mid left bits joints e a k i here
   ];
+  stores = refl;
+  joints = joints;
+  joined = ap (λ (js : List Joint). js ++ joints) e.joints;
+  joins = λ j has. (let r = place_of old left bits joints a j has in (r.0.signal, r.0.bit, r.2, r.1));
+  joins_once = λ once n x y. joined_once old left bits joints own a once n x y;
 }
 
 -- Joints of a left side stand below.
@@ -221,11 +253,18 @@ joints_append : (limit : ℕ) (xs ys : List Joint) → AreJointsBelow limit xs �
 joints_append limit [] ys h k = k
 joints_append limit (x ∷ xs) ys h k = (h.0, h.1, joints_append limit xs ys h.2 k)
 
-pub joints_stand : JointsStandBelow
-joints_stand b left bits joints own stands h a = record {
+more_joints : (b : Building) (joints : List Joint) → StandsBelow b → AreJointsBelow b.nets joints → StandsBelow (with_joints b joints)
+more_joints b joints stands below = record {
   cells = stands.cells;
-  joints = joints_append b.nets b.joints joints stands.joints (new_joints b left bits joints own h a);
+  joints = joints_append b.nets b.joints joints stands.joints below;
+  registers = stands.registers;
+  formed = stands.formed;
+  owned = stands.owned;
+  outside = stands.outside;
 }
+
+pub joints_stand : JointsStandBelow
+joints_stand b left bits joints own stands h a = more_joints b joints stands (new_joints b left bits joints own h a)
 
 variables_joined : (b : Building) (ks : List ℕ) (bits : List (List Bit)) (joints : List Joint) → HasOwnNets b → PortsBelow b.nets bits → AllJoin b ks bits joints → AreJointsBelow b.nets joints
 variables_joined b [] bits joints own h join = subst (λ (js : List Joint). AreJointsBelow b.nets js) (sym join) tt
@@ -236,7 +275,4 @@ variables_joined b (k ∷ ks) (x ∷ bits) joints own h join =
     subst (λ (js : List Joint). AreJointsBelow b.nets js) (sym join.2) (joints_append b.nets join.0 join.1 first rest)
 
 pub variables_stand : VariablesStandBelow
-variables_stand b ks bits joints own stands h join = record {
-  cells = stands.cells;
-  joints = joints_append b.nets b.joints joints stands.joints (variables_joined b ks bits joints own h join);
-}
+variables_stand b ks bits joints own stands h join = more_joints b joints stands (variables_joined b ks bits joints own h join)

@@ -4,6 +4,7 @@ pub mod Signals
 pub mod Chain
 pub mod Joining
 pub mod Storing
+pub mod Writing
 pub mod Combining
 pub mod Growing
 pub mod Led

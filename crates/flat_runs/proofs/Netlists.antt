@@ -18,7 +18,7 @@ use Rattle.flat_runs.proofs.Lists.{contains_first, contains_more, contains_none,
 use Rattle.flat_runs.proofs.Signals.{declared_own, empty_owns}
 use Rattle.flat_runs.proofs.Joining.{assigns_add}
 use Rattle.flat_runs.proofs.Storing.{clocked_add}
-use Rattle.flat_runs.proofs.Growing.{cells_extend}
+use Rattle.flat_runs.proofs.Growing.{cells_extend, declared_stand, empty_stands}
 use Rattle.flat_runs.proofs.Combining.{no_change}
 use Rattle.flat_runs.proofs.Law.{built_runs}
 
@@ -143,7 +143,7 @@ count_own : HasOwnNets count_signal
 count_own = declared_own empty (99 ∷ []) place 2 empty_owns
 
 count_stands : StandsBelow count_signal
-count_stands = record { cells = tt; joints = tt }
+count_stands = declared_stand empty (99 ∷ []) place 2 empty_stands
 
 count_grows : Grows count_signal count_cell
 count_grows = record {

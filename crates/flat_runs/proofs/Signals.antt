@@ -64,13 +64,13 @@ are_below b own k i n at = below_at b.nets (signal b k) i n (ports_in b.nets b.s
 
 -- Each net is one bit of one signal.
 
-abbrev one_at : ℕ → ℕ → ℕ
+abbrev pub one_at : ℕ → ℕ → ℕ
 one_at m n = if nat_eq m n then 1 else 0
 
 one_at-same : (m : ℕ) → one_at m m ≡ 1
 one_at-same m = elim (eqb_tells m m) [ inl h ↦ rw h.0 refl | inr h ↦ absurd (h.1 refl) ]
 
-one_at-cases : (m n : ℕ) → ((m ≡ n) × (one_at m n ≡ 1)) ⊎ ((m ≢ n) × (one_at m n ≡ 0))
+pub one_at-cases : (m n : ℕ) → ((m ≡ n) × (one_at m n ≡ 1)) ⊎ ((m ≢ n) × (one_at m n ≡ 0))
 one_at-cases m n = elim (eqb_tells m n) [ inl h ↦ inl (h.1, rw h.0 refl) | inr h ↦ inr (h.1, rw h.0 refl) ]
 
 pub times_get : (bits : List Bit) (i n : ℕ) → slice_get bits i ≡ Some (Net n) → 1 ≤ times n bits
@@ -100,6 +100,11 @@ pub times_in : (signals : List (List Bit)) (k i n : ℕ) → slice_get (bits_in 
 times_in [] k i n e = absurd cc
 times_in (x ∷ more) zero i n e = omega (arith, times_get x i n e)
 times_in (x ∷ more) (suc k) i n e = omega (arith, times_in more k i n e)
+
+pub bits_few : (signals : List (List Bit)) (k n : ℕ) → times n (bits_in signals k) ≤ times_at n signals
+bits_few [] k n = omega arith
+bits_few (x ∷ more) zero n = omega arith
+bits_few (x ∷ more) (suc k) n = omega (arith, bits_few more k n)
 
 apart_in : (signals : List (List Bit)) (k i k' i' n : ℕ) → times_at n signals ≤ 1 → slice_get (bits_in signals k) i ≡ Some (Net n) → slice_get (bits_in signals k') i' ≡ Some (Net n) → (k ≡ k') × (i ≡ i')
 apart_in [] k i k' i' n one a b = absurd cc
@@ -186,6 +191,20 @@ fresh_once from (suc w) n = elim (one_at-cases from n) [
   | inr other ↦ omega (arith, other.1, fresh_once (from + 1) w n)
 ]
 
+pub fresh_in : (from w n : ℕ) → from ≤ n → n < from + w → times n (fresh_bits from w) ≡ 1
+fresh_in from zero n after less = absurd (omega (arith, after, less))
+fresh_in from (suc w) n after less = elim (one_at-cases from n) [
+  | inl same ↦ omega (arith, same.1, fresh_above (from + 1) w n (omega (arith, same.0)))
+  | inr other ↦ (let on : from < n = omega (arith, after, other.0) in omega (arith, other.1, fresh_in (from + 1) w n (omega arith) (omega (arith, less))))
+]
+
+pub fresh_beyond : (from w n : ℕ) → from + w ≤ n → times n (fresh_bits from w) ≡ 0
+fresh_beyond from zero n over = refl
+fresh_beyond from (suc w) n over = elim (one_at-cases from n) [
+  | inl same ↦ absurd (omega (arith, same.0, over))
+  | inr other ↦ omega (arith, other.1, fresh_beyond (from + 1) w n (omega (arith, over)))
+]
+
 pub fresh_below : (from w : ℕ) → AllBelow (from + w) (fresh_bits from w)
 fresh_below from zero = tt
 fresh_below from (suc w) =
@@ -204,7 +223,7 @@ ports_times : (limit n : ℕ) (ports : List (List Bit)) → limit ≤ n → Port
 ports_times limit n [] le h = refl
 ports_times limit n (x ∷ more) le h = omega (arith, below_times limit n x le h.0, ports_times limit n more le h.1)
 
-times_push : (n : ℕ) (ports : List (List Bit)) (y : List Bit) → times_at n (ports ++ y ∷ []) ≡ times_at n ports + times n y
+pub times_push : (n : ℕ) (ports : List (List Bit)) (y : List Bit) → times_at n (ports ++ y ∷ []) ≡ times_at n ports + times n y
 times_push n [] y = omega arith
 times_push n (x ∷ more) y = omega (arith, times_push n more y)
 

@@ -1,12 +1,13 @@
 -- A clocked process is added by its cells and a register for each variable.
-use Rattle.std.proofs.Common.{◌≡◌, ◌⊎◌, ℕ, ◌<◌, List, [], ◌∷◌, ◌++◌, map, length, slice_get, Some, sym, ◌∙◌, ap, subst, inl, inr}
+use Rattle.std.proofs.Common.{◌≡◌, ◌⊎◌, ℕ, ◌<◌, List, [], ◌∷◌, ◌++◌, map, length, slice_get, Some, refl, sym, ◌∙◌, ap, subst, inl, inr}
 use Rattle.std.specs.List.{Contains}
+use Rattle.std.proofs.lemmas.List.{append-nil}
 use Rattle.std.proofs.lemmas.List.Elements.{Contains-append_left, Contains-append_right, Contains-append_cases}
 use Rattle.netlist_core.specs.declared.bit.Bit.{Bit}
 use Rattle.netlist_core.specs.declared.bit.Bit.TheVariants.{Net}
 use Rattle.netlist_core.specs.declared.port.Register.{Register}
 use Rattle.netlist_core.specs.Numbers.{number}
-use Rattle.netlist_core.specs.Runs.{Nets, values}
+use Rattle.netlist_core.specs.Runs.{Nets, values, q_bits}
 use Rattle.vlog_meaning.specs.Scopes.{Store}
 use Rattle.elab_expr.specs.Building.{Building, RunsIn, signal, store}
 use Rattle.flat_runs.specs.Adding.{HasOwnNets, IsBit, IsWritten, Extended, Extends, Take}
@@ -81,6 +82,16 @@ clocked_writes_here old mid variables bits registers own e stored k i inside has
     let in_q : slice_get r.0.q i ≡ Some (Net at.0) = ap (λ (q : List Bit). slice_get q i) r.2 ∙ at.1 in
     (at.0, bit_same mid old k i at.0 (sym e.signals) at.1, inr (r.0, Contains-append_right mid.registers registers r.0 r.1, get_contains r.0.q i (Net at.0) in_q))
 
+stored_bits : (b : Building) (variables : List ℕ) (bits : List (List Bit)) (registers : List Register) → AreStored b variables bits registers → q_bits registers ≡ map (signal b) variables
+stored_bits b [] bits [] stored = refl
+stored_bits b [] bits (r ∷ rs) stored = absurd stored
+stored_bits b (k ∷ ks) [] registers stored = absurd stored
+stored_bits b (k ∷ ks) (x ∷ bits) [] stored = absurd stored
+stored_bits b (k ∷ ks) (x ∷ bits) (r ∷ rs) stored =
+    let head : r.q ≡ signal b k = stored.0 in
+    let tail : q_bits rs ≡ map (signal b) ks = stored_bits b ks bits rs stored.2 in
+    rw (head, tail) refl
+
 pub clocked_add : ClockedAdd
 clocked_add old mid variables effect bits registers own e mean stored = record {
   signals = e.signals;
@@ -98,4 +109,9 @@ clocked_add old mid variables effect bits registers own e mean stored = record {
     | inl before ↦ clocked_writes_before old mid registers e k i before
     | inr here ↦ clocked_writes_here old mid variables bits registers own e stored k i inside here
   ];
+  stores = stored_bits old variables bits registers stored;
+  joints = [];
+  joined = e.joints ∙ sym (append-nil old.joints);
+  joins = λ j has. absurd (contains_none j has);
+  joins_once = λ once n x y has_x has_y. absurd (contains_none (record { net = n; bit = x }) has_x);
 }

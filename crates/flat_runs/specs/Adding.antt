@@ -1,16 +1,18 @@
 -- What a call that builds an item does to the runs of a builder.
-use Rattle.std.specs.Prelude.{◌≡◌, ◌⊎◌, ℕ, ◌<◌, ◌≤◌, List, [], ◌∷◌, ◌++◌, Some, slice_get, length}
+use Rattle.std.specs.Prelude.{◌≡◌, ◌⊎◌, ℕ, ◌<◌, ◌≤◌, List, [], ◌∷◌, ◌++◌, Some, map, slice_get, length}
+use Rattle.std.specs.List.{Contains}
 use Rattle.netlist_core.specs.declared.bit.Bit.{Bit}
 use Rattle.netlist_core.specs.declared.bit.Bit.TheVariants.{Net}
 use Rattle.netlist_core.specs.declared.port.Register.{Register}
 use Rattle.netlist_core.specs.Numbers.{number}
-use Rattle.netlist_core.specs.Runs.{Nets, values}
+use Rattle.netlist_core.specs.Runs.{Nets, values, q_bits}
 use Rattle.netlist_core.specs.Drivers.{times_at}
 use Rattle.netlist_core.specs.Checked.{AllPortsNets}
 use Rattle.vlog_meaning.specs.Scopes.{Store}
+use Rattle.elab_expr.specs.declared.builder.Joint.{Joint}
 use Rattle.elab_expr.specs.Building.{Building, RunsIn, PortsBelow, signal, store}
 use Rattle.elab_expr.specs.Written.{IsJoined, IsStored}
-use Rattle.flat_runs.specs.Meanings.{Meaning, Says, Taken, leaves, Writes}
+use Rattle.flat_runs.specs.Meanings.{Meaning, Says, Taken, leaves, Writes, WritesOnce, Joins, stored_by}
 
 -- Signals have nets of their own: each bit is a net that stands there, and each net is one bit of one signal.
 pub record HasOwnNets (b : Building) : Type 0 where
@@ -56,7 +58,8 @@ Take b nets (r ∷ rs) (t ∷ ts) = (r.q ≡ signal b t.signal) × (number (valu
 Take b nets registers taken = ⊥
 
 -- An item is built: the runs of the new builder are those of the old one in which what the item says holds, its registers
--- are added with what it leaves to them, and its bits are written.
+-- are added with what it leaves to them, and its bits are written. Each new joint is of a bit that the item joins, and
+-- none stands twice where the item names each bit once.
 pub record AddsItem (old new : Building) (m : Meaning) : Type 0 where
   pub signals : new.signals ≡ old.signals
   pub nets : old.nets ≤ new.nets
@@ -68,6 +71,11 @@ pub record AddsItem (old new : Building) (m : Meaning) : Type 0 where
   pub takes : (nets : Nets) → RunsIn new nets → Take old nets more (leaves m (store old nets))
   pub written : (k i : ℕ) → i < length (signal old k) → IsWritten new k i → IsWritten old k i ⊎ Writes m k i
   pub writes : (k i : ℕ) → i < length (signal old k) → IsWritten old k i ⊎ Writes m k i → IsWritten new k i
+  pub stores : q_bits more ≡ map (signal old) (stored_by m)
+  pub joints : List Joint
+  pub joined : new.joints ≡ old.joints ++ joints
+  pub joins : (j : Joint) → Contains joints j → (k : ℕ) × (i : ℕ) × IsBit old k i j.net × Joins m k i
+  pub joins_once : WritesOnce m → (n : ℕ) (x y : Bit) → Contains joints (record { net = n; bit = x }) → Contains joints (record { net = n; bit = y }) → x ≡ y
 
 -- items are built one after the other
 abbrev pub AddsItems : List Meaning → Building → Building → Type 0

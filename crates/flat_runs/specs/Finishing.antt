@@ -74,13 +74,21 @@ pub record Finishes (b : Building) (design : Design) (netlist : RawNetlist) : Ty
 
 -- A builder that is ready to be finished.
 
--- the registers are those of the signals, one each, in this order, and begin with the start values
-abbrev pub AreOf : Building → Design → List ℕ → List Register → Type 0
-AreOf b design [] [] = Unit {0}
-AreOf b design (k ∷ ks) (r ∷ rs) = (r.q ≡ signal b k) × (r.start.bits ≡ design.start k) × ¬ Contains ks k × AreOf b design ks rs
-AreOf b design ks rs = ⊥
+-- A register is made of the first of these whose Q is the signal, and begins with the signal's start value.
+pub record IsPut (b : Building) (design : Design) (registers : List Register) (k : ℕ) (r : Register) : Type 0 where
+  pub made : Register
+  pub first : IsFirstWith (signal b k) registers made
+  pub q : r.q ≡ signal b k
+  pub d : r.d ≡ made.d
+  pub start : r.start.bits ≡ design.start k
 
--- The ports, start values and registers are the design's. Joints name bits of signals, each once, and none of an input or a
+-- registers are put in the order of these signals
+abbrev pub ArePut : Building → Design → List Register → List ℕ → List Register → Type 0
+ArePut b design registers [] [] = Unit {0}
+ArePut b design registers (k ∷ ks) (r ∷ rs) = IsPut b design registers k r × ArePut b design registers ks rs
+ArePut b design registers ks rs = ⊥
+
+-- The ports and start values are the design's. Joints name bits of signals, each once, and none of an input or a
 -- register, so each bit has one writer at most.
 pub record IsWhole (b : Building) (design : Design) (ins outs : List Port) : Type 0 where
   pub own : HasOwnNets b
@@ -92,5 +100,3 @@ pub record IsWhole (b : Building) (design : Design) (ins outs : List Port) : Typ
   pub once : (n : ℕ) (x y : Bit) → Contains b.joints (record { net = n; bit = x }) → Contains b.joints (record { net = n; bit = y }) → x ≡ y
   pub single : (n : ℕ) → IsJoined b n → ¬ IsStored b n
   pub apart : (n k i : ℕ) → IsJoined b n → IsBit b k i n → ¬ Contains design.inputs k
-  pub registers : AreOf b design design.registers b.registers
-  pub some : (k : ℕ) → Contains design.registers k → 1 ≤ length (signal b k)

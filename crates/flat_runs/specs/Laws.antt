@@ -8,13 +8,14 @@ use Rattle.netlist_core.specs.declared.raw.RawNetlist.{RawNetlist}
 use Rattle.netlist_core.specs.Runs.{Nets, plain, IsRun, outputs_by, port_numbers, q_bits}
 use Rattle.vlog_meaning.specs.Scopes.{Store}
 use Rattle.elab_expr.specs.declared.builder.Joint.{Joint}
-use Rattle.elab_expr.specs.Building.{Building, Grows, AllBelow, PortsBelow, empty, with_declared}
+use Rattle.elab_expr.specs.Building.{Building, Grows, AllBelow, PortsBelow, empty, signal, with_declared, with_start}
 use Rattle.elab_expr.specs.Finished.{Finished}
-use Rattle.flat_runs.specs.Meanings.{Place, Meaning, Assign, Combinational, Clocked}
+use Rattle.flat_runs.specs.Meanings.{Place, Meaning, Assign, Combinational, Clocked, all_stored}
 use Rattle.flat_runs.specs.Designs.{Design, IsSourceRun, source_outputs, source_states}
 use Rattle.flat_runs.specs.Adding.{HasOwnNets, Extends, Means, AddsItem, AddsItems}
-use Rattle.flat_runs.specs.Parts.{with_joints, with_registers, StandsBelow, AreJoints, AllMean, AllJoin, IsSettled, AreStored}
-use Rattle.flat_runs.specs.Finishing.{Begins, Finishes, IsWhole}
+use Rattle.flat_runs.specs.Parts.{with_joints, with_registers, AreRegistersBelow, StandsBelow, AreJoints, AllMean, AllJoin, IsSettled, AreStored}
+use Rattle.flat_runs.specs.Writing.{HasOneWriter, IsNew}
+use Rattle.flat_runs.specs.Finishing.{Begins, Finishes, ArePut, IsWhole}
 
 -- A netlist has the runs of its source.
 
@@ -39,9 +40,10 @@ pub record SameRuns (design : Design) (netlist : RawNetlist) : Type 0 where
 abbrev pub BuiltRuns : Type 0
 BuiltRuns = (first last : Building) (design : Design) (netlist : RawNetlist) → Begins first design → AddsItems design.items first last → Finishes last design netlist → SameRuns design netlist
 
--- What is made of a builder that is ready is a finished netlist of the design.
+-- What is made of a builder that is ready, with its registers in the design's order, is a finished netlist of the design.
 abbrev pub ReadyFinishes : Type 0
-ReadyFinishes = (b : Building) (design : Design) (ins outs : List Port) (netlist : RawNetlist) → IsWhole b design ins outs → Finished b ins outs netlist → Finishes b design netlist
+ReadyFinishes = (b : Building) (design : Design) (ins outs : List Port) (netlist : RawNetlist) (registers : List Register) → IsWhole b design ins outs → Finished b ins outs netlist
+    → ArePut b design netlist.registers design.registers registers → Finishes b design (record netlist { registers = registers })
 
 -- How a kind of item is added.
 
@@ -78,6 +80,17 @@ JointsStandBelow = (b : Building) (left : List (Option Place)) (bits : List Bit)
 abbrev pub VariablesStandBelow : Type 0
 VariablesStandBelow = (b : Building) (variables : List ℕ) (bits : List (List Bit)) (joints : List Joint) → HasOwnNets b → StandsBelow b → PortsBelow b.nets bits → AllJoin b variables bits joints → StandsBelow (with_joints b joints)
 
+-- so do registers whose D is below
+abbrev pub RegistersStandBelow : Type 0
+RegistersStandBelow = (b : Building) (registers : List Register) → StandsBelow b → AreRegistersBelow b.nets registers → StandsBelow (with_registers b registers)
+
+-- signals that are declared, and start values
+abbrev pub DeclaredStandBelow : Type 0
+DeclaredStandBelow = (b : Building) (name : List ℕ) (span : Span) (width : ℕ) → StandsBelow b → StandsBelow (with_declared b name span width)
+
+abbrev pub StartsStandBelow : Type 0
+StartsStandBelow = (b : Building) (k start : ℕ) → StandsBelow b → StandsBelow (with_start k start b)
+
 -- signals that are declared have nets of their own
 abbrev pub DeclaredOwnNets : Type 0
 DeclaredOwnNets = (b : Building) (name : List ℕ) (span : Span) (width : ℕ) → HasOwnNets b → HasOwnNets (with_declared b name span width)
@@ -88,3 +101,20 @@ EmptyBegins = HasOwnNets empty × StandsBelow empty
 -- a builder whose signals are as they were, with more nets, still has own nets
 abbrev pub OwnNetsStay : Type 0
 OwnNetsStay = (old new : Building) → HasOwnNets old → new.signals ≡ old.signals → old.nets ≤ new.nets → HasOwnNets new
+
+-- One writer for each bit.
+
+abbrev pub NothingIsWritten : Type 0
+NothingIsWritten = (b : Building) (inputs : List ℕ) → b.joints ≡ [] → b.registers ≡ [] → HasOneWriter b inputs
+
+-- an item whose bits are not written before
+abbrev pub OneWriterStays : Type 0
+OneWriterStays = (old new : Building) (inputs : List ℕ) (m : Meaning) → HasOwnNets old → HasOneWriter old inputs → IsNew old inputs m → AddsItem old new m → HasOneWriter new inputs
+
+-- start values
+abbrev pub OneWriterStarts : Type 0
+OneWriterStarts = (b : Building) (inputs : List ℕ) (k start : ℕ) → HasOneWriter b inputs → HasOneWriter (with_start k start b) inputs
+
+-- the registers of all items are those of their variables
+abbrev pub RegistersOfItems : Type 0
+RegistersOfItems = (items : List Meaning) (first last : Building) → AddsItems items first last → q_bits last.registers ≡ q_bits first.registers ++ map (signal first) (all_stored items)

@@ -74,6 +74,39 @@ Writes (Assign left value) k i = Contains left (Some (record { signal = k; bit =
 Writes (Combinational variables effect) k i = Contains variables k
 Writes (Clocked variables effect) k i = Contains variables k
 
+-- no number stands twice
+abbrev pub NoneTwice : List ℕ → Type 0
+NoneTwice [] = Unit {0}
+NoneTwice (k ∷ more) = (¬ Contains more k) × NoneTwice more
+
+-- no place of a bit stands twice
+abbrev pub NamesOnce : List (Option Place) → Type 0
+NamesOnce [] = Unit {0}
+NamesOnce (None ∷ more) = NamesOnce more
+NamesOnce (Some p ∷ more) = (¬ Contains more (Some p)) × NamesOnce more
+
+-- the item names each bit once at most
+abbrev pub WritesOnce : Meaning → Type 0
+WritesOnce (Assign left value) = NamesOnce left
+WritesOnce (Combinational variables effect) = NoneTwice variables
+WritesOnce (Clocked variables effect) = NoneTwice variables
+
+-- the variables that become registers
+abbrev pub stored_by : Meaning → List ℕ
+stored_by (Assign left value) = []
+stored_by (Combinational variables effect) = []
+stored_by (Clocked variables effect) = variables
+
+-- the item joins bit i of signal k
+abbrev pub Joins : Meaning → ℕ → ℕ → Type 0
+Joins (Assign left value) k i = Contains left (Some (record { signal = k; bit = i }))
+Joins (Combinational variables effect) k i = Contains variables k
+Joins (Clocked variables effect) k i = ⊥
+
+abbrev pub all_stored : List Meaning → List ℕ
+all_stored [] = []
+all_stored (m ∷ more) = stored_by m ++ all_stored more
+
 abbrev pub SomeWrites : List Meaning → ℕ → ℕ → Type 0
 SomeWrites [] k i = ⊥
 SomeWrites (m ∷ more) k i = Writes m k i ⊎ SomeWrites more k i

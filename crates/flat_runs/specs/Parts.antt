@@ -1,9 +1,13 @@
 -- How items are built from cells, joints and registers, and what stands of a builder from item to item.
-use Rattle.std.specs.Prelude.{◌≡◌, ℕ, zero, suc, ◌^◌, ◌<◌, List, [], ◌∷◌, ◌++◌, Option, None, Some, length}
+use Rattle.std.specs.Prelude.{◌≡◌, ℕ, zero, suc, ◌+◌, ◌^◌, ◌<◌, ◌≤◌, List, [], ◌∷◌, ◌++◌, Option, None, Some, length}
 use Rattle.std.specs.List.{Contains}
 use Rattle.netlist_core.specs.declared.bit.Bit.{Bit}
 use Rattle.netlist_core.specs.declared.cell.Cell.{Cell}
 use Rattle.netlist_core.specs.declared.port.Register.{Register}
+use Rattle.netlist_core.specs.Runs.{output_port}
+use Rattle.netlist_core.specs.Shapes.{HasShape}
+use Rattle.netlist_core.specs.Drivers.{times_at, y_bits}
+use Rattle.netlist_core.specs.Checked.{AllWide, AllNets}
 use Rattle.vlog_meaning.specs.Scopes.{Store}
 use Rattle.elab_expr.specs.declared.builder.Joint.{Joint}
 use Rattle.elab_expr.specs.Building.{Building, AllBelow, PortsBelow, signal}
@@ -16,7 +20,8 @@ with_joints b joints = record b { joints = b.joints ++ joints }
 abbrev pub with_registers : Building → List Register → Building
 with_registers b registers = record b { registers = b.registers ++ registers }
 
--- What stands of a builder: cells and joints speak of nets below `nets`.
+-- What stands of a builder: cells, joints and registers speak of nets below `nets`, and each of these is a bit of a signal or of
+-- a cell's Y, just one.
 
 abbrev pub AreCellsBelow : ℕ → List Cell → Type 0
 AreCellsBelow limit [] = Unit {0}
@@ -26,9 +31,27 @@ abbrev pub AreJointsBelow : ℕ → List Joint → Type 0
 AreJointsBelow limit [] = Unit {0}
 AreJointsBelow limit (j ∷ more) = (j.net < limit) × AllBelow limit (j.bit ∷ []) × AreJointsBelow limit more
 
+-- D of each register is below, and as long as Q
+abbrev pub AreRegistersBelow : ℕ → List Register → Type 0
+AreRegistersBelow limit [] = Unit {0}
+AreRegistersBelow limit (r ∷ more) = AllBelow limit r.d × (length r.d ≡ length r.q) × AreRegistersBelow limit more
+
+-- each cell has the ports of its kind, of 1 to 128 bits, and drives nets
+abbrev pub AreFormed : List Cell → Type 0
+AreFormed [] = Unit {0}
+AreFormed (cell ∷ more) = HasShape cell × AllWide cell.ports × AllNets (output_port cell.ports) × AreFormed more
+
+-- how many bits of signals and of cells' Y are this net
+abbrev pub owners : Building → ℕ → ℕ
+owners b n = times_at n b.signals + times_at n (y_bits b.cells)
+
 pub record StandsBelow (b : Building) : Type 0 where
   pub cells : AreCellsBelow b.nets b.cells
   pub joints : AreJointsBelow b.nets b.joints
+  pub registers : AreRegistersBelow b.nets b.registers
+  pub formed : AreFormed b.cells
+  pub owned : (n : ℕ) → n < b.nets → owners b n ≡ 1
+  pub outside : (n : ℕ) → b.nets ≤ n → owners b n ≡ 0
 
 -- Left sides.
 

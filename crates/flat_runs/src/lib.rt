@@ -6,5 +6,6 @@ mod laws;
 
 pub use examples::{netlists_of_examples, runs_of_examples};
 pub use laws::{
-    builders_keep, built_netlists_have_the_source_runs, items_are_added, ready_builders_finish,
+    bits_have_one_writer, builders_keep, built_netlists_have_the_source_runs, items_are_added,
+    ready_builders_finish,
 };

@@ -9,10 +9,10 @@ use Rattle.vlog_meaning.specs.Scopes.{Names}
 use Rattle.vlog_effects.specs.Steps.{steps_of}
 use Rattle.vlog_effects.specs.Latches.{Target, targets}
 use Rattle.elab_expr.specs.declared.builder.Signal.{Signal as Declared}
-use Rattle.elab_expr.specs.Building.{Building, Grows, AllBelow, signal, declared_at, start_bits}
+use Rattle.elab_expr.specs.Building.{Building, Grows, AllBelow, PortsBelow, signal, declared_at, start_bits}
 use Rattle.elab_expr.proofs.Parts.{below_later}
-use Rattle.flat_runs.specs.Parts.{StandsBelow as Stands, AreStored, with_registers}
-use Rattle.flat_runs.proofs.Growing.{cells_extend}
+use Rattle.flat_runs.specs.Parts.{StandsBelow as Stands, AreRegistersBelow, AreStored, with_registers}
+use Rattle.flat_runs.proofs.Growing.{cells_extend, registers_stand}
 use Rattle.proc_muxes.specs.declared.change.Change.{Change}
 use Rattle.proc_muxes.specs.declared.choice.Choice.{Choice}
 use Rattle.proc_muxes.specs.Builds.{Work, held, stands, distinct_after, distinct, choices, restored}
@@ -20,7 +20,7 @@ use Rattle.proc_muxes.specs.Clear.{IsReady}
 use Rattle.proc_muxes.specs.Shows.{Conforms, Known, Keeps, StandsBelow, last_held}
 use Rattle.proc_muxes.specs.Working.{pending_of, work, changes_of, all_have, given_back, AllFit, Built}
 use Rattle.proc_muxes.proofs.Fitting.{changes-fit}
-use Rattle.proc_muxes.proofs.Frames.{known-distinct, stands-distinct, nets-added, keeps-widths}
+use Rattle.proc_muxes.proofs.Frames.{known-distinct, stands-distinct, nets-added, keeps-widths, stands-held}
 use Rattle.proc_muxes.proofs.Keeping.{keeps}
 use Rattle.proc_muxes.proofs.Merging.{given-restores}
 use Rattle.proc_muxes.proofs.Walking.{held-wide}
@@ -97,6 +97,21 @@ bits_are y kinds (x ∷ more) h =
 can_store : (t y : Work) (mid : Building) (ds : List Target) → Known (length mid.signals) ds → AllOwn t mid ds → ((kind : Bool) (n : ℕ) → length (held y kind n) ≡ length (held t kind n)) → CanStoreAll mid (choices y ds)
 can_store t y mid [] known own wide = tt
 can_store t y mid (x ∷ more) known own wide = (record { known = known.0; wide = wide x.is_blocking x.number ∙ ap length own.0 }, can_store t y mid more known.1 own.1 wide)
+
+-- what registers take stands below
+choices_below : (y : Work) (ds : List Target) → StandsBelow y → PortsBelow y.building.nets (map (λ x. x.bits) (choices y ds))
+choices_below y [] h = tt
+choices_below y (x ∷ more) h = (stands-held y x.is_blocking x.number h, choices_below y more h)
+
+registers_below : (limit : ℕ) (b : Building) (xs : List Choice) (rs : List Register) → CanStoreAll b xs → PortsBelow limit (map (λ x. x.bits) xs) → AreStored b (map (λ x. x.number) xs) (map (λ x. x.bits) xs) rs → AreRegistersBelow limit rs
+registers_below limit b [] [] can below stored = tt
+registers_below limit b [] (r ∷ rs) can below stored = absurd stored
+registers_below limit b (x ∷ xs) [] can below stored = absurd stored
+registers_below limit b (x ∷ xs) (r ∷ rs) can below stored = (
+  subst (AllBelow limit) (sym stored.1) below.0,
+  ap length stored.1 ∙ can.0.wide ∙ sym (ap length stored.0),
+  registers_below limit b xs rs can.1 below.1 stored.2,
+)
 
 -- the own bits are those of the builder with the same signals
 own_of : (t : Work) (old : Building) (done : Work) (ds : List Target) → AllOwn t old ds → AllOwn t (given_own old done) ds
@@ -196,8 +211,11 @@ module _ (names : Names) (s : Stmt) (old : Building) (before waiting : List (Lis
 
         pub clocked_stands : Stands old → Stands new
         clocked_stands stands =
-            let e = (cells_extend old (given_own old (work done after)) stands grows).1 in
-            subst Stands (sym new_is) (record { cells = e.cells; joints = e.joints })
+            let y : Work = work done after in
+            let e = (cells_extend old (given_own old y) stands grows).1 in
+            let bits : PortsBelow done.nets (map (λ x. x.bits) xs) = subst (λ (l : List Choice). PortsBelow done.nets (map (λ x. x.bits) l)) (sym chosen) (choices_below y (distinct (targets (steps_of s names))) (kept.below stood)) in
+            let below : AreRegistersBelow done.nets stores.registers = registers_below done.nets mid xs stores.registers can_after bits stores.stored in
+            subst Stands (sym new_is) (registers_stand (given_own old y) stores.registers e below)
 
         pub clocked_places : length last ≡ length mid.signals → HasPlaces new last
         clocked_places same = record {

@@ -1,0 +1,6 @@
+use Rattle.std.proofs.Common.{take}
+use Rattle.elab_finish.specs.Ordering.{AreFilled}
+use Rattle.elab_finish.proofs.ordering.all_filled.Given as goal
+
+abbrev pub invariant-loop-slot : goal.invariant-loop-slot
+invariant-loop-slot l = AreFilled l.registers (take l.slot-index l.slots) l.found.items
