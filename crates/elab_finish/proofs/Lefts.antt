@@ -5,15 +5,17 @@ use Rattle.netlist_core.specs.declared.bit.Bit.{Bit}
 use Rattle.netlist_core.specs.declared.bit.Bit.TheVariants.{Net}
 use Rattle.netlist_core.specs.declared.raw.RawNetlist.{RawNetlist}
 use Rattle.elab_expr.specs.Building.{Building}
+use Rattle.elab_expr.proofs.Following.{loop_goes}
 use Rattle.flat_runs.proofs.Lists.{contains_get}
 use Rattle.elab_finish.specs.declared.error.DesignError.{DesignError}
 use Rattle.elab_finish.specs.declared.error.DesignError.TheVariants.{Loop, TooMany, Memory}
 use Rattle.elab_finish.specs.declared.left.Left.{Left}
-use Rattle.elab_finish.specs.Loops.{IsLooped, IsLoopFree, IsLeftLooped, IsFirstLooped, AreCovered}
+use Rattle.elab_finish.specs.Loops.{next_of, IsLooped, IsLoopFree, IsLeftLooped, IsFirstLooped, AreCovered}
+use Rattle.elab_finish.specs.Laws.{JoinedAreCovered}
 use Rattle.elab_finish.specs.Searching.{HasNet}
 use Rattle.elab_finish.specs.Endings.{IsEnding}
 use Rattle.elab_finish.specs.Refusals.{IsOver, IsRefused}
-use Rattle.elab_finish.proofs.Joined.{bit_there}
+use Rattle.elab_finish.proofs.Joined.{bit_there, joined_on}
 
 -- Bits, one after the other.
 
@@ -82,3 +84,10 @@ pub over_refused : (b : Building) (name : List ℕ) (clocked : Option (List ℕ)
 over_refused b name clocked ins outs declared lefts netlist (Loop span) ending over = inr (netlist, ending, over)
 over_refused b name clocked ins outs declared lefts netlist (TooMany kind) ending over = (netlist, ending, over)
 over_refused b name clocked ins outs declared lefts netlist Memory ending over = tt
+
+-- Each loop is of joined nets.
+pub joined_covered : JoinedAreCovered
+joined_covered b lefts each n loop =
+    let on = loop_goes (next_of b) n loop in
+    let t = each n (joined_on b n on.0 on.1) in
+    (t.0, t.1, (n, t.2, loop))

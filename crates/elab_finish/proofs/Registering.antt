@@ -16,7 +16,9 @@ use Rattle.flat_runs.specs.Writing.{HasOneWriter}
 use Rattle.flat_runs.specs.Finishing.{IsFirstWith}
 use Rattle.flat_runs.proofs.Lists.{contains_first, contains_more, contains_none, contains_cases, get_contains, contains_get}
 use Rattle.flat_runs.proofs.Signals.{times_get, are_apart, net_of}
+use Rattle.flat_runs.proofs.Writing.{stored_net}
 use Rattle.elab_finish.specs.Endings.{AreKnown, is_register, is_stored_bit, registers_in, IsRegisterOf, AreRegistersOf}
+use Rattle.elab_finish.specs.Laws.{RegistersHaveSignals, SignalsHaveRegisters}
 use Rattle.elab_finish.specs.Ordering.{IsSlot, AreSlots, IsFilled, AreFilled}
 
 -- Lists of numbers.
@@ -141,3 +143,44 @@ registers_filled b ins own writers to led is (k ∷ ks) (x ∷ slots) (r ∷ rs)
   register_filled b ins own writers to k x r (are k (contains_first ks k)) s.0 (subst (λ (l : List Register). IsFilled l x r) is f.0),
   registers_filled b ins own writers to led is ks slots rs (λ j has. are j (contains_more ks k j has)) s.1 f.1,
 )
+
+-- Registers that are those of some signals.
+
+pub registers_have : RegistersHaveSignals
+registers_have b ks is r has = within b b.registers ks is r has
+  where
+    within : (b : Building) (rs : List Register) (ks : List ℕ) → q_bits rs ≡ map (signal b) ks → (r : Register) → Contains rs r → (k : ℕ) × Contains ks k × (r.q ≡ signal b k)
+    within b [] ks is r has = absurd (contains_none r has)
+    within b (s ∷ rs) [] is r has = absurd cc
+    within b (s ∷ rs) (k ∷ ks) is r has =
+        let first : s.q ≡ signal b k = cc in
+        let rest : q_bits rs ≡ map (signal b) ks = cc in
+        elim (contains_cases rs s r has) [
+          | inl same ↦ (k, contains_first ks k, subst (λ (x : Register). x.q ≡ signal b k) same first)
+          | inr later ↦ let t = within b rs ks rest r later in (t.0, contains_more ks k t.0 t.1, t.2)
+        ]
+
+signal_times : (b : Building) (ks : List ℕ) (k n : ℕ) → Contains ks k → slice_get (signal b k) 0 ≡ Some (Net n) → 1 ≤ times_at n (map (signal b) ks)
+signal_times b [] k n has low = absurd (contains_none k has)
+signal_times b (j ∷ ks) k n has low = elim (contains_cases ks j k has) [
+  | inl same ↦ (let one = times_get (signal b j) 0 n (ap (λ (x : ℕ). slice_get (signal b x) 0) same ∙ low) in omega (arith, one))
+  | inr later ↦ (let rest = signal_times b ks k n later low in omega (arith, rest))
+]
+
+pub signals_have : SignalsHaveRegisters
+signals_have b ks k own is some = (there, back)
+  where
+    there : is_register b k ≡ true → Contains ks k
+    there e =
+        let t = bit_stored b.registers (slice_get (signal b k) 0) e in
+        let s = registers_have b ks is t.2 t.3 in
+        let at = contains_get t.2.q (Net t.0) t.4 in
+        let bit : slice_get (signal b s.0) at.0 ≡ Some (Net t.0) = ap (λ (q : List Bit). slice_get q at.0) (sym s.2) ∙ at.1 in
+        subst (λ (x : ℕ). Contains ks x) (are_apart b own s.0 at.0 k 0 t.0 bit t.1).0 s.1
+
+    back : Contains ks k → is_register b k ≡ true
+    back has =
+        let at = net_of b own k 0 some in
+        let times : 1 ≤ times_at at.0 (q_bits b.registers) = subst (λ (qs : List (List Bit)). 1 ≤ times_at at.0 qs) (sym is) (signal_times b ks k at.0 has at.1) in
+        let r = stored_net at.0 b.registers times in
+        ap (is_stored_bit b.registers) at.1 ∙ stored_told b.registers at.0 r.0 r.1 r.2

@@ -5,3 +5,4 @@ pub mod Refusals
 pub mod Heads
 pub mod Ordering
 pub mod Checking
+pub mod Laws

@@ -6,6 +6,7 @@ mod ending;
 mod error;
 mod finish;
 mod heads;
+mod laws;
 mod left;
 mod limits;
 mod nets;
@@ -15,4 +16,5 @@ mod search;
 
 pub use error::DesignError;
 pub use finish::finish_design;
+pub use laws::builders_can_finish;
 pub use left::Left;
