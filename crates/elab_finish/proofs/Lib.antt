@@ -4,5 +4,6 @@ pub mod Orders
 pub mod Registering
 pub mod Finishing
 pub mod Ended
+pub mod Leading
 pub mod Sound
 pub mod Lefts
