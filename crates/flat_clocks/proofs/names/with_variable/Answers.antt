@@ -1,0 +1,9 @@
+use Rattle.std.proofs.lemmas.Result.{IfOk-weaker}
+use Rattle.vlog_syntax.specs.declared.left_side.LeftSide.{out-LeftSide}
+use Rattle.vlog_meaning.specs.Scopes.{names_of}
+use Rattle.vlog_effects.specs.Steps.{name_alone}
+use Rattle.flat_clocks.proofs.Hiding.{named_hidden}
+use Rattle.flat_clocks.proofs.names.with_variable.Goals as goal
+
+pub returns-in-Some : goal.returns-in-Some
+returns-in-Some c = IfOk-weaker c.with_name.result _ _ (λ v h. named_hidden (names_of c.args.variables.now) (names_of v) _ c.in-Some.name.now _ (name_alone (out-LeftSide c.args.left.now)) c.in-Some.ensures c.as_str.ensures h) c.with_name.ensures

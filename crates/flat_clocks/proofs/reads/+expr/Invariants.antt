@@ -1,0 +1,9 @@
+use Rattle.std.proofs.Common.{take}
+use Rattle.std.specs.List.{flat_map}
+use Rattle.elab_proc.specs.Order.{IsFirst}
+use Rattle.flat_clocks.specs.Reads.{expr_reads}
+use Rattle.flat_clocks.specs.Views.{names_in}
+use Rattle.flat_clocks.proofs.reads.+expr.Given as goal
+
+abbrev pub invariant-exprs_read-loop-expr : goal.invariant-exprs_read-loop-expr
+invariant-exprs_read-loop-expr l = IsFirst (flat_map (expr_reads (names_in l.names)) (take l.expr-index l.exprs)) l.found

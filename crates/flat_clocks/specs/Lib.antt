@@ -1,0 +1,4 @@
+pub mod Clocks
+pub mod Reads
+pub mod Refusals
+pub mod Views
