@@ -28,12 +28,15 @@ def bits(first, width):
 
 
 def nets_of(text):
-    """The numbers of the nets that a text names."""
-    first, _, last = text.partition("..")
-    return list(range(int(first), int(last or first) + 1))
+    """The bits at a port: `false` and `true` for the constants, and the numbers of the nets that a text names."""
+    nets = []
+    for word in text.split(","):
+        first, _, last = word.partition("..")
+        nets += {"low": ["false"], "high": ["true"]}.get(word) or range(int(first), int(last or first) + 1)
+    return nets
 
 
-PORTS = {"not": "AY", "ror": "AY", "and": "ABY", "add": "ABY", "eq": "ABY", "mux": "SABY"}
+PORTS = {"not": "AY", "ror": "AY", "and": "ABY", "add": "ABY", "eq": "ABY", "lt": "ABY", "land": "ABY", "shl": "ABY", "mux": "SABY"}
 
 
 class Netlist:
@@ -204,6 +207,43 @@ def a_choice():
     return n
 
 
+def seen(netlist, *outputs):
+    """The netlist with these outputs."""
+    for nets in outputs:
+        netlist.output(nets)
+    return netlist
+
+
+def two_gates():
+    """An and gate, and a not that reads it; both are seen."""
+    n = the_and_gate()
+    n.cell("not", [("2", 1)], 1)
+    return seen(n, "2", "3")
+
+
+def with_constants():
+    """A sum with constants at its inputs, and a shift of it by two bits."""
+    n = Netlist()
+    a, b = n.input(2), n.input(1)
+    total = n.cell("add", [(a, 2), (f"{b},high", 2)], 2)
+    return seen(n, n.cell("shl", [(total, 2), ("low,1", 2)], 2))
+
+
+def one_behind_another():
+    """A register that reads another one, and the order of what they hold."""
+    n = Netlist()
+    first = n.register(2, n.input(2))
+    second = n.register(2, first)
+    return seen(n, second, n.cell("lt", [(first, 2), (second, 2)], 1))
+
+
+def logical():
+    """Whether two numbers are both other than 0, and whether they are equal."""
+    n = Netlist()
+    a, b = n.input(2), n.input(2)
+    return seen(n, n.cell("land", [(a, 2), (b, 2)], 1), n.cell("eq", [(a, 2), (b, 2)], 1))
+
+
 def on_lines(*lines):
     """For each file and line a register, of so many bits."""
     n = Netlist()
@@ -266,6 +306,14 @@ CASES = [
     ("mutants of a choice", a_choice(), "mutants", ALL),
     ("mutants of a counter", a_counter(), "mutants", ALL),
     ("mutants of a register of its own Q", with_registers(), "mutants", "inv cnot1"),
+    ("mutants of an and gate", seen(the_and_gate(), "2"), "mutants", ALL),
+    ("mutants of a not of two bits", seen(of_two_bits(), "2..3"), "mutants", ALL),
+    ("mutants of an adder of two bits", seen(the_adder(2), "4..5"), "mutants", ALL),
+    ("mutants of two gates, both of which are seen", two_gates(), "mutants", ALL),
+    ("mutants of cells with constants", with_constants(), "mutants", ALL),
+    ("mutants of a register of its own Q and of a reduction", seen(with_registers(), "2..4", "5"), "mutants", ALL),
+    ("mutants of a register behind a register", one_behind_another(), "mutants", ALL),
+    ("mutants of two logical values", logical(), "mutants", ALL),
 ]
 
 
