@@ -1,6 +1,7 @@
 //! The reading of a tag script.
-ghost use Rattle.std.specs.Prelude.{◌≡◌};
+ghost use Rattle.std.specs.Prelude.{◌≡◌, IfOk, length, true};
 ghost use Rattle.tag_script.specs.Checks.{Reads, project_of};
+ghost use Rattle.tag_script.specs.Fits.{script_fits};
 ghost use Rattle.tag_script.specs.Reading.{first_too_many, nothing_known, script_by, script_in, script_of};
 
 use crate::block::block_in;
@@ -59,7 +60,7 @@ fn read_rows(scope: &Scope<'_>, rows: &[Row]) -> Result<Script, ScriptError>
 
 /// Reads a tag script, whose tests and tags are those of the project.
 ///
-/// It refuses the first bad line. Of two faults of one line the one counts that `ScriptError` has first. Where a name stands twice
+/// It refuses the first bad line, so that a script that was read names only these tests and tags. Of two faults of one line the one counts that `ScriptError` has first. Where a name stands twice
 /// among the tests or the tags, the script means the first.
 #[tactic(auto, unfolding(crate::specs::Reading::script_of))]
 pub fn read_script(
@@ -68,7 +69,8 @@ pub fn read_script(
     tests: &TextList,
     tags: &TextList,
 ) -> Result<Script, ScriptError>
-    ensures { Reads result (script_of tests.now tags.now lines.now) }
+    ensures reads { Reads result (script_of tests.now tags.now lines.now) }
+    ensures fits { IfOk result (λ script. script_fits (length tests.now) (length tags.now) script ≡ true) }
 {
     let rows = rows(alloc, lines.as_slice())?;
     let scope = Scope {
