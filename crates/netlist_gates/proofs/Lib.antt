@@ -1,0 +1,6 @@
+pub mod Shaped
+pub mod Laying
+pub mod Within
+pub mod Solving
+mod Ahead
+mod Ordered
