@@ -166,7 +166,7 @@ one-few lits = by (has_one lits) refl where
   by true is = rw is (omega arith, omega arith)
   by false is = rw is (omega arith, omega (arith, open-few lits))
 
-pub is-miter : (gates : Gates) (lits : List GateLit) → gates.free ≤ 2048 → length gates.made ≤ 2 ^ 20 → length lits ≤ 2 ^ 20 → AreOrdered gates.free gates.made → All (IsLit (count gates)) lits → IsMiter (miter_clauses gates lits) (count gates) gates.free
+pub is-miter : (gates : Gates) (lits : List GateLit) → gates.free ≤ 2048 → length gates.made ≤ 1310720 → length lits ≤ 2 ^ 21 → AreOrdered gates.free gates.made → All (IsLit (count gates)) lits → IsMiter (miter_clauses gates lits) (count gates) gates.free
 is-miter gates lits few-free few-gates few-lits ordered over =
     let few = clauses-few (suc gates.free) gates.made in
     let last = one-few lits in

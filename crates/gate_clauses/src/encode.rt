@@ -16,8 +16,8 @@ use std::alloc::{AllocError, Global};
 /// The clauses of the gates, and that one of the literals is true: they have a model exactly where the gates can have values in
 /// which one of the literals is true.
 pub fn miter(alloc: Global, gates: &GateList, literals: &[GateLit]) -> Result<Miter, AllocError>
-    requires few_gates { length gates.now.made ≤ 2 ^ 20 }
-    requires few_literals { length literals.now ≤ 2 ^ 20 }
+    requires few_gates { length gates.now.made ≤ 1310720 }
+    requires few_literals { length literals.now ≤ 2 ^ 21 }
     requires over { All (IsLit (count gates.now)) literals.now }
     ensures clauses { IfOk result (λ m. m.store ≡ miter_clauses gates.now literals.now) }
     ensures variables { IfOk result (λ m. m.variables ≡ count gates.now) }
@@ -37,7 +37,7 @@ pub fn miter(alloc: Global, gates: &GateList, literals: &[GateLit]) -> Result<Mi
 /// The clauses of all gates.
 fn push_gates(store: &mut ClauseStore, gates: &GateList) -> Result<(), AllocError>
     requires empty { store.old ≡ [] }
-    requires few { length gates.now.made ≤ 2 ^ 20 }
+    requires few { length gates.now.made ≤ 1310720 }
     ensures { OnOk result (store.new ≡ clauses_from (suc gates.now.free) gates.now.made) }
 {
     let first = gates.free() + 1;
@@ -164,7 +164,7 @@ fn negation(literal: Lit) -> Lit
 fn push_one(alloc: Global, store: &mut ClauseStore, literals: &[GateLit]) -> Result<(), AllocError>
     requires number { length store.old < 2 ^ 23 }
     requires room { sum_by length store.old < 2 ^ 24 }
-    requires few { length literals.now ≤ 2 ^ 20 }
+    requires few { length literals.now ≤ 2 ^ 21 }
     ensures { OnOk result (store.new ≡ store.old ++ one_true literals.now) }
 {
     if is_one_true(literals) {
