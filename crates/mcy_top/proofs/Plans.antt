@@ -6,10 +6,10 @@ use Rattle.thin_source.specs.declared.thin.ThinModule.{ThinModule}
 use Rattle.mutation_sites.specs.declared.site.Site.{Site}
 use Rattle.mcy_top.specs.declared.prepared.Prepared.{Prepared}
 use Rattle.thin_source.specs.ThinNetlists.{netlist_of}
-use Rattle.step_trials.specs.Inputs.{input_bits}
+use Rattle.step_trials.specs.Inputs.{free_list}
 use Rattle.step_trials.specs.Equal.{OneStepEqual, design, mutant}
 use Rattle.mcy_top.specs.Rows.{IsTrueWord, IsTrueWordAt}
-use Rattle.mcy_top.proofs.ThinSites.{length-input_bits, few-sites, placed-sites}
+use Rattle.mcy_top.proofs.ThinSites.{length-free_list, few-sites, placed-sites}
 use Rattle.std.specs.List.{All}
 use Rattle.netlist_core.specs.declared.raw.RawNetlist.{RawNetlist}
 use Rattle.result_book.specs.declared.campaign.Campaign.{Campaign}
@@ -26,11 +26,8 @@ use Rattle.project_file.specs.declared.project.TestPlan.{TestPlan}
 use Rattle.mcy_top.specs.Projects.{TestsSame}
 use Rattle.mcy_top.specs.Campaigns.{campaign_of, meta_of, names_of, IsPlan}
 
-pub plan_small : (c : Prepared) → IsPlan c → length (input_bits c.netlist) ≤ 8
-plan_small c plan = subst (λ (netlist : RawNetlist). length (input_bits netlist) ≤ 8) (sym plan.made.netlist) (omega (arith, length-input_bits plan.made.parsed, plan.made.few))
-
-pub plan_registers : (c : Prepared) → IsPlan c → c.netlist.registers ≡ []
-plan_registers c plan = ap (λ (netlist : RawNetlist). netlist.registers) plan.made.netlist
+pub plan_small : (c : Prepared) → IsPlan c → length (free_list c.netlist) ≤ 8
+plan_small c plan = subst (λ (netlist : RawNetlist). length (free_list netlist) ≤ 8) (sym plan.made.netlist) (omega (arith, length-free_list plan.made.parsed, plan.made.few))
 
 -- it has few cells and bits
 pub plan_nets : (c : Prepared) → IsPlan c → (length c.netlist.cells ≤ 3) × (net_bits c.netlist ≤ 14)

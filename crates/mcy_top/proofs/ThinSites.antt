@@ -1,7 +1,7 @@
 -- How many input bits and sites the netlist of a module in the thin form has.
 use Rattle.std.proofs.Common.{◌≡◌, ℕ, suc, ◌+◌, ◌*◌, ◌≤◌, ◌<◌, List, [], ◌∷◌, ◌++◌, map, length, get_or, slice_get, Option, Some, refl, ap, ◌∙◌, arith}
 use Rattle.std.specs.List.{All}
-use Rattle.std.proofs.lemmas.List.{length-append, length-map}
+use Rattle.std.proofs.lemmas.List.{length-append, length-map, append-nil}
 use Rattle.std.proofs.lemmas.List.Elements.{All-nil, All-append, All-map}
 use Rattle.netlist_core.specs.declared.bit.Bit.{Bit}
 use Rattle.netlist_core.specs.declared.bit.Bit.TheVariants.{Net}
@@ -21,16 +21,16 @@ use Rattle.thin_source.specs.declared.thin.Item.{Item}
 use Rattle.thin_source.specs.declared.thin.ThinModule.{ThinModule}
 use Rattle.thin_source.specs.ThinModules.{input_names, IsThin}
 use Rattle.thin_source.specs.ThinNetlists.{port_of, net_of, cell_of, cells_of, netlist_of}
-use Rattle.step_trials.specs.Inputs.{joined, input_bits}
+use Rattle.step_trials.specs.Inputs.{joined, free_list}
 use Rattle.mcy_top.proofs.Chosen.{length-filter}
 
 length-joined : (m : ThinModule) (names : List (List ℕ)) → length (joined (bits_at (map (port_of m) names))) ≡ length names
 length-joined m [] = refl
 length-joined m (name ∷ more) = ap suc (length-joined m more)
 
--- one bit for each input
-pub length-input_bits : (m : ThinModule) → length (input_bits (netlist_of m)) ≡ length (input_names m.ports)
-length-input_bits m = length-joined m (input_names m.ports)
+-- one free bit for each input
+pub length-free_list : (m : ThinModule) → length (free_list (netlist_of m)) ≡ length (input_names m.ports)
+length-free_list m = ap length (append-nil (joined (bits_at (map (port_of m) (input_names m.ports))))) ∙ length-joined m (input_names m.ports)
 
 -- at a port of one bit there are at most five sites
 few-at_port : (set : ModeSet) (place : Place) (p : ℕ) (bit : Bit) → length (port_sites set place p (bit ∷ [])) ≤ 5

@@ -215,4 +215,4 @@ outputs-alike netlist site fresh state (first ∷ later) (nets ∷ more) run =
     cc
 
 pub runs-alike : (netlist : RawNetlist) (site : Site) (fresh : ℕ) → RunsAlike netlist (mutant_of netlist site fresh) site
-runs-alike netlist site fresh = record { runs = runs-by netlist site fresh; outputs = outputs-alike netlist site fresh }
+runs-alike netlist site fresh = record { runs = runs-by netlist site fresh; outputs = outputs-alike netlist site fresh; next = λ inputs state nets h. taken-at netlist site fresh nets inputs state h }

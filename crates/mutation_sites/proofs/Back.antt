@@ -227,4 +227,5 @@ has-each-run plan sound site fresh none =
       unused = none;
       runs = runs-back plan.raw site fresh unused;
       outputs = outputs-back plan.raw site fresh unused;
+      next = λ nets. taken-back plan.raw site fresh nets unused;
     }

@@ -1,4 +1,4 @@
--- A mutant has the netlist's kinds of cells, and at most one cell more, the last.
+-- A mutant has the netlist's Q's and kinds of cells, and at most one cell more, the last.
 use Rattle.std.proofs.Common.{◌≡◌, ℕ, ◌+◌, ◌≤◌, List, [], ◌∷◌, ◌++◌, map, take, length, refl, ap, arith}
 use Rattle.mcy_base.specs.declared.span.Span.{Span}
 use Rattle.netlist_core.specs.declared.bit.Bit.{Bit}
@@ -10,6 +10,7 @@ use Rattle.mutation_sites.specs.declared.mode.Mode.TheVariants.{Inv, Const0, Con
 use Rattle.mutation_sites.specs.declared.site.Site.{Site}
 use Rattle.mutation_sites.specs.declared.readers.Readers.{Readers}
 use Rattle.mutation_sites.specs.Mutants.{readers_at, port_at, HasOneMore}
+use Rattle.mutation_sites.proofs.Alike.{q-same}
 use Rattle.mutation_sites.specs.Wiring.{cells_connected, new_bit, new_cells, bit_of, control_of, span_at, mutant_of}
 
 kinds-first : (readers : Readers) (new : Bit) (c : ℕ) (cells extra : List Gate) → take (length cells) (map (λ (cell : Gate). cell.kind) (cells_connected readers new c cells ++ extra)) ≡ map (λ (cell : Gate). cell.kind) cells
@@ -37,6 +38,7 @@ has-one-more netlist site fresh =
     let span = span_at netlist site.place in
     record {
       inputs = refl;
+      registers = q-same readers new 0 netlist.registers;
       count = omega (arith, length-cells readers new 0 netlist.cells (new_cells site.mode bit control fresh span), new-few site.mode bit control fresh span);
       kinds = kinds-first readers new 0 netlist.cells (new_cells site.mode bit control fresh span);
     }

@@ -5,7 +5,7 @@ use Rattle.netlist_core.specs.declared.bit.Bit.TheVariants.{Fixed, Net}
 use Rattle.netlist_core.specs.declared.cell.Cell.{Cell as Gate}
 use Rattle.netlist_core.specs.declared.port.Register.{Register as Flop}
 use Rattle.netlist_core.specs.declared.raw.RawNetlist.{RawNetlist}
-use Rattle.netlist_core.specs.Runs.{Nets, Reader, Port, Next, Sight, values, IsRun, IsRunBy, plain, outputs_by}
+use Rattle.netlist_core.specs.Runs.{Nets, Reader, Port, Next, Sight, values, q_bits, Holds, taken, IsRun, IsRunBy, plain, outputs_by}
 use Rattle.netlist_core.specs.Settled.{with_net}
 use Rattle.netlist_core.specs.Drivers.{drivers}
 use Rattle.netlist_core.specs.Orders.{ports_of}
@@ -85,25 +85,29 @@ mutated_value netlist site nets = mutated_at site.mode site.bit (values nets (po
 abbrev pub sight_at : RawNetlist → Site → Nets → Sight
 sight_at netlist site nets reader bits = seen (change_of (readers_at netlist site.place site.port site.bit) reader) (mutated_value netlist site nets) nets bits
 
--- Each run of a mutant has the values of a run of the netlist with the equation at the site replaced, and shows the same.
+-- Each run of a mutant has the values of a run of the netlist with the equation at the site replaced, and shows the same; in each
+-- cycle the registers take the same.
 pub record RunsAlike (netlist mutant : RawNetlist) (site : Site) : Type 0 where
   pub runs : (state : List ℕ) (inputs : List (List ℕ)) (cycles : List Nets) → IsRun mutant state inputs cycles → IsRunBy (sight_at netlist site) netlist state inputs cycles
   pub outputs : (state : List ℕ) (inputs : List (List ℕ)) (cycles : List Nets) → IsRun mutant state inputs cycles → outputs_by plain mutant cycles ≡ outputs_by (sight_at netlist site) netlist cycles
+  pub next : (inputs state : List ℕ) (nets : Nets) → Holds (plain nets) nets mutant inputs state → taken (plain nets) 0 mutant.registers ≡ taken (sight_at netlist site nets) 0 netlist.registers
 
 -- the values of a cycle, with the mutated bit at a net that is new
 abbrev pub with_mutated : RawNetlist → Site → ℕ → Nets → Nets
 with_mutated netlist site fresh nets = with_net nets fresh (mutated_value netlist site nets)
 
 -- Each run of the netlist with the equation at the site replaced is one of the mutant, with a value for the new net, and shows the
--- same.
+-- same; in each cycle the registers take the same.
 pub record HasEachRun (netlist mutant : RawNetlist) (site : Site) : Type 0 where
   pub fresh : ℕ
   pub unused : drivers netlist fresh ≡ 0
   pub runs : (state : List ℕ) (inputs : List (List ℕ)) (cycles : List Nets) → IsRunBy (sight_at netlist site) netlist state inputs cycles → IsRun mutant state inputs (map (with_mutated netlist site fresh) cycles)
   pub outputs : (cycles : List Nets) → outputs_by plain mutant (map (with_mutated netlist site fresh) cycles) ≡ outputs_by (sight_at netlist site) netlist cycles
+  pub next : (nets : Nets) → taken (plain (with_mutated netlist site fresh nets)) 0 mutant.registers ≡ taken (sight_at netlist site nets) 0 netlist.registers
 
--- The mutant has the netlist's inputs and kinds of cells, and at most one cell more, the last.
+-- The mutant has the netlist's inputs, registers with the same Q's, and kinds of cells, and at most one cell more, the last.
 pub record HasOneMore (netlist mutant : RawNetlist) : Type 0 where
   pub inputs : mutant.inputs ≡ netlist.inputs
+  pub registers : q_bits mutant.registers ≡ q_bits netlist.registers
   pub count : length mutant.cells ≤ length netlist.cells + 1
   pub kinds : take (length netlist.cells) (map (λ (cell : Gate). cell.kind) mutant.cells) ≡ map (λ (cell : Gate). cell.kind) netlist.cells

@@ -7,7 +7,8 @@ use Rattle.std.proofs.lemmas.Option.{slice_get-get_or}
 use Rattle.netlist_core.specs.declared.bit.Bit.{Bit}
 use Rattle.netlist_core.specs.declared.cell.Cell.{Cell}
 use Rattle.netlist_core.specs.declared.port.Port.{Port}
-use Rattle.netlist_core.specs.Runs.{bits_at}
+use Rattle.netlist_core.specs.declared.port.Register.{Register}
+use Rattle.netlist_core.specs.Runs.{bits_at, d_bits}
 use Rattle.netlist_core.specs.declared.shape.Shape.{Shape}
 use Rattle.netlist_core.specs.declared.shape.Shape.TheVariants.{Unary, Binary, Relation, Shift, Reduction, Logical, Choice, Selection, Insertion}
 use Rattle.netlist_core.specs.Shapes.{shape_of, HasWidths, HasShape}
@@ -104,6 +105,11 @@ pub wide-bits : (ports : List Port) (i : ℕ) (d : Port) → AllWide (bits_at po
 wide-bits [] i d all h = absurd (omega (arith, h))
 wide-bits (port ∷ more) zero d all h = (all.0, all.1)
 wide-bits (port ∷ more) (suc i) d all h = wide-bits more i d all.2 (omega (arith, h))
+
+pub wide-next : (registers : List Register) (i : ℕ) (d : Register) → AllWide (d_bits registers) → i < length registers → (1 ≤ length (get_or registers i d).d) × (length (get_or registers i d).d ≤ 128)
+wide-next [] i d all h = absurd (omega (arith, h))
+wide-next (r ∷ more) zero d all h = (all.0, all.1)
+wide-next (r ∷ more) (suc i) d all h = wide-next more i d all.2 (omega (arith, h))
 
 pub cell-found : (cells read : List Cell) (i : ℕ) (cell : Cell) → read ≡ cells → i < length cells → cell ≡ get_or read i cell → slice_get cells i ≡ Some cell
 cell-found cells read i cell same h is = cell-there cells i cell h (is ∙ ap (λ (list : List Cell). get_or list i cell) same)

@@ -1,18 +1,18 @@
--- The bits of all inputs together.
+-- The free bits of a netlist, laid and read as a number.
 use Rattle.std.proofs.Common.{suc, ◌≡◌, ℕ, ◌+◌, ◌*◌, ◌/◌, ◌%◌, ◌<◌, ◌^◌, Bool, List, [], ◌∷◌, ◌++◌, length, nat_eq, refl, sym, ◌∙◌, ap, subst, arith}
 use Rattle.std.proofs.Math.Nat.{mod-lt, mod-eq_of_lt, div-eq_of_lt, div-div-eq-div-mul, add-mul-mod_self_left, add-mul-div_left, pow-succ'}
 use Rattle.std.proofs.lemmas.Nat.{mod-pow-add, pow_pos}
-use Rattle.std.proofs.lemmas.List.{map-append}
+use Rattle.std.proofs.lemmas.List.{map-append, append-nil, append_assoc}
 use Rattle.netlist_core.specs.declared.bit.Bit.{Bit}
 use Rattle.netlist_core.specs.declared.bit.Bit.TheVariants.{Fixed, Net}
 use Rattle.netlist_core.specs.declared.raw.RawNetlist.{RawNetlist}
 use Rattle.netlist_core.specs.Numbers.{number}
-use Rattle.netlist_core.specs.Runs.{Nets, bit_value, values, port_numbers}
+use Rattle.netlist_core.specs.Runs.{Nets, bit_value, values, bits_at, q_bits, port_numbers}
 use Rattle.netlist_core.specs.Settled.{with_net, laid, laid_all}
 use Rattle.netlist_core.specs.Solutions.{FitPorts}
 use Rattle.netlist_core.proofs.Settles.{length-values, number-fits}
 use Rattle.cell_meaning.proofs.Parts.{number-append}
-use Rattle.step_trials.specs.Inputs.{joined, input_bits, parts}
+use Rattle.step_trials.specs.Inputs.{joined, free_list, parts, inputs_of, state_of}
 
 -- Laying a number.
 
@@ -49,16 +49,12 @@ laid-append nets (Net n ∷ xs) ys v =
     laid-append start xs ys (v / 2) ∙ ap (laid (laid start xs (v / 2)) ys) (half-again v (length xs))
 
 -- a number that is laid over all ports is laid over each in its part
-pub laid-parts : (nets : Nets) (ports : List (List Bit)) (v : ℕ) → laid nets (joined ports) v ≡ laid_all nets ports (parts ports v)
+laid-parts : (nets : Nets) (ports : List (List Bit)) (v : ℕ) → laid nets (joined ports) v ≡ laid_all nets ports (parts ports v)
 laid-parts nets [] v = refl
 laid-parts nets (bits ∷ more) v =
     laid-append nets bits (joined more) v
     ∙ laid-parts (laid nets bits v) more (v / 2 ^ length bits)
     ∙ ap (λ (start : Nets). laid_all start more (parts more (v / 2 ^ length bits))) (sym (laid-low nets bits v))
-
-pub laid_all-none : (nets : Nets) (ports : List (List Bit)) → laid_all nets ports [] ≡ nets
-laid_all-none nets [] = refl
-laid_all-none nets (bits ∷ more) = refl
 
 pub parts-fit : (ports : List (List Bit)) (v : ℕ) → FitPorts ports (parts ports v)
 parts-fit [] v = tt
@@ -72,16 +68,45 @@ number-low xs ys = ap (λ (n : ℕ). n % 2 ^ length xs) (number-append xs ys) �
 number-high : (xs ys : List Bool) → number (xs ++ ys) / 2 ^ length xs ≡ number ys
 number-high xs ys = ap (λ (n : ℕ). n / 2 ^ length xs) (number-append xs ys) ∙ add-mul-div_left (number xs) (number ys) (pow_pos (length xs)) ∙ ap (λ (n : ℕ). n + number ys) (div-eq_of_lt (number-fits xs)) ∙ (let whole : 0 + number ys ≡ number ys = omega arith in whole)
 
-pub parts-values : (nets : Nets) (ports : List (List Bit)) → parts ports (number (values nets (joined ports))) ≡ port_numbers nets ports
-parts-values nets [] = refl
-parts-values nets (bits ∷ more) =
-    let whole : values nets (bits ++ joined more) ≡ values nets bits ++ values nets (joined more) = map-append (bit_value nets) bits (joined more) in
+parts-values-first : (nets : Nets) (ports : List (List Bit)) (behind : List Bit) → parts ports (number (values nets (joined ports ++ behind))) ≡ port_numbers nets ports
+parts-values-first nets [] behind = refl
+parts-values-first nets (bits ∷ more) behind =
+    let later : List Bit = joined more ++ behind in
+    let whole : values nets ((bits ++ joined more) ++ behind) ≡ values nets bits ++ values nets later = ap (values nets) (append_assoc bits (joined more) behind) ∙ map-append (bit_value nets) bits later in
     let wide : length (values nets bits) ≡ length bits = length-values nets bits in
-    let low : number (values nets (bits ++ joined more)) % 2 ^ length bits ≡ number (values nets bits) = rw (whole, ← wide) (number-low (values nets bits) (values nets (joined more))) in
-    let high : number (values nets (bits ++ joined more)) / 2 ^ length bits ≡ number (values nets (joined more)) = rw (whole, ← wide) (number-high (values nets bits) (values nets (joined more))) in
-    let rest : parts more (number (values nets (joined more))) ≡ port_numbers nets more = parts-values nets more in
+    let low : number (values nets ((bits ++ joined more) ++ behind)) % 2 ^ length bits ≡ number (values nets bits) = rw (whole, ← wide) (number-low (values nets bits) (values nets later)) in
+    let high : number (values nets ((bits ++ joined more) ++ behind)) / 2 ^ length bits ≡ number (values nets later) = rw (whole, ← wide) (number-high (values nets bits) (values nets later)) in
+    let rest : parts more (number (values nets later)) ≡ port_numbers nets more = parts-values-first nets more behind in
     rw (low, high, rest) refl
 
+parts-values : (nets : Nets) (ports : List (List Bit)) → parts ports (number (values nets (joined ports))) ≡ port_numbers nets ports
+parts-values nets ports = subst (λ (bits : List Bit). parts ports (number (values nets bits)) ≡ port_numbers nets ports) (append-nil (joined ports)) (parts-values-first nets ports [])
+
+-- The free bits.
+
+-- the number of the free bits: what stands at the inputs,
+pub inputs-values : (netlist : RawNetlist) (nets : Nets) → inputs_of netlist (number (values nets (free_list netlist))) ≡ port_numbers nets (bits_at netlist.inputs)
+inputs-values netlist nets = parts-values-first nets (bits_at netlist.inputs) (joined (q_bits netlist.registers))
+
+-- and what stands in the registers
+pub state-values : (netlist : RawNetlist) (nets : Nets) → state_of netlist (number (values nets (free_list netlist))) ≡ port_numbers nets (q_bits netlist.registers)
+state-values netlist nets =
+    let ins : List Bit = joined (bits_at netlist.inputs) in
+    let qs : List Bit = joined (q_bits netlist.registers) in
+    let whole : values nets (ins ++ qs) ≡ values nets ins ++ values nets qs = map-append (bit_value nets) ins qs in
+    let wide : length (values nets ins) ≡ length ins = length-values nets ins in
+    let high : number (values nets (ins ++ qs)) / 2 ^ length ins ≡ number (values nets qs) = rw (whole, ← wide) (number-high (values nets ins) (values nets qs)) in
+    ap (parts (q_bits netlist.registers)) high ∙ parts-values nets (q_bits netlist.registers)
+
 -- it is one of those that are tried
-pub inputs-tried : (netlist : RawNetlist) (nets : Nets) → number (values nets (input_bits netlist)) < 2 ^ length (input_bits netlist)
-inputs-tried netlist nets = subst (λ (n : ℕ). number (values nets (input_bits netlist)) < 2 ^ n) (length-values nets (input_bits netlist)) (number-fits (values nets (input_bits netlist)))
+pub free-tried : (netlist : RawNetlist) (nets : Nets) → number (values nets (free_list netlist)) < 2 ^ length (free_list netlist)
+free-tried netlist nets = subst (λ (n : ℕ). number (values nets (free_list netlist)) < 2 ^ n) (length-values nets (free_list netlist)) (number-fits (values nets (free_list netlist)))
+
+-- a number that is laid over the free bits is laid over the inputs and the registers
+pub laid-free : (netlist : RawNetlist) (nets : Nets) (n : ℕ) → laid nets (free_list netlist) n ≡ laid_all (laid_all nets (bits_at netlist.inputs) (inputs_of netlist n)) (q_bits netlist.registers) (state_of netlist n)
+laid-free netlist nets n =
+    let ins : List (List Bit) = bits_at netlist.inputs in
+    let qs : List (List Bit) = q_bits netlist.registers in
+    laid-append nets (joined ins) (joined qs) n
+    ∙ laid-parts (laid nets (joined ins) n) qs (n / 2 ^ length (joined ins))
+    ∙ ap (λ (start : Nets). laid_all start qs (state_of netlist n)) (laid-parts nets ins n)

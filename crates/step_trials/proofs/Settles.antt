@@ -1,36 +1,47 @@
 -- The nets of a cycle, laid and computed in the order of the cells.
-use Rattle.std.proofs.Common.{◌≡◌, ℕ, List, [], sym, ◌∙◌, ap, subst}
-use Rattle.netlist_core.specs.declared.raw.RawNetlist.{RawNetlist}
+use Rattle.std.proofs.Common.{◌≡◌, ℕ, ◌+◌, ◌≤◌, List, [], ◌∷◌, length, refl, sym, ap, subst, arith}
 use Rattle.netlist_core.specs.declared.port.Register.{Register}
-use Rattle.netlist_core.specs.Runs.{Nets, plain, bits_at, q_bits, Holds, shown}
-use Rattle.netlist_core.specs.Checked.{Plan, IsSound}
-use Rattle.netlist_core.specs.Settled.{laid, laid_all, after_order}
-use Rattle.netlist_core.specs.Solutions.{FitPorts, FitsRegisters, settled, OrderSettles, OneAnswerBySight}
+use Rattle.netlist_core.specs.Numbers.{number}
+use Rattle.netlist_core.specs.Runs.{Nets, values, plain, bits_at, q_bits, d_bits, port_numbers, taken}
+use Rattle.netlist_core.specs.Checked.{AllWide, AllRegistersFit, Plan, IsSound}
+use Rattle.netlist_core.specs.Settled.{laid, after_order}
+use Rattle.netlist_core.specs.Solutions.{settled, OrderSettles, OneAnswerBySight}
 use Rattle.netlist_core.proofs.Settles.{plain-causal}
 use Rattle.step_trials.specs.Equal.{design}
-use Rattle.step_trials.specs.Inputs.{input_bits, input_parts}
-use Rattle.step_trials.specs.Trials.{ShowsAt}
-use Rattle.step_trials.proofs.InputLemmas.{laid-parts, laid_all-none, parts-fit}
+use Rattle.step_trials.specs.Inputs.{free_list, inputs_of, state_of}
+use Rattle.step_trials.specs.Trials.{HoldsAt, given, GivesAt}
+use Rattle.step_trials.proofs.InputLemmas.{laid-free, parts-fit}
 
--- the nets once a number is laid over all inputs, and the cells are computed
+-- what registers take is what stands at their D's
+pub taken-plain : (nets : Nets) (k : ℕ) (registers : List Register) → port_numbers nets (d_bits registers) ≡ taken (plain nets) k registers
+taken-plain nets k [] = refl
+taken-plain nets k (r ∷ more) = ap (λ (rest : List ℕ). number (values nets r.d) ∷ rest) (taken-plain nets (k + 1) more)
+
+-- a D has the width of a word
+pub d-wide : (registers : List Register) → AllRegistersFit registers → AllWide (d_bits registers)
+d-wide [] fit = tt
+d-wide (r ∷ more) fit =
+    let same : length r.d ≡ r.start.width = fit.0 in
+    let some : 1 ≤ r.start.width = r.start.some in
+    let narrow : r.start.width ≤ 128 = r.start.narrow in
+    (omega (arith, same, some), omega (arith, same, narrow), d-wide more fit.2)
+
+-- the nets once a number is laid over the free bits, and the cells are computed
 abbrev pub computed : Plan → Nets → ℕ → Nets
-computed plan start n = after_order plain plan.raw.cells plan.order (laid start (input_bits plan.raw) n)
+computed plan start n = after_order plain plan.raw.cells plan.order (laid start (free_list plan.raw) n)
 
-computed-settled : (plan : Plan) (start : Nets) (n : ℕ) → settled plain plan.raw plan.order start (input_parts plan.raw n) [] ≡ computed plan start n
-computed-settled plan start n =
-    let whole : laid_all (laid_all start (bits_at plan.raw.inputs) (input_parts plan.raw n)) (q_bits plan.raw.registers) [] ≡ laid start (input_bits plan.raw) n =
-    laid_all-none (laid_all start (bits_at plan.raw.inputs) (input_parts plan.raw n)) (q_bits plan.raw.registers) ∙ sym (laid-parts start (bits_at plan.raw.inputs) n) in
-    ap (after_order plain plan.raw.cells plan.order) whole
+computed-settled : (plan : Plan) (start : Nets) (n : ℕ) → settled plain plan.raw plan.order start (inputs_of plan.raw n) (state_of plan.raw n) ≡ computed plan start n
+computed-settled plan start n = ap (after_order plain plan.raw.cells plan.order) (sym (laid-free plan.raw start n))
 
-pub fits-none : (netlist : RawNetlist) → netlist.registers ≡ [] → FitsRegisters netlist []
-fits-none netlist none = subst (λ (registers : List Register). FitPorts (q_bits registers) []) (sym none) tt
-
-module _ (settles : OrderSettles) (answers : OneAnswerBySight) (plan : Plan) (sound : IsSound plan) (none : plan.raw.registers ≡ []) where
+module _ (settles : OrderSettles) (answers : OneAnswerBySight) (plan : Plan) (sound : IsSound plan) where
   -- what was computed is a solution
-  pub computed-holds : (start : Nets) (n : ℕ) → Holds (plain (computed plan start n)) (computed plan start n) plan.raw (input_parts plan.raw n) []
+  pub computed-holds : (start : Nets) (n : ℕ) → HoldsAt (design plan.raw) n (computed plan start n)
   computed-holds start n =
-      subst (λ (s : Nets). Holds (plain s) s plan.raw (input_parts plan.raw n) []) (computed-settled plan start n) (settles plan plain sound (plain-causal plan.raw) start (input_parts plan.raw n) [] (parts-fit (bits_at plan.raw.inputs) n) (fits-none plan.raw none))
+      subst (λ (s : Nets). HoldsAt (design plan.raw) n s) (computed-settled plan start n)
+      (settles plan plain sound (plain-causal plan.raw) start (inputs_of plan.raw n) (state_of plan.raw n) (parts-fit (bits_at plan.raw.inputs) n) (parts-fit (q_bits plan.raw.registers) _))
 
-  -- and shows what all solutions show
-  pub computed-shows : (start : Nets) (n : ℕ) → ShowsAt (design plan.raw) n (shown (plain (computed plan start n)) plan.raw)
-  computed-shows start n x in_x = (answers plan plain sound (plain-causal plan.raw) (input_parts plan.raw n) [] x (computed plan start n) in_x (computed-holds start n)).0
+  -- and gives what all solutions give
+  pub computed-gives : (start : Nets) (n : ℕ) → GivesAt (design plan.raw) n (given (design plan.raw) (computed plan start n))
+  computed-gives start n x in_x =
+      let both = answers plan plain sound (plain-causal plan.raw) (inputs_of plan.raw n) (state_of plan.raw n) x (computed plan start n) in_x (computed-holds start n) in
+      rw (both.0, both.1) refl

@@ -6,8 +6,9 @@ use Rattle.std.proofs.Math.Nat.{pow-le-pow_right}
 use Rattle.netlist_core.specs.declared.bit.Bit.{Bit}
 use Rattle.netlist_core.specs.declared.bit.Bit.TheVariants.{Fixed, Net}
 use Rattle.netlist_core.specs.declared.cell.Cell.{Cell}
+use Rattle.netlist_core.specs.declared.raw.RawNetlist.{RawNetlist}
 use Rattle.netlist_core.specs.Numbers.{digit, number, low_bits}
-use Rattle.netlist_core.specs.Runs.{Nets, bit_value, values, bits_at, output_port, ports_seen, plain}
+use Rattle.netlist_core.specs.Runs.{Nets, bit_value, values, bits_at, q_bits, output_port, ports_seen, plain}
 use Rattle.netlist_core.specs.Drivers.{times, times_at}
 use Rattle.netlist_core.specs.Orders.{ports_of}
 use Rattle.netlist_core.specs.Checked.{Plan, IsSound}
@@ -15,7 +16,7 @@ use Rattle.netlist_core.proofs.Owners.{y-one}
 use Rattle.std.specs.Prelude.{MatchOption, IsSome, None}
 use Rattle.mcy_base.specs.declared.word.Word.{Word}
 use Rattle.mcy_base.specs.Words.{IsWord}
-use Rattle.step_trials.specs.Inputs.{joined, input_bits}
+use Rattle.step_trials.specs.Inputs.{joined, free_list}
 use Rattle.step_trials.specs.Tables.{AllBelow}
 
 -- twice a number of fewer than 128 bits fits 128 bits
@@ -69,8 +70,14 @@ times-joined : (n : ℕ) (ports : List (List Bit)) → times n (joined ports) �
 times-joined n [] = refl
 times-joined n (bits ∷ more) = (let rest = times-joined n more in omega (arith, rest, times-append n bits (joined more)))
 
-pub inputs_below : (plan : Plan) → IsSound plan → AllBelow plan.nets (input_bits plan.raw)
-inputs_below plan sound = AllBelow-nets plan.nets (input_bits plan.raw) (λ n some. sound.below n (omega (arith, some, times-joined n (bits_at plan.raw.inputs))))
+free-times : (n : ℕ) (netlist : RawNetlist) → times n (free_list netlist) ≡ times_at n (bits_at netlist.inputs) + times_at n (q_bits netlist.registers)
+free-times n netlist =
+    let ins : List Bit = joined (bits_at netlist.inputs) in
+    let qs : List Bit = joined (q_bits netlist.registers) in
+    omega (arith, times-append n ins qs, times-joined n (bits_at netlist.inputs), times-joined n (q_bits netlist.registers))
+
+pub free_below : (plan : Plan) → IsSound plan → AllBelow plan.nets (free_list plan.raw)
+free_below plan sound = AllBelow-nets plan.nets (free_list plan.raw) (λ n some. sound.below n (omega (arith, some, free-times n plan.raw)))
 
 -- Words.
 

@@ -1,45 +1,62 @@
--- Trying all inputs decides one-step equality, and one-step equality lasts.
-use Rattle.std.proofs.Common.{◌≡◌, ◌⊎◌, ℕ, ◌+◌, ◌<◌, ◌^◌, List, [], ◌∷◌, ◌++◌, length, get_or, refl, sym, ◌∙◌, ap, subst, inl, inr, arith}
+-- Trying all numbers over the free bits decides one-step equality, and one-step equality lasts.
+use Rattle.std.proofs.Common.{◌≡◌, ◌⊎◌, ℕ, ◌+◌, ◌<◌, ◌^◌, List, [], ◌∷◌, ◌++◌, length, get_or, refl, sym, ◌∙◌, subst, inl, inr, arith}
 use Rattle.std.proofs.lemmas.Bool.{cases_lt}
-use Rattle.std.proofs.lemmas.List.{get_or_append_left, length-append}
+use Rattle.std.proofs.lemmas.List.{get_or_append_left, length-append, length-map}
 use Rattle.std.proofs.Math.Seq.{get_or-append_seam}
 use Rattle.netlist_core.specs.declared.raw.RawNetlist.{RawNetlist}
-use Rattle.netlist_core.specs.declared.port.Register.{Register}
+use Rattle.netlist_core.specs.declared.bit.Bit.{Bit}
 use Rattle.netlist_core.specs.Numbers.{number}
-use Rattle.netlist_core.specs.Runs.{Nets, values, Sight, plain, bits_at, q_bits, port_numbers, Holds, taken, IsRunBy, outputs_by}
+use Rattle.netlist_core.specs.Runs.{Nets, values, Sight, Outputs, plain, bits_at, Holds, shown, taken, IsRunBy, outputs_by}
 use Rattle.netlist_core.specs.Checked.{Plan, IsSound}
 use Rattle.netlist_core.specs.Settled.{all_zero}
 use Rattle.netlist_core.specs.Solutions.{OrderSettles, OneAnswerBySight}
-use Rattle.step_trials.specs.Equal.{Machine, design, OneStepEqual, EqualOnAllRuns}
-use Rattle.step_trials.specs.Inputs.{input_bits, input_parts}
-use Rattle.step_trials.specs.Trials.{EqualAt, ShowsAt, ShowsAll}
-use Rattle.step_trials.proofs.InputLemmas.{inputs-tried, parts-values}
+use Rattle.step_trials.specs.Equal.{Machine, design, StepsAlike, OneStepEqual, EqualOnAllRuns}
+use Rattle.step_trials.specs.Inputs.{free_list, inputs_of, state_of}
+use Rattle.step_trials.specs.Trials.{HoldsAt, given, EqualAt, GivesAt, GivesAll}
+use Rattle.step_trials.proofs.InputLemmas.{free-tried, inputs-values, state-values}
 use Rattle.step_trials.proofs.Settles.{computed, computed-holds}
 
--- what is shown at a number is one
-pub shown-once : OrderSettles → OneAnswerBySight → (plan : Plan) → IsSound plan → plan.raw.registers ≡ [] → (n : ℕ) (list other : List ℕ) → ShowsAt (design plan.raw) n list → ShowsAt (design plan.raw) n other → list ≡ other
-shown-once settles answers plan sound none n list other one two =
+-- what is given at a number is one
+pub given-once : OrderSettles → OneAnswerBySight → (plan : Plan) → IsSound plan → (n : ℕ) (list other : List ℕ) → GivesAt (design plan.raw) n list → GivesAt (design plan.raw) n other → list ≡ other
+given-once settles answers plan sound n list other one two =
     let s : Nets = computed plan all_zero n in
-    let in_s : Holds (plain s) s plan.raw (input_parts plan.raw n) [] = computed-holds settles answers plan sound none all_zero n in
+    let in_s : HoldsAt (design plan.raw) n s = computed-holds settles answers plan sound all_zero n in
     sym (one s in_s) ∙ two s in_s
 
--- equal at each number that is tried, so equal
-pub trials-equal : (netlist : RawNetlist) → netlist.registers ≡ [] → (b : Nets → Sight) → ((n : ℕ) → n < 2 ^ length (input_bits netlist) → EqualAt (design netlist) (record { netlist = netlist; sight = b }) n) → OneStepEqual (design netlist) (record { netlist = netlist; sight = b })
-trials-equal netlist none b all inputs state x y in_x in_y =
-    let n : ℕ = number (values x (input_bits netlist)) in
-    let is : inputs ≡ input_parts netlist n = sym in_x.entered ∙ sym (parts-values x (bits_at netlist.inputs)) in
-    let empty : state ≡ [] = sym in_x.stored ∙ ap (λ (registers : List Register). port_numbers x (q_bits registers)) none in
-    let P : List ℕ → List ℕ → Type 0 = λ ins rs. Holds (plain x) x netlist ins rs in
-    let Q : List ℕ → List ℕ → Type 0 = λ ins rs. Holds (b y) y netlist ins rs in
-    let here : Holds (plain x) x netlist (input_parts netlist n) [] = subst (λ (rs : List ℕ). P (input_parts netlist n) rs) empty (subst (λ (ins : List ℕ). P ins state) is in_x) in
-    let there : Holds (b y) y netlist (input_parts netlist n) [] = subst (λ (rs : List ℕ). Q (input_parts netlist n) rs) empty (subst (λ (ins : List ℕ). Q ins state) is in_y) in
-    record {
-      outputs = all n (inputs-tried netlist x) x y here there;
-      next = subst (λ (registers : List Register). taken (plain x) 0 registers ≡ taken (b y) 0 registers) (sym none) refl;
-    }
+-- two lists of one length, and what stands behind them
+split : (xs ys vs ws : List ℕ) → length xs ≡ length ys → xs ++ vs ≡ ys ++ ws → (xs ≡ ys) × (vs ≡ ws)
+split [] [] vs ws even same = (refl, same)
+split [] (y ∷ ys) vs ws even same = absurd (omega (arith, even))
+split (x ∷ xs) [] vs ws even same = absurd (omega (arith, even))
+split (x ∷ xs) (y ∷ ys) vs ws even same =
+    let first : x ≡ y = cc in
+    let later : xs ++ vs ≡ ys ++ ws = cc in
+    let rest = split xs ys vs ws (omega (arith, even)) later in
+    let front : xs ≡ ys = rest.0 in
+    (cc, rest.1)
 
-pub equal-trials : (a b : Machine) → OneStepEqual a b → (n : ℕ) → EqualAt a b n
-equal-trials a b equal n x y in_x in_y = (equal (input_parts a.netlist n) [] x y in_x in_y).outputs
+-- machines of one netlist that give the same step alike
+pub given-alike : (netlist : RawNetlist) (a b : Nets → Sight) (x y : Nets) → given (record { netlist = netlist; sight = a }) x ≡ given (record { netlist = netlist; sight = b }) y → StepsAlike (record { netlist = netlist; sight = a }) (record { netlist = netlist; sight = b }) x y
+given-alike netlist a b x y same =
+    let ports : List (List Bit) = bits_at netlist.outputs in
+    let even : length (shown (a x) netlist) ≡ length (shown (b y) netlist) = length-map ports (λ bits. number (a x Outputs bits)) ∙ sym (length-map ports (λ bits. number (b y Outputs bits))) in
+    let both = split (shown (a x) netlist) (shown (b y) netlist) (taken (a x) 0 netlist.registers) (taken (b y) 0 netlist.registers) even same in
+    record { outputs = both.0; next = both.1 }
+
+pub alike-given : (a b : Machine) (x y : Nets) → StepsAlike a b x y → given a x ≡ given b y
+alike-given a b x y alike = rw (alike.outputs, alike.next) refl
+
+-- equal at each number that is tried, so equal
+pub trials-equal : (netlist : RawNetlist) (b : Nets → Sight) → ((n : ℕ) → n < 2 ^ length (free_list netlist) → EqualAt (design netlist) (record { netlist = netlist; sight = b }) n) → OneStepEqual (design netlist) (record { netlist = netlist; sight = b })
+trials-equal netlist b all inputs state x y in_x in_y =
+    let n : ℕ = number (values x (free_list netlist)) in
+    let ins : inputs ≡ inputs_of netlist n = sym in_x.entered ∙ sym (inputs-values netlist x) in
+    let regs : state ≡ state_of netlist n = sym in_x.stored ∙ sym (state-values netlist x) in
+    let P : List ℕ → List ℕ → Type 0 = λ is rs. Holds (plain x) x netlist is rs in
+    let Q : List ℕ → List ℕ → Type 0 = λ is rs. Holds (b y) y netlist is rs in
+    let here : P (inputs_of netlist n) (state_of netlist n) = subst (λ (rs : List ℕ). P (inputs_of netlist n) rs) regs (subst (λ (is : List ℕ). P is state) ins in_x) in
+    let there : Q (inputs_of netlist n) (state_of netlist n) = subst (λ (rs : List ℕ). Q (inputs_of netlist n) rs) regs (subst (λ (is : List ℕ). Q is state) ins in_y) in
+    all n (free-tried netlist x) x y here there
 
 -- equal in one step, so equal on every list of inputs
 pub one_step_to_all_runs : (a b : Machine) → OneStepEqual a b → EqualOnAllRuns a b
@@ -59,8 +76,8 @@ pub below_or_at : (n i : ℕ) → n < i + 1 → (n < i) ⊎ (n ≡ i)
 below_or_at n i h = elim (cases_lt n i) [ inl a ↦ inl a | inr b ↦ inr (omega arith) ]
 
 -- one number more
-pub ShowsAll-push : (a : Machine) (lists : List (List ℕ)) (list : List ℕ) → ShowsAll a lists → ShowsAt a (length lists) list → ShowsAll a (lists ++ list ∷ [])
-ShowsAll-push a lists list all one n below = elim (below_or_at n (length lists) (omega (arith, below, length-append lists (list ∷ [])))) [
-  | inl less ↦ subst (ShowsAt a n) (sym (get_or_append_left lists (list ∷ []) [] n less)) (all n less)
-  | inr same ↦ subst (λ (k : ℕ). ShowsAt a k (get_or (lists ++ list ∷ []) k [])) (sym same) (subst (ShowsAt a (length lists)) (sym (get_or-append_seam lists list [] [])) one)
+pub GivesAll-push : (a : Machine) (lists : List (List ℕ)) (list : List ℕ) → GivesAll a lists → GivesAt a (length lists) list → GivesAll a (lists ++ list ∷ [])
+GivesAll-push a lists list all one n below = elim (below_or_at n (length lists) (omega (arith, below, length-append lists (list ∷ [])))) [
+  | inl less ↦ subst (GivesAt a n) (sym (get_or_append_left lists (list ∷ []) [] n less)) (all n less)
+  | inr same ↦ subst (λ (k : ℕ). GivesAt a k (get_or (lists ++ list ∷ []) k [])) (sym same) (subst (GivesAt a (length lists)) (sym (get_or-append_seam lists list [] [])) one)
 ]

@@ -1,10 +1,10 @@
--- The inputs of a netlist together, and how many bits they may have.
+-- The free bits of a netlist: those of its inputs and of its registers, and how many there may be.
 use Rattle.std.specs.Prelude.{ℕ, ◌/◌, ◌%◌, ◌^◌, List, [], ◌∷◌, ◌++◌, length}
 use Rattle.netlist_core.specs.declared.bit.Bit.{Bit}
 use Rattle.netlist_core.specs.declared.raw.RawNetlist.{RawNetlist}
-use Rattle.netlist_core.specs.Runs.{bits_at}
+use Rattle.netlist_core.specs.Runs.{bits_at, q_bits}
 
--- how many bits all inputs may have together (docs/PROFILE.md)
+-- how many free bits there may be (docs/PROFILE.md)
 abbrev pub max_free_bits : ℕ
 max_free_bits = 8
 
@@ -13,14 +13,18 @@ abbrev pub joined : List (List Bit) → List Bit
 joined [] = []
 joined (bits ∷ more) = bits ++ joined more
 
--- the bits of all inputs
-abbrev pub input_bits : RawNetlist → List Bit
-input_bits netlist = joined (bits_at netlist.inputs)
+-- the bits of all inputs, and then of the Q's of all registers
+abbrev pub free_list : RawNetlist → List Bit
+free_list netlist = joined (bits_at netlist.inputs) ++ joined (q_bits netlist.registers)
 
 -- a number over the bits of all ports, divided into the numbers of the ports
 abbrev pub parts : List (List Bit) → ℕ → List ℕ
 parts [] n = []
 parts (bits ∷ more) n = n % 2 ^ length bits ∷ parts more (n / 2 ^ length bits)
 
-abbrev pub input_parts : RawNetlist → ℕ → List ℕ
-input_parts netlist n = parts (bits_at netlist.inputs) n
+-- a number over the free bits: the numbers of the inputs, and those that the registers hold
+abbrev pub inputs_of : RawNetlist → ℕ → List ℕ
+inputs_of netlist n = parts (bits_at netlist.inputs) n
+
+abbrev pub state_of : RawNetlist → ℕ → List ℕ
+state_of netlist n = parts (q_bits netlist.registers) (n / 2 ^ length (joined (bits_at netlist.inputs)))

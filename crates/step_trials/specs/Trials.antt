@@ -1,17 +1,25 @@
--- Machines, input by input.
-use Rattle.std.specs.Prelude.{◌≡◌, ℕ, ◌<◌, List, [], length, slice_index_or}
-use Rattle.netlist_core.specs.Runs.{Nets, Holds, shown}
-use Rattle.step_trials.specs.Equal.{Machine}
-use Rattle.step_trials.specs.Inputs.{input_parts}
+-- Machines, number by number over their free bits.
+use Rattle.std.specs.Prelude.{◌≡◌, ℕ, ◌<◌, List, [], ◌++◌, length, slice_index_or}
+use Rattle.netlist_core.specs.Runs.{Nets, Holds, shown, taken}
+use Rattle.step_trials.specs.Equal.{Machine, StepsAlike}
+use Rattle.step_trials.specs.Inputs.{inputs_of, state_of}
 
--- equal outputs for the inputs whose bits together are this number's, where there are no registers
+-- a cycle with the inputs and registers whose bits together are this number's
+abbrev pub HoldsAt : Machine → ℕ → Nets → Type 0
+HoldsAt a n x = Holds (a.sight x) x a.netlist (inputs_of a.netlist n) (state_of a.netlist n)
+
+-- what a cycle gives: what stands at the outputs, and then what the registers take
+abbrev pub given : Machine → Nets → List ℕ
+given a x = shown (a.sight x) a.netlist ++ taken (a.sight x) 0 a.netlist.registers
+
+-- machines of one netlist step alike at this number
 abbrev pub EqualAt : Machine → Machine → ℕ → Type 0
-EqualAt a b n = (x y : Nets) → Holds (a.sight x) x a.netlist (input_parts a.netlist n) [] → Holds (b.sight y) y b.netlist (input_parts a.netlist n) [] → shown (a.sight x) a.netlist ≡ shown (b.sight y) b.netlist
+EqualAt a b n = (x y : Nets) → HoldsAt a n x → HoldsAt b n y → StepsAlike a b x y
 
--- what the machine shows for the inputs whose bits together are this number's
-abbrev pub ShowsAt : Machine → ℕ → List ℕ → Type 0
-ShowsAt a n list = (x : Nets) → Holds (a.sight x) x a.netlist (input_parts a.netlist n) [] → shown (a.sight x) a.netlist ≡ list
+-- each cycle at this number gives this
+abbrev pub GivesAt : Machine → ℕ → List ℕ → Type 0
+GivesAt a n list = (x : Nets) → HoldsAt a n x → given a x ≡ list
 
 -- the same for each number, from 0 on
-abbrev pub ShowsAll : Machine → List (List ℕ) → Type 0
-ShowsAll a lists = (n : ℕ) → n < length lists → ShowsAt a n (slice_index_or lists n [])
+abbrev pub GivesAll : Machine → List (List ℕ) → Type 0
+GivesAll a lists = (n : ℕ) → n < length lists → GivesAt a n (slice_index_or lists n [])

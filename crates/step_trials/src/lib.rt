@@ -1,4 +1,4 @@
-//! Whether a mutant is equal to its design in one step: all values of the inputs are tried.
+//! Whether a mutant is equal to its design in one step: all values of inputs and registers are tried.
 #![tactic(auto)]
 
 mod bits;
@@ -6,5 +6,5 @@ mod design;
 mod laws;
 mod settle;
 
-pub use design::{Design, MAX_FREE_BITS, Shown, ShownList};
+pub use design::{Design, Given, GivenList, MAX_FREE_BITS};
 pub use laws::{designs_have_one_solution, mutants_have_one_solution, one_step_equality_lasts};

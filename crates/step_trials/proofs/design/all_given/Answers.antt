@@ -2,9 +2,9 @@ use Rattle.std.proofs.Common.{◌≤◌, ℕ, List, ◌∷◌, [], length, sym, 
 use Rattle.std.proofs.lemmas.Nat.{pow_below}
 use Rattle.std.proofs.lemmas.List.{length-append}
 use Rattle.step_trials.specs.Equal.{design}
-use Rattle.step_trials.specs.Trials.{ShowsAt}
-use Rattle.step_trials.proofs.TrialLemmas.{ShowsAll-push}
-use Rattle.step_trials.proofs.design.all_shown.Goals as goal
+use Rattle.step_trials.specs.Trials.{GivesAt}
+use Rattle.step_trials.proofs.TrialLemmas.{GivesAll-push}
+use Rattle.step_trials.proofs.design.all_given.Goals as goal
 
 pub overflow_cast-bits : goal.overflow_cast-bits
 overflow_cast-bits c =
@@ -19,9 +19,9 @@ pow-count-requires c =
 pub loop-number-preserved : goal.loop-number-preserved
 loop-number-preserved c =
     let lists : List (List ℕ) = c.loop-number.list.items in
-    let list : List ℕ = c.in_ok-shown_for.field-0 in
-    let one : ShowsAt (design c.args.netlist.now.raw) (length lists) list = subst (λ (n : ℕ). ShowsAt (design c.args.netlist.now.raw) n list) (c.from.ensures ∙ sym c.loop-number.invariant.count) c.in_ok-shown_for.ensures in
+    let list : List ℕ = c.in_ok-given_for.field-0 in
+    let one : GivesAt (design c.args.netlist.now.raw) (length lists) list = subst (λ (n : ℕ). GivesAt (design c.args.netlist.now.raw) n list) (c.from.ensures ∙ sym c.loop-number.invariant.count) c.in_ok-given_for.ensures in
     rw c.in_ok-push.ensures.items (record {
       count = omega (arith, length-append lists (list ∷ []), c.loop-number.invariant.count);
-      shows = ShowsAll-push (design c.args.netlist.now.raw) lists list c.loop-number.invariant.shows one;
+      gives = GivesAll-push (design c.args.netlist.now.raw) lists list c.loop-number.invariant.gives one;
     })

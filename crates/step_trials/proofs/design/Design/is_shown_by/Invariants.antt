@@ -1,7 +1,0 @@
-use Rattle.std.proofs.Common.{ℕ, [], ◌<◌, get_or}
-use Rattle.step_trials.specs.Equal.{design}
-use Rattle.step_trials.specs.Trials.{ShowsAt}
-use Rattle.step_trials.proofs.design.Design.is_shown_by.Given as goal
-
-abbrev pub invariant-loop-number : goal.invariant-loop-number
-invariant-loop-number l = (n : ℕ) → n < l.number → ShowsAt (design l.other.raw) n (get_or l.self.shown n [])

@@ -1,0 +1,7 @@
+use Rattle.std.proofs.Common.{◌≡◌, ◌++◌, drop}
+use Rattle.netlist_core.specs.Runs.{bits_at, q_bits}
+use Rattle.step_trials.specs.Inputs.{joined}
+use Rattle.step_trials.proofs.design.free_list.Given as goal
+
+abbrev pub invariant-loop-register : goal.invariant-loop-register
+invariant-loop-register l = l.bits.items ++ joined (q_bits (drop l.register-index l.registers)) ≡ joined (bits_at l.inputs) ++ joined (q_bits l.registers)
