@@ -10,3 +10,4 @@ pub mod Walking
 pub mod Latching
 pub mod Mixing
 pub mod Refusing
+pub mod Initials

@@ -4,4 +4,5 @@ pub mod Marking
 pub mod Turning
 pub mod Latching
 pub mod Mixed
+pub mod Initial
 pub mod Refused

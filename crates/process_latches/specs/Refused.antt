@@ -20,6 +20,7 @@ use Rattle.elab_proc.specs.declared.refusal.Refusal.{Refusal}
 use Rattle.elab_proc.specs.declared.refusal.Refusal.TheVariants.{Wrong, Unsupported, Latch}
 use Rattle.elab_proc.specs.Refusals.{step_refusals}
 use Rattle.process_events.specs.Events.{Sensitivity, Once, Combinational, Clocked, Refused, sensitivity}
+use Rattle.process_latches.specs.Initial.{initial_refusals}
 use Rattle.process_latches.specs.Latching.{latch_in}
 use Rattle.process_latches.specs.Mixed.{mixed_refusals}
 use Rattle.process_latches.specs.Sound.{sound}
@@ -58,13 +59,12 @@ abbrev pub waiting_refusals : Bool → Names → List Bool → Span → Stmt-F S
 waiting_refusals is_combinational names written always (s.EventControl at control body) = body_refusals is_combinational names written always control body
 waiting_refusals is_combinational names written always other = []
 
--- A process whose list of events is not supported is refused for that alone. One that runs once has start values, and is looked at
--- with these.
-abbrev pub refusals_by : Names → List Bool → Span → Sensitivity → Stmt-F Stmt CaseItem → List Refusal
+-- A process whose list of events is not supported is refused for that alone. One that runs once gives start values.
+abbrev pub refusals_by : Names → List Bool → Span → Sensitivity → Stmt → List Refusal
 refusals_by names written always (Refused at feature) body = Unsupported at feature ∷ []
-refusals_by names written always Combinational body = waiting_refusals true names written always body
-refusals_by names written always (Clocked n) body = waiting_refusals false names written always body
-refusals_by names written always Once body = []
+refusals_by names written always Combinational body = waiting_refusals true names written always (out-Stmt body)
+refusals_by names written always (Clocked n) body = waiting_refusals false names written always (out-Stmt body)
+refusals_by names written always Once body = initial_refusals names body
 
 abbrev pub process_refusals : Names → List Bool → Process → List Refusal
-process_refusals names written p = refusals_by names written p.span (sensitivity p) (out-Stmt p.body)
+process_refusals names written p = refusals_by names written p.span (sensitivity p) p.body

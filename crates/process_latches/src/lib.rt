@@ -2,6 +2,7 @@
 #![tactic(auto)]
 
 mod assignments;
+mod initial;
 mod latches;
 mod left;
 mod marks;
@@ -10,6 +11,7 @@ mod process;
 mod walk;
 
 pub use assignments::mark_assignment;
+pub use initial::initial_refusal;
 pub use latches::latch_of;
 pub use marks::{Marks, Write};
 pub use mixed::mixed_refusal;

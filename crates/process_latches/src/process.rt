@@ -11,6 +11,7 @@ ghost use Rattle.process_latches.specs.Refused.{latch_refusal, latch_refusals, e
 ghost use Rattle.process_latches.specs.Turning.{IsOwn};
 ghost use Rattle.process_latches.specs.Writes.{target_of};
 
+use crate::initial::initial_refusal;
 use crate::latches::latch_in;
 use crate::marks::{Marks, Write};
 use crate::mixed::mixed_refusal;
@@ -22,11 +23,12 @@ use std::alloc::{AllocError, Global};
 use vlog_meaning::{Cause, Fault, Scope};
 use vlog_syntax::{EventControl, EventExpression, Process, Stmt};
 
-/// What is refused first in an `always` process, by its place, if anything is: a latch of a combinational process (at its `always`),
-/// a name of its list of events that is not declared, what its statements refuse, and a variable's second kind of assignment (at its
-/// first token). One whose list of events is not supported is refused for that alone. An `initial` is not looked at. `written` tells
-/// which signals have a writer outside the process, by their numbers; a signal past its end has none. The scope has signals of 1 to
-/// 128 bits, and is given back as it was; where there is no memory, it is only to be dropped.
+/// What is refused first in a process, by its place, if anything is. In an `always` that is a latch of a combinational process (at its
+/// `always`), a name of its list of events that is not declared, what its statements refuse, and a variable's second kind of
+/// assignment (at its first token); one whose list of events is not supported is refused for that alone. In an `initial` it is what
+/// gives no start value (`initial_refusal`). `written` tells which signals have a writer outside the process, by their numbers; a
+/// signal past its end has none. The scope has signals of 1 to 128 bits, and is given back as it was; where there is no memory, it is
+/// only to be dropped.
 pub fn process_refusal(
     alloc: Global,
     process: &Process,
@@ -38,7 +40,7 @@ pub fn process_refusal(
     ensures kept { OnOk result (names_of scope.new ≡ names_of scope.old) }
 {
     match sensitivity_of(process) {
-        Sensitivity::Once => Ok(None),
+        Sensitivity::Once => Ok(initial_refusal(process.body.get(), scope)),
         Sensitivity::Refused(at, feature) => Ok(Some(Refusal::Unsupported(at, feature))),
         Sensitivity::Combinational => waiting_refusal(alloc, true, process, scope, written),
         Sensitivity::Clocked(_) => waiting_refusal(alloc, false, process, scope, written),

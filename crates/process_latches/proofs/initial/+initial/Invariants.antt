@@ -1,0 +1,15 @@
+use Rattle.std.proofs.Common.{◌+◌, ◌*◌, take}
+use Rattle.std.specs.List.{flat_map}
+use Rattle.vlog_meaning.specs.Scopes.{names_of}
+use Rattle.elab_proc.specs.Order.{IsFirst}
+use Rattle.process_latches.specs.Initial.{initial_refusals}
+use Rattle.process_latches.proofs.initial.+initial.Given as goal
+
+abbrev pub decreases-initial_refusal : goal.decreases-initial_refusal
+decreases-initial_refusal l = 2 * goal.size-initial_refusal l
+
+abbrev pub decreases-block_refusal : goal.decreases-block_refusal
+decreases-block_refusal l = 2 * goal.size-block_refusal l + 1
+
+abbrev pub invariant-block_refusal-loop-stmt : goal.invariant-block_refusal-loop-stmt
+invariant-block_refusal-loop-stmt l = IsFirst (flat_map (initial_refusals (names_of l.fn.scope)) (take l.stmt-index l.fn.body)) l.found
