@@ -11,10 +11,11 @@ use Rattle.flat_runs.specs.Adding.{HasOwnNets}
 use Rattle.flat_runs.specs.Designs.{Design}
 use Rattle.flat_runs.specs.Finishing.{Begins}
 use Rattle.flat_runs.proofs.Signals.{declared_own, empty_owns}
-use Rattle.elab_hier.specs.Signals.{AreSized, bits_of, declared, max_bits}
+use Rattle.flat_laws.specs.Sound.{AreSized}
+use Rattle.elab_hier.specs.Signals.{bits_of, declared, max_bits}
 use Rattle.elab_hier.specs.Designs.{widths_of}
 
-abbrev bits_width : Signal → ℕ
+abbrev pub bits_width : Signal → ℕ
 bits_width s = s.bits.width
 
 pub owns : (ss : List Signal) (b : Building) → HasOwnNets b → HasOwnNets (declared ss b)
@@ -37,7 +38,7 @@ fresh_long : (from width : ℕ) → length (fresh_bits from width) ≡ width
 fresh_long from zero = refl
 fresh_long from (suc width) = let e = fresh_long (from + 1) width in omega (arith, e)
 
-lengths : (ss : List Signal) (b : Building) → map length (declared ss b).signals ≡ map length b.signals ++ map bits_width ss
+pub lengths : (ss : List Signal) (b : Building) → map length (declared ss b).signals ≡ map length b.signals ++ map bits_width ss
 lengths [] b = sym (append-nil (map length b.signals))
 lengths (s ∷ more) b =
     let next = with_declared b s.name s.span s.bits.width in
@@ -57,7 +58,7 @@ width_at (s ∷ more) (suc k) = width_at more k
 pub widths_are : (ss : List Signal) (k : ℕ) → length (signal (declared ss empty) k) ≡ widths_of ss k
 widths_are ss k = sym (length_at (declared ss empty).signals k) ∙ ap (λ (ns : List ℕ). slice_index_or ns k 0) (lengths ss empty) ∙ width_at ss k
 
-some_bits : (ss : List Signal) (k : ℕ) → AreSized ss → k < length ss → 1 ≤ widths_of ss k
+pub some_bits : (ss : List Signal) (k : ℕ) → AreSized ss → k < length ss → 1 ≤ widths_of ss k
 some_bits [] k h less = absurd (omega arith)
 some_bits (s ∷ more) zero h less = h.0
 some_bits (s ∷ more) (suc k) h less = some_bits more k h.2 (omega (arith, less))

@@ -1,3 +1,4 @@
 pub mod Building
 pub mod Declaring
+pub mod Sounding
 pub mod Standing

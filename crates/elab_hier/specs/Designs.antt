@@ -10,7 +10,7 @@ use Rattle.flat_scopes.specs.Owns.{Own}
 use Rattle.flat_runs.specs.Meanings.{Meaning, Assign, Combinational, Clocked}
 use Rattle.flat_runs.specs.Designs.{Design}
 use Rattle.flat_items.specs.Flattened.{Flat}
-use Rattle.flat_items.specs.Places.{Place}
+use Rattle.flat_items.specs.Tops.{own_in}
 use Rattle.flat_items.specs.declared.item.FlatItem.{FlatItem}
 use Rattle.flat_items.specs.declared.item.FlatItem.TheVariants.{Declares}
 use Rattle.elab_hier.specs.Starts.{Widths, start_values}
@@ -26,10 +26,6 @@ abbrev pub widths_of : List Signal → Widths
 widths_of signals k = width_in (slice_get signals k)
 
 -- The ports of the top, in the order of its head. The top's scope is the first one.
-
-abbrev pub own_in : Option Place → Own
-own_in None = λ name. None
-own_in (Some p) = p.own
 
 abbrev pub is_input : Direction → Bool
 is_input Input = true

@@ -1,16 +1,12 @@
 -- A builder in which the signals of a flattened design are declared.
-use Rattle.std.specs.Prelude.{ℕ, ◌+◌, ◌<◌, ◌≤◌, List, [], ◌∷◌}
+use Rattle.std.specs.Prelude.{ℕ, ◌+◌, ◌<◌, List, [], ◌∷◌}
 use Rattle.mcy_base.specs.declared.kind.Kind.TheVariants.{NetBits}
 use Rattle.flat_scopes.specs.declared.signal.Signal.{Signal}
 use Rattle.elab_expr.specs.Building.{Building, with_declared}
 use Rattle.elab_hier.specs.declared.error.BuildError.{BuildError}
 use Rattle.elab_hier.specs.declared.error.BuildError.TheVariants.{TooMany, Memory}
 
--- each signal has from 1 to 128 bits
-abbrev pub AreSized : List Signal → Type 0
-AreSized [] = Unit {0}
-AreSized (s ∷ more) = (1 ≤ s.bits.width) × (s.bits.width ≤ 128) × AreSized more
-
+-- how many bits signals have together
 abbrev pub bits_of : List Signal → ℕ
 bits_of [] = 0
 bits_of (s ∷ more) = s.bits.width + bits_of more

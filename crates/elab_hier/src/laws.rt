@@ -1,7 +1,14 @@
-//! The law of flattened designs that are built item by item.
-ghost use Rattle.elab_hier.specs.Laws.{WiresAreAdded};
+//! The laws of flattened designs that are built item by item.
+ghost use Rattle.elab_hier.specs.Laws.{DesignsBegin, SoundAreDeclared, WiresAreAdded};
 
 /// Where all items are built, what they mean is added: the design's runs are those of the builder.
 pub fn wires_are_added()
     ensures { WiresAreAdded }
+{}
+
+/// The builder in which the signals of a sound design are declared has what is asked where its items are built, and begins the
+/// design.
+pub fn sound_designs_are_declared()
+    ensures stands { SoundAreDeclared }
+    ensures begins { DesignsBegin }
 {}

@@ -11,7 +11,7 @@ mod wire;
 mod wires;
 
 pub use error::{BuildError, Reason};
-pub use laws::wires_are_added;
+pub use laws::{sound_designs_are_declared, wires_are_added};
 pub use signals::declare_signals;
 pub use wire::build_wire;
 pub use wires::build_wires;

@@ -4,8 +4,9 @@ ghost use Rattle.std.specs.List.{Contains};
 ghost use Rattle.elab_expr.specs.Building.{empty, own_bits, with_declared};
 ghost use Rattle.flat_runs.specs.Designs.{Design};
 ghost use Rattle.flat_runs.specs.Finishing.{Begins};
+ghost use Rattle.flat_laws.specs.Sound.{AreSized};
 ghost use Rattle.elab_hier.specs.Designs.{widths_of};
-ghost use Rattle.elab_hier.specs.Signals.{AreSized, IsFull, bits_of, declared, max_bits};
+ghost use Rattle.elab_hier.specs.Signals.{IsFull, bits_of, declared, max_bits};
 
 use crate::error::BuildError;
 use elab_expr::Builder;

@@ -1,6 +1,7 @@
 use Rattle.std.proofs.Common.{◌≡◌, ◌+◌, ◌≤◌, length}
 use Rattle.elab_expr.specs.Building.{empty, own_bits}
-use Rattle.elab_hier.specs.Signals.{AreSized, bits_of, declared, max_bits}
+use Rattle.flat_laws.specs.Sound.{AreSized}
+use Rattle.elab_hier.specs.Signals.{bits_of, declared, max_bits}
 use Rattle.elab_hier.proofs.signals.declare_signals.Given as goal
 
 abbrev pub invariant-loop-rest : goal.invariant-loop-rest
