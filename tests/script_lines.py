@@ -19,8 +19,8 @@ KEYWORDS = {"and", "assert", "elif", "else", "False", "if", "not", "or", "pass",
 PIECES = (
     ["a", "b_1", "_", "Truth", "iff", "result", "tag", "print", "elsewhere", "x9"]
     + sorted(KEYWORDS)
-    + ["0", "12", "2147483648", '"PASS"', "'a b'", '"it\'s"', "'\"'", '""', "'#'"]
-    + ["==", "!=", "=", "(", ")", ":", ",", "<", ">", "+", "-", "*", "/", "%", "[", "]", "{", "}", ";", "@", "~", "^", "&", "|"]
+    + ["0", "12", "2147483648", "66.5", "100.0", "0.000001", '"PASS"', "'a b'", '"it\'s"', "'\"'", '""', "'#'"]
+    + ["==", "!=", "<=", ">=", "=", "(", ")", ":", ",", "<", ">", "+", "-", "*", "/", "%", "[", "]", "{", "}", ";", "@", "~", "^", "&", "|"]
 )
 
 WORKED = [
@@ -53,7 +53,18 @@ BY_RULE = [
     ("x = \\", "0: n:x = \\"),
     ("12ab", "0: d:12 n:ab"),
     ("007", "0: d:007"),
-    ("1.5", "0: d:1 . d:5"),
+    ("1.5", "0: d:1.5"),
+    ("1.", "0: d:1 ."),
+    (".5", "0: . d:5"),
+    ("1 . 5", "0: d:1 . d:5"),
+    ("1. 5", "0: d:1 . d:5"),
+    ("1.5.2", "0: d:1.5 . d:2"),
+    ("1..2", "0: d:1 . . d:2"),
+    ("1.5e3", "0: d:1.5 n:e3"),
+    ("007.50", "0: d:007.50"),
+    ("a < = b", "0: n:a < = n:b"),
+    ("a <== b", "0: n:a <= = n:b"),
+    ("a => b", "0: n:a = > n:b"),
     ("!a", "0: ! n:a"),
     ("a ! = b", "0: n:a ! = n:b"),
     ("$?`", "0: $ ? `"),
@@ -75,7 +86,7 @@ def told(line):
         elif token.type == tokenize.STRING:
             tokens.append("t:" + token.string[1:-1])
         elif token.type in (tokenize.OP, tokenize.ERRORTOKEN):
-            tokens += [token.string] if token.string in ("==", "!=") else list(token.string)
+            tokens += [token.string] if token.string in ("==", "!=", "<=", ">=") else list(token.string)
         elif token.type == tokenize.COMMENT:
             break
     if not tokens:

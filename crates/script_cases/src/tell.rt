@@ -25,12 +25,20 @@ fn push_token(alloc: Global, text: &mut String, token: &Token) -> Result<(), All
             text.push_str(" d:")?;
             push_bytes(text, digits.as_slice())
         }
+        Token::Decimal(digits, places) => {
+            text.push_str(" d:")?;
+            push_bytes(text, digits.as_slice())?;
+            text.push('.')?;
+            push_bytes(text, places.as_slice())
+        }
         Token::Quoted(quoted) => {
             text.push_str(" t:")?;
             push_bytes(text, quoted.as_slice())
         }
         Token::Equal => text.push_str(" =="),
         Token::NotEqual => text.push_str(" !="),
+        Token::LessEqual => text.push_str(" <="),
+        Token::GreaterEqual => text.push_str(" >="),
         Token::Symbol(byte) => {
             text.push(' ')?;
             text.push(char::from(*byte))

@@ -6,12 +6,11 @@ use Rattle.std.proofs.lemmas.List.{take_all}
 use Rattle.script_lines.specs.declared.class.Class.TheVariants as class
 use Rattle.script_lines.specs.declared.token.Cut.{Cut}
 use Rattle.script_lines.specs.declared.token.Token.{Token}
-use Rattle.script_lines.specs.declared.token.Token.TheVariants as token
 use Rattle.project_file.specs.Lines.{from_word, is_blank}
 use Rattle.project_file.specs.Numbers.{is_digit}
 use Rattle.project_file.specs.Words.{is_name_start}
 use Rattle.script_lines.specs.Classes.{is_in}
-use Rattle.script_lines.specs.Tokens.{and_then, front_token, is_end, quoted_token, sign, token_run, tokens, tokens_within, word_token}
+use Rattle.script_lines.specs.Tokens.{and_then, front_token, is_end, number_token, quoted_token, sign, sign_by, token_run, tokens, tokens_within, word_token}
 
 pub from_word_is : (text : List ℕ) (n : ℕ) → n ≡ prefix_len (is_in class.Blank) text → take (length text - n) (drop n text) ≡ from_word text
 unfolding from_word is_in
@@ -38,18 +37,25 @@ quoted_positive : (quote : ℕ) (text : List ℕ) → Positive (quoted_token quo
 unfolding quoted_token
 quoted_positive quote text = quoted_if _ _ _
 
-sign_if : (a b : Bool) (first : ℕ) → Positive (Some (if a then record { token = token.Equal; len = 2 } else (if b then record { token = token.NotEqual; len = 2 } else record { token = token.Symbol first; len = 1 })))
-sign_if true b first = omega arith
-sign_if false true first = omega arith
-sign_if false false first = omega arith
+sign_if : (first : ℕ) (o : Option Token) → Positive (Some (sign_by first o))
+sign_if first None = omega arith
+sign_if first (Some two) = omega arith
 
 sign_positive : (first : ℕ) (text : List ℕ) → Positive (Some (sign first text))
 unfolding sign
-sign_positive first text = sign_if _ _ first
+sign_positive first text = sign_if first _
 
-front_if : (a b q : Bool) (first : ℕ) (more : List ℕ) → Positive (if a then Some (token_run word_token class.NameByte first more) else (if b then Some (token_run token.Digits class.Digit first more) else (if q then quoted_token first more else Some (sign first more))))
+number_if : (b : Bool) (k places : ℕ) (t u : Token) → Positive (Some (if b then record { token = t; len = 1 + k } else record { token = u; len = 1 + k + 1 + places }))
+number_if true k places t u = omega arith
+number_if false k places t u = omega arith
+
+number_positive : (k : ℕ) (text : List ℕ) → Positive (Some (number_token (1 + k) text))
+unfolding number_token
+number_positive k text = number_if _ k _ _ _
+
+front_if : (a b q : Bool) (first : ℕ) (more : List ℕ) → Positive (if a then Some (token_run word_token class.NameByte first more) else (if b then Some (number_token (1 + prefix_len (is_in class.Digit) more) (first ∷ more)) else (if q then quoted_token first more else Some (sign first more))))
 front_if true b q first more = omega arith
-front_if false true q first more = omega arith
+front_if false true q first more = number_positive (prefix_len (is_in class.Digit) more) (first ∷ more)
 front_if false false true first more = quoted_positive first more
 front_if false false false first more = sign_positive first more
 

@@ -1,6 +1,6 @@
 -- The tokens of a line (The Python Language Reference, 2): each is the longest that fits, with blanks between them where wanted.
 -- Texts have no escapes, and every byte that begins no other token is one by itself.
-use Rattle.std.specs.Prelude.{ℕ, zero, suc, ◌==◌, ◌+◌, Bool, true, false, ◌&&◌, ◌||◌, List, [], ◌∷◌, Option, None, Some, bytes_eq, codes, drop, length, option_map, take, if◌then◌else◌}
+use Rattle.std.specs.Prelude.{ℕ, zero, suc, ◌==◌, ◌+◌, Bool, true, false, ◌||◌, List, [], ◌∷◌, Option, None, Some, bytes_eq, codes, drop, length, option_map, take, if◌then◌else◌}
 use Rattle.std.specs.List.{prefix_len}
 use Rattle.script_lines.specs.declared.class.Class.{Class}
 use Rattle.script_lines.specs.declared.class.Class.TheVariants as class
@@ -48,19 +48,40 @@ quoted_token quote text =
     let len = prefix_len (is_in (class.Inside quote)) text in
     if starts_with quote (drop len text) then Some (record { token = token.Quoted (take len text); len = len + 2 }) else None
 
--- `==` (61, 61), `!=` (33, 61), or the byte itself
+-- the token that a byte and `=` behind it are: `==` (61), `!=` (33), `<=` (60) or `>=` (62)
+abbrev pub with_equal : ℕ → Option Token
+with_equal first =
+    if first == 61 then Some token.Equal else
+    (if first == 33 then Some token.NotEqual else
+    (if first == 60 then Some token.LessEqual else
+    (if first == 62 then Some token.GreaterEqual else None)))
+
+-- this token of two bytes, or the byte itself
+abbrev pub sign_by : ℕ → Option Token → Cut
+sign_by first None = record { token = token.Symbol first; len = 1 }
+sign_by first (Some two) = record { token = two; len = 2 }
+
 unfoldable pub sign : ℕ → List ℕ → Cut
-sign first text =
-    if starts_with 61 text && first == 61 then record { token = token.Equal; len = 2 } else
-    (if starts_with 61 text && first == 33 then record { token = token.NotEqual; len = 2 } else
-    record { token = token.Symbol first; len = 1 })
+sign first text = sign_by first (if starts_with 61 text then with_equal first else None)
+
+-- how many digits stand behind a point (46) in front
+abbrev pub places_len : List ℕ → ℕ
+places_len [] = 0
+places_len (first ∷ more) = if first == 46 then prefix_len (is_in class.Digit) more else 0
+
+-- the number in front, of which so many digits stand before a point, if there is one that digits follow
+unfoldable pub number_token : ℕ → List ℕ → Cut
+number_token whole text =
+    let places = places_len (drop whole text) in
+    if places == 0 then record { token = token.Digits (take whole text); len = whole } else
+    record { token = token.Decimal (take whole text) (take places (drop (whole + 1) text)); len = whole + 1 + places }
 
 -- the token in front of a text, by its first byte; 34 and 39 are the quotes
 unfoldable pub front_token : List ℕ → Option Cut
 front_token [] = None
 front_token (first ∷ more) =
     if is_name_start first then Some (token_run word_token class.NameByte first more) else
-    (if is_digit first then Some (token_run token.Digits class.Digit first more) else
+    (if is_digit first then Some (number_token (1 + prefix_len (is_in class.Digit) more) (first ∷ more)) else
     (if first == 34 || first == 39 then quoted_token first more else
     Some (sign first more)))
 

@@ -1,8 +1,8 @@
 //! The tokens of a line.
 //!
 //! Each token is the longest one that fits. Blanks stand between tokens where they are wanted, and a comment ends the line.
-ghost use Rattle.std.specs.Prelude.{◌≡◌, ◌<◌, ◌≤◌, ◌++◌, ◌∷◌, ◌+◌, IfOk, IfSome, length, option_map, take};
-ghost use Rattle.script_lines.specs.Tokens.{front_token, is_end, quoted_token, sign, starts_with, tokens, word_token};
+ghost use Rattle.std.specs.Prelude.{◌≡◌, ◌<◌, ◌≤◌, ◌++◌, ◌∷◌, ◌+◌, ◌-◌, IfOk, IfSome, drop, length, option_map, take};
+ghost use Rattle.script_lines.specs.Tokens.{front_token, is_end, number_token, places_len, quoted_token, sign, starts_with, tokens, with_equal, word_token};
 
 use crate::class::{Class, from_word, run_len};
 use crate::keyword::{Keyword, keyword_of};
@@ -18,12 +18,18 @@ pub enum Token {
     Name(Bytes),
     /// One or more decimal digits.
     Digits(Bytes),
+    /// Digits, a point and digits: those before the point, and those behind it.
+    Decimal(Bytes, Bytes),
     /// What stands between two `"` or two `'`.
     Quoted(Bytes),
     /// `==`
     Equal,
     /// `!=`
     NotEqual,
+    /// `<=`
+    LessEqual,
+    /// `>=`
+    GreaterEqual,
     /// Any other byte.
     Symbol(u8),
 }
@@ -75,28 +81,68 @@ fn quoted_token(alloc: Global, quote: u8, text: &[u8]) -> Result<Option<Cut>, Al
     }))
 }
 
+/// The token that a byte and `=` behind it are, if they are one.
+fn with_equal(first: u8) -> Option<Token>
+    ensures { result ≡ with_equal first }
+{
+    match first {
+        b'=' => Some(Token::Equal),
+        b'!' => Some(Token::NotEqual),
+        b'<' => Some(Token::LessEqual),
+        b'>' => Some(Token::GreaterEqual),
+        _ => None,
+    }
+}
+
 /// The token of one or two bytes that begins with this one.
 #[tactic(auto, unfolding(crate::specs::Tokens::sign))]
 fn sign(first: u8, text: &[u8]) -> Cut
     ensures value { result ≡ sign first text.now }
     ensures shorter { result.len ≤ length text.now + 1 }
 {
-    if starts_with(b'=', text) && first == b'=' {
-        return Cut {
-            token: Token::Equal,
-            len: 2,
-        };
-    }
-    if starts_with(b'=', text) && first == b'!' {
-        return Cut {
-            token: Token::NotEqual,
-            len: 2,
-        };
+    if starts_with(b'=', text) {
+        if let Some(token) = with_equal(first) {
+            return Cut { token, len: 2 };
+        }
     }
     Cut {
         token: Token::Symbol(first),
         len: 1,
     }
+}
+
+/// How many digits stand behind a point in front.
+fn places_len(text: &[u8]) -> usize
+    ensures value { result ≡ places_len text.now }
+    ensures shorter { result ≤ length text.now - 1 }
+{
+    match text {
+        [first, more @ ..] if *first == b'.' => run_len(Class::Digit, more),
+        _ => 0,
+    }
+}
+
+/// The number in front, of which so many digits stand before a point, if there is one that digits follow.
+#[tactic(auto, unfolding(crate::specs::Tokens::number_token))]
+fn number_token(alloc: Global, whole: usize, text: &[u8]) -> Result<Cut, AllocError>
+    requires { whole ≤ length text.now }
+    ensures value { IfOk result (λ cut. cut ≡ number_token whole text.now) }
+    ensures shorter { IfOk result (λ cut. cut.len ≤ length text.now) }
+{
+    let digits = Bytes::copy(alloc, &text[..whole])?;
+    let places = places_len(&text[whole..]);
+    if places == 0 {
+        return Ok(Cut {
+            token: Token::Digits(digits),
+            len: whole,
+        });
+    }
+    let behind = &text[whole + 1..];
+    let behind = Bytes::copy(alloc, &behind[..places])?;
+    Ok(Cut {
+        token: Token::Decimal(digits, behind),
+        len: whole + 1 + places,
+    })
 }
 
 /// The token in front of a text without blanks in front.
@@ -114,9 +160,8 @@ fn front_token(alloc: Global, text: &[u8]) -> Result<Option<Cut>, AllocError>
         return Ok(Some(Cut { token, len }));
     }
     if is_digit(*first) {
-        let len = 1 + run_len(Class::Digit, more);
-        let token = Token::Digits(Bytes::copy(alloc, &text[..len])?);
-        return Ok(Some(Cut { token, len }));
+        let whole = 1 + run_len(Class::Digit, more);
+        return Ok(Some(number_token(alloc, whole, text)?));
     }
     if *first == b'"' || *first == b'\'' {
         return quoted_token(alloc, *first, more);

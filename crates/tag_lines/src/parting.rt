@@ -53,7 +53,7 @@ fn parts_here(separator: Separator, opened: usize, token: &Token) -> bool
 }
 
 /// How many parentheses are open behind a token.
-fn open_behind(opened: usize, token: &Token) -> usize
+pub fn open_behind(opened: usize, token: &Token) -> usize
     requires { opened + 1 < 2 ^ 64 }
     ensures value { result ≡ open_behind opened token.now }
     ensures one { result ≤ opened + 1 }

@@ -49,7 +49,7 @@ unfolding with_parts parts_of
 whole_end p place known rows block [] l h = sym h
 whole_end p place known rows block (row ∷ more) l h = absurd (omega arith)
 
-cut_is : (indent : ℕ) (rest more body new : List Row) (row : Row) (len : ℕ) → 1 ≤ length rest → row ≡ get_or rest 0 row → more ≡ take (length rest - 1) (drop 1 rest) → len ≡ body_len indent more → body ≡ take len more → new ≡ drop len more → parts_of indent rest ≡ record { row = row; body = body } ∷ parts_of indent new
+pub cut_is : (indent : ℕ) (rest more body new : List Row) (row : Row) (len : ℕ) → 1 ≤ length rest → row ≡ get_or rest 0 row → more ≡ take (length rest - 1) (drop 1 rest) → len ≡ body_len indent more → body ≡ take len more → new ≡ drop len more → parts_of indent rest ≡ record { row = row; body = body } ∷ parts_of indent new
 cut_is indent rest more body new row len l e m n b d =
     ap (parts_of indent) (cons_is rest more row l e m)
     ∙ (parts_more indent row more

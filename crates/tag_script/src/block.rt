@@ -13,7 +13,7 @@ use tag_lines::Head;
 
 /// How many lines in front are indented further.
 #[tactic(auto, unfolding(crate::specs::Blocks::body_len))]
-fn body_len(indent: usize, rows: &[Row]) -> usize
+pub fn body_len(indent: usize, rows: &[Row]) -> usize
     ensures value { result ≡ body_len indent rows.now }
     ensures shorter { result ≤ length rows.now }
 {
@@ -25,8 +25,8 @@ fn body_len(indent: usize, rows: &[Row]) -> usize
     rows.len()
 }
 
-/// So many of these lines.
-fn first(used: usize, rows: &[Row]) -> &[Row]
+/// So many of these lines in front.
+pub fn first_rows(used: usize, rows: &[Row]) -> &[Row]
     requires { used ≤ length rows.now }
     ensures { result.now ≡ take used rows.now }
 {
@@ -34,7 +34,7 @@ fn first(used: usize, rows: &[Row]) -> &[Row]
 }
 
 /// The lines behind so many of these.
-fn behind(used: usize, rows: &[Row]) -> &[Row]
+pub fn rows_behind(used: usize, rows: &[Row]) -> &[Row]
     requires { used ≤ length rows.now }
     ensures value { result.now ≡ drop used rows.now }
     ensures rest { used + length result.now ≡ length rows.now }
@@ -51,7 +51,8 @@ fn opens_body(said: &Head) -> bool
     }
 }
 
-fn first_indent(rows: &[Row]) -> usize
+/// How far the first line is indented, if there is one.
+pub fn first_indent(rows: &[Row]) -> usize
     ensures { result ≡ first_indent rows.now }
 {
     match rows {
@@ -86,12 +87,12 @@ pub fn block_in(
     let mut rest = rows;
     'lines: while let [row, more @ ..] = rest {
         let len = body_len(place.indent, more);
-        let body = first(len, more);
+        let body = first_rows(len, more);
         match with_part(scope, place, block, row, body) {
             Ok(longer) => block = longer,
             Err(fault) => return Err(fault),
         }
-        rest = behind(len, more);
+        rest = rows_behind(len, more);
     }
     Ok(block)
 }

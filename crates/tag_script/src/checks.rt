@@ -35,7 +35,7 @@ pub struct Known {
 
 /// That the line stands where a script may have no more lines.
 #[tactic(auto, unfolding(crate::specs::Checks::excess))]
-fn excess(limit: Option<u32>, number: u32) -> Option<ScriptError>
+pub fn excess(limit: Option<u32>, number: u32) -> Option<ScriptError>
     ensures { result ≡ excess limit number }
 {
     match limit {
@@ -54,7 +54,8 @@ pub fn is_further(indent: usize, row: &Row) -> bool
     }
 }
 
-fn has_lines(rows: &[Row]) -> bool
+/// Whether there are lines.
+pub fn has_lines(rows: &[Row]) -> bool
     ensures { result ≡ has_lines rows.now }
 {
     match rows {

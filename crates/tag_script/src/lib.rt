@@ -14,6 +14,8 @@ mod value;
 
 pub use answer::Ask;
 pub use asking::ask;
-pub use read::read_script;
+pub use block::{body_len, first_indent, first_rows, rows_behind};
+pub use checks::{excess, has_lines, is_indented_so};
+pub use read::{first_too_many, read_script};
 pub use results::{MAX_TESTS, Results};
 pub use script::{Arm, Script, ScriptError, Statement};

@@ -13,7 +13,7 @@ use script_lines::{Row, rows};
 use std::alloc::Global;
 
 /// The number of the first line that is too many.
-fn first_too_many(lines: &[Line]) -> Option<u32>
+pub fn first_too_many(lines: &[Line]) -> Option<u32>
     ensures { result ≡ first_too_many lines.now }
 {
     match lines.get(1000) {

@@ -8,10 +8,10 @@ pub block_in-lines-init : goal.block_in-lines-init
 block_in-lines-init t c = whole_first (project_of c.args.scope.now) c.args.place c.args.known c.args.rows.now c.new_block-block.result c.new_block-block.ensures
 
 pub block_in-returns-in-Err : goal.block_in-returns-in-Err
-block_in-returns-in-Err t c = λ n. whole_fault (project_of c.args.scope.now) c.args.place c.args.known c.args.rows.now c.lines.block c.lines.rest.now _ c.first-body.result.now _ c.row-item.result c.body_len-len.result c.in-len1-up.len_at_least c.row-item.is refl c.body_len-len.ensures.value c.first-body.ensures refl c.lines.invariant c.in-Err.fault (c.in-Err.ensures n)
+block_in-returns-in-Err t c = λ n. whole_fault (project_of c.args.scope.now) c.args.place c.args.known c.args.rows.now c.lines.block c.lines.rest.now _ c.first_rows-body.result.now _ c.row-item.result c.body_len-len.result c.in-len1-up.len_at_least c.row-item.is refl c.body_len-len.ensures.value c.first_rows-body.ensures refl c.lines.invariant c.in-Err.fault (c.in-Err.ensures n)
 
 pub block_in-lines-preserved : goal.block_in-lines-preserved
-block_in-lines-preserved t c = whole_more (project_of c.args.scope.now) c.args.place c.args.known c.args.rows.now c.lines.block c.lines.rest.now _ c.first-body.result.now c.behind-rest.result.now c.row-item.result c.body_len-len.result c.in-len1-up.len_at_least c.row-item.is refl c.body_len-len.ensures.value c.first-body.ensures c.behind-rest.ensures.value c.lines.invariant c.in-Ok.longer c.in-Ok.ensures
+block_in-lines-preserved t c = whole_more (project_of c.args.scope.now) c.args.place c.args.known c.args.rows.now c.lines.block c.lines.rest.now _ c.first_rows-body.result.now c.rows_behind-rest.result.now c.row-item.result c.body_len-len.result c.in-len1-up.len_at_least c.row-item.is refl c.body_len-len.ensures.value c.first_rows-body.ensures c.rows_behind-rest.ensures.value c.lines.invariant c.in-Ok.longer c.in-Ok.ensures
 
 pub block_in-returns : goal.block_in-returns
 block_in-returns t c = whole_end (project_of c.args.scope.now) c.args.place c.args.known c.args.rows.now c.lines.block c.lines.rest.now c.in_default.len_below c.lines.invariant

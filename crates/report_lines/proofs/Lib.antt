@@ -1,0 +1,4 @@
+pub mod Fitting
+pub mod FormatList
+pub mod Rooms
+pub mod ShareList

@@ -1,0 +1,4 @@
+pub mod Fits
+pub mod Formats
+pub mod Grammar
+pub mod Lines
