@@ -16,3 +16,6 @@ mod Clocking
 mod Firsts
 mod OneKind
 mod Bodies
+mod Fits
+mod Items
+mod Starting

@@ -1,3 +1,5 @@
 pub mod Ready
 pub mod Processes
 pub mod Laws
+pub mod Items
+pub mod Starts

@@ -100,13 +100,17 @@ pub record Clocks (steps : Steps) (old new : Building) : Type 0 where
   pub named : AreNamed old (variables steps) registers
   pub is : new ≡ with_registers (given_own old done) registers
 
+-- the numbers of the variables that sound assignments name
+abbrev pub written_numbers : Steps → List ℕ
+written_numbers steps = map (λ x. x.number) (distinct (map target_of (writes (sound steps))))
+
 -- What is asked where the statements of a process are built, with the numbers of its variables, which those of its assignments
 -- tell that are sound.
 pub record CanBeBuilt (is_combinational : Bool) (steps : Steps) : Type 0 where
   pub accepted : IsAccepted is_combinational steps
   pub kinds : HasOneKind steps
   pub unlatched : is_combinational ≡ true → latch_of steps ≡ None
-  pub numbers : map (λ x. x.number) (distinct (map target_of (writes (sound steps)))) ≡ variables steps
+  pub numbers : written_numbers steps ≡ variables steps
 
 -- The code's parts.
 

@@ -1,4 +1,4 @@
-//! The cells and registers of a process: of the body of a combinational one, and of a clocked one.
+//! Processes: the cells of their statements, the joints and registers of their variables, and the start values of an `initial`.
 #![tactic(auto)]
 
 mod clocked;
@@ -6,7 +6,9 @@ mod combinational;
 mod joints;
 mod kept;
 mod laws;
+mod process;
 mod registers;
+mod starts;
 mod variables;
 mod waiting;
 
@@ -16,4 +18,7 @@ pub use laws::{
     accepted_bodies_can_be_built, accepted_statements_are_ready, accepted_statements_are_sound,
     mixed_assignments_are_refused, processes_are_added,
 };
+pub use process::build_process;
+pub use starts::{start_process, start_signal};
 pub use variables::variables_of;
+pub use waiting::nothing_waits;

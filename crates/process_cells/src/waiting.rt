@@ -1,11 +1,32 @@
 //! The own bits of variables wait before the statements of a clocked process.
-ghost use Rattle.std.specs.Prelude.{◌≡◌, ◌<◌, length, slice_set, OnOk};
+ghost use Rattle.std.specs.Prelude.{◌≡◌, ◌<◌, [], length, replicate, slice_set, IfOk, OnOk};
 ghost use Rattle.elab_expr.specs.Building.{signal};
 ghost use Rattle.process_cells.specs.Processes.{AllKnown, all_waiting};
+ghost use Rattle.process_cells.specs.Ready.{HasPlaces};
 
 use elab_expr::{Builder, copied_bits};
+use netlist_core::BitList;
 use proc_muxes::Variables;
-use std::alloc::AllocError;
+use std::alloc::{AllocError, Global};
+
+/// A place for bits that wait for each signal of the builder. No bits wait yet.
+pub fn nothing_waits(builder: &Builder) -> Result<Variables, AllocError>
+    ensures { IfOk result (λ waiting. HasPlaces builder.now waiting) }
+{
+    let places = empty_places(builder.alloc(), builder.signal_count() as usize)?;
+    Ok(Variables::new(places))
+}
+
+/// So many places in which no bits wait.
+fn empty_places(alloc: Global, count: usize) -> Result<Vec<BitList>, AllocError>
+    ensures { IfOk result (λ places. places.items ≡ replicate count []) }
+{
+    let mut places = Vec::new(alloc);
+    while places.len() < count {
+        places.push(BitList::from_vec(Vec::new(alloc)))?;
+    }
+    Ok(places)
+}
 
 /// The own bits of a variable wait.
 fn set_waiting(builder: &Builder, waiting: &mut Variables, number: u32) -> Result<(), AllocError>

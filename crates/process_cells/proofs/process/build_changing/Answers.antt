@@ -1,0 +1,46 @@
+use Rattle.std.proofs.Common.{◌≡◌, ◌+◌, true, length, refl, sym, subst, ap, ◌∙◌}
+use Rattle.std.specs.Prelude.{None}
+use Rattle.std.proofs.lemmas.Result.{IfErr-weaker, on_ok_weaker}
+use Rattle.vlog_meaning.specs.Scopes.{Names, names_of}
+use Rattle.vlog_effects.specs.Latches.{latch_of}
+use Rattle.vlog_effects.specs.Steps.{steps_of}
+use Rattle.elab_expr.specs.Building.{HasSignals}
+use Rattle.elab_expr.specs.Refusals.{IsShort}
+use Rattle.elab_proc.specs.Refusals.{AreSized}
+use Rattle.process_events.specs.Events as v
+use Rattle.proc_muxes.specs.Counts.{cells_of}
+use Rattle.process_cells.specs.Items.{AddsBy}
+use Rattle.process_cells.specs.Processes.{variables}
+use Rattle.process_cells.specs.Ready.{IsAccepted}
+use Rattle.process_cells.proofs.Items.{both_ok, combinational_adds, item_own}
+use Rattle.process_cells.proofs.process.build_changing.Goals as goal
+
+pub build_combinational-requires-clause-accepted : goal.build_combinational-requires-clause-accepted
+build_combinational-requires-clause-accepted c = subst (λ (n : Names). IsAccepted true (steps_of c.args.body.now n)) (sym c.in_ok-numbers.ensures.kept) c.requires.fit.accepted
+
+pub build_combinational-requires-clause-unlatched : goal.build_combinational-requires-clause-unlatched
+build_combinational-requires-clause-unlatched c = subst (λ (n : Names). latch_of (steps_of c.args.body.now n) ≡ None) (sym c.in_ok-numbers.ensures.kept) (c.requires.fit.unlatched refl)
+
+pub build_combinational-requires-clause-variables : goal.build_combinational-requires-clause-variables
+build_combinational-requires-clause-variables c = c.as_slice.ensures.value ∙ c.in_ok-numbers.ensures.numbers ∙ c.requires.fit.numbers ∙ ap (λ (n : Names). variables (steps_of c.args.body.now n)) (sym c.in_ok-numbers.ensures.kept)
+
+pub build_combinational-requires-clause-sized : goal.build_combinational-requires-clause-sized
+build_combinational-requires-clause-sized c = subst AreSized (sym c.in_ok-numbers.ensures.kept) c.requires.sized
+
+pub build_combinational-requires-clause-signals : goal.build_combinational-requires-clause-signals
+build_combinational-requires-clause-signals c = subst (λ (n : Names). HasSignals n c.args.builder.now) (sym c.in_ok-numbers.ensures.kept) c.requires.signals
+
+pub returns-clause-adds : goal.returns-clause-adds
+returns-clause-adds c =
+    let old = c.args.builder.now in
+    let new = c.build_combinational.new.builder in
+    both_ok c.build_combinational.result _ _ _ (λ built item. subst (λ (n : Names). AddsBy v.Combinational (steps_of c.args.body.now n) old new) c.in_ok-numbers.ensures.kept (combinational_adds (steps_of c.args.body.now (names_of c.numbers_of.new.scope)) old new built item)) c.build_combinational.ensures.combines c.build_combinational.ensures.added
+
+pub returns-clause-kept : goal.returns-clause-kept
+returns-clause-kept c = on_ok_weaker c.build_combinational.result (λ h. h ∙ c.in_ok-numbers.ensures.kept) c.build_combinational.ensures.kept
+
+pub returns-clause-own : goal.returns-clause-own
+returns-clause-own c = on_ok_weaker c.build_combinational.result (λ h. item_own c.args.builder.now c.build_combinational.new.builder _ c.requires.own h) c.build_combinational.ensures.added
+
+pub returns-clause-short : goal.returns-clause-short
+returns-clause-short c = IfErr-weaker c.build_combinational.result _ _ (λ x h. subst (λ (n : Names). IsShort (length c.args.builder.now.cells + cells_of (steps_of c.args.body.now n)) x) c.in_ok-numbers.ensures.kept h) c.build_combinational.ensures.short

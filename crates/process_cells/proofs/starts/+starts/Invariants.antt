@@ -1,0 +1,16 @@
+use Rattle.std.proofs.Common.{◌≡◌, ◌+◌, ◌*◌, [], map, take}
+use Rattle.std.specs.List.{flat_map}
+use Rattle.vlog_meaning.specs.Scopes.{names_of}
+use Rattle.vlog_effects.specs.Steps.{in_turn, steps_of}
+use Rattle.process_latches.specs.Initial.{initial_refusals}
+use Rattle.process_cells.specs.Starts.{SameButStarts, GoesOn}
+use Rattle.process_cells.proofs.starts.+starts.Given as goal
+
+abbrev pub decreases-start_statement : goal.decreases-start_statement
+decreases-start_statement l = 2 * goal.size-start_statement l
+
+abbrev pub decreases-start_block : goal.decreases-start_block
+decreases-start_block l = 2 * goal.size-start_block l + 1
+
+abbrev pub invariant-start_block-loop-stmt : goal.invariant-start_block-loop-stmt
+invariant-start_block-loop-stmt l = (flat_map (initial_refusals (names_of l.fn.scope)) (take l.stmt-index l.fn.body) ≡ [] → GoesOn (in_turn (map steps_of (take l.stmt-index l.fn.body)) (names_of l.fn.scope)) l.fn.builder l.builder) × SameButStarts l.fn.builder l.builder
