@@ -1,0 +1,9 @@
+use Rattle.std.proofs.Common.{◌-◌, ◌≤◌, length, take}
+use Rattle.site_texts.specs.Names.{IsSolid}
+use Rattle.site_texts.proofs.name.front_of.Given as goal
+
+abbrev pub invariant-loop-whole : goal.invariant-loop-whole
+invariant-loop-whole l = (l.whole ≤ length l.text) × IsSolid (take l.whole l.text)
+
+abbrev pub decreases-loop-whole : goal.decreases-loop-whole
+decreases-loop-whole l = length l.text - l.whole

@@ -1,0 +1,4 @@
+pub mod Choices
+pub mod Names
+pub mod SiteTexts
+pub mod Rests
