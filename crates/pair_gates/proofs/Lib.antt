@@ -1,0 +1,8 @@
+pub mod Widths
+pub mod Stepping
+pub mod Apart
+pub mod Starting
+pub mod Telling
+pub mod Pairing
+mod Standing
+mod Reading

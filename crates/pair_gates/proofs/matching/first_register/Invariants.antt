@@ -1,0 +1,7 @@
+use Rattle.std.proofs.Common.{◌≡◌, ℕ, ◌<◌}
+use Rattle.std.specs.Prelude.{slice_get}
+use Rattle.pair_gates.specs.Matching.{registers_named}
+use Rattle.pair_gates.proofs.matching.first_register.Given as goal
+
+abbrev pub invariant-loop-place : goal.invariant-loop-place
+invariant-loop-place l = (j : ℕ) → j < l.place → slice_get (registers_named l.others) j ≡ slice_get (registers_named l.registers) j

@@ -1,0 +1,8 @@
+use Rattle.std.proofs.Common.{◌≡◌, drop}
+use Rattle.netlist_core.specs.Runs.{d_bits}
+use Rattle.netlist_gates.specs.NetLits.{lits_of}
+use Rattle.pair_gates.proofs.Reading.{ahead}
+use Rattle.pair_gates.proofs.pair.add_next.Given as goal
+
+abbrev pub invariant-loop-register : goal.invariant-loop-register
+invariant-loop-register l = ahead (lits_of l.lits) l.row.items (d_bits (drop l.register-index l.registers)) ≡ ahead (lits_of l.lits) l.initial.row.items (d_bits l.registers)

@@ -1,0 +1,4 @@
+pub mod Copies
+pub mod Differences
+pub mod Matching
+pub mod Refusals
