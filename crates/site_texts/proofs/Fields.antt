@@ -1,171 +1,21 @@
--- The fields of site texts, one after the other.
-use Rattle.std.proofs.Common.{◌≡◌, ℕ, zero, suc, ◌+◌, ◌-◌, ◌<◌, ◌^◌, Bool, true, false, not, ◌&&◌, cond, List, [], ◌∷◌, ◌++◌, length, get_or, slice_get, Option, Some, None, refl, sym, subst, ap, ◌∙◌, arith, eqb, nat_lt, codes}
-use Rattle.std.proofs.lemmas.Bool.{and_parts}
+-- Where each field of a site text is bad, and where the text is bad behind it.
+use Rattle.std.proofs.Common.{◌≡◌, ℕ, ◌+◌, ◌-◌, ◌<◌, ◌^◌, Bool, true, false, cond, List, [], ◌∷◌, ◌++◌, length, Option, Some, None, refl, sym, subst, ap, ◌∙◌, arith, eqb, nat_lt}
 use Rattle.std.proofs.lemmas.Bool.Decides.{nat_tests}
-use Rattle.std.proofs.lemmas.Fmt.{decimal_is_IsNumeral, decimal_injective}
-use Rattle.std.proofs.lemmas.Str.Parse.{digit_at}
+use Rattle.std.proofs.lemmas.Fmt.{decimal_injective}
 use Rattle.std.specs.Prelude.{decimal}
 use Rattle.mutation_sites.specs.declared.mode.Mode.{Mode}
-use Rattle.mutation_sites.specs.declared.mode.Mode.TheVariants.{Inv, Const0, Const1, Cnot0, Cnot1}
 use Rattle.mutation_sites.specs.SiteTexts.{mode_text}
-use Rattle.site_texts.specs.declared.choice.Choice.{Choice}
 use Rattle.site_texts.specs.declared.choice.Choice.TheVariants as field
-use Rattle.site_texts.specs.declared.parts.Bits.{Bits}
-use Rattle.site_texts.specs.declared.parts.Parts.{Parts}
-use Rattle.site_texts.specs.declared.parts.PlaceText.{PlaceText}
 use Rattle.site_texts.specs.declared.site.SiteText.{SiteText}
-use Rattle.site_texts.specs.declared.source.Source.{Source}
-use Rattle.site_texts.specs.Choices.{IsBadField, IsWordOf, is_control, mode_words, place_words, port_words, word_of}
+use Rattle.site_texts.specs.Choices.{IsBadField, IsWordOf, is_control, word_of}
 use Rattle.site_texts.specs.Names.{IsName}
-use Rattle.site_texts.specs.Rests.{AreOf, AreOfBits, AreOfControl, AreOfPlace, AreOfPort, AreOfSource, HasBit, HasMode, HasPlace, IsAny, IsPart, IsStuck}
+use Rattle.site_texts.specs.Rests.{HasBit, HasMode, HasPlace, IsAny, IsStuck}
 use Rattle.site_texts.specs.SiteTexts.{HasControl, IsSite, after_bit, bit_text, control_text, kind_text, name_text, place_text, port_text, reads_control, site_text, source_text, top_text}
-use Rattle.site_texts.proofs.Choosing.{later_control, word_below}
-use Rattle.site_texts.proofs.Fronts.{letter, solid_no_space}
-use Rattle.site_texts.proofs.Splits.{NoSpace, NoSpace-from}
+use Rattle.site_texts.proofs.Choosing.{word_below}
+use Rattle.site_texts.proofs.Fronts.{solid_no_space}
+use Rattle.site_texts.proofs.Splits.{NoSpace}
 use Rattle.site_texts.proofs.Stuck.{HasField, Splits, field_stuck, rest_stuck}
-
--- Words have no space.
-pub decimal_no_space : (n : ℕ) → n < 2 ^ 64 → NoSpace (decimal n)
-decimal_no_space n small = NoSpace-from (decimal n) (λ k within e. let digit = digit_at (decimal n) k ((decimal_is_IsNumeral n small).0.1) within in absurd (omega (arith, digit.0)))
-
-abbrev has_none : List ℕ → Bool
-has_none [] = true
-has_none (b ∷ more) = not (eqb b 32) && has_none more
-
-abbrev all_have_none : List (List ℕ) → Bool
-all_have_none [] = true
-all_have_none (w ∷ words) = has_none w && all_have_none words
-
-no_space_by : (text : List ℕ) → has_none text ≡ true → NoSpace text
-no_space_by [] is = tt
-no_space_by (b ∷ more) is =
-    let both = and_parts (not (eqb b 32)) (has_none more) is in
-    (λ e. let here : not (eqb 32 32) ≡ true = ap (λ n. not (eqb n 32)) (sym e) ∙ both.0 in absurd cc, no_space_by more both.1)
-
-no_space_at : (words : List (List ℕ)) (n : ℕ) (word : List ℕ) → all_have_none words ≡ true → slice_get words n ≡ Some word → NoSpace word
-no_space_at [] n word all is = absurd cc
-no_space_at (w ∷ words) zero word all is =
-    let e : w ≡ word = cc in
-    subst NoSpace e (no_space_by w (and_parts (has_none w) (all_have_none words) all).0)
-no_space_at (w ∷ words) (suc n) word all is = no_space_at words n word (and_parts (has_none w) (all_have_none words) all).1 is
-
-chosen_is : (b : Bool) (text word : List ℕ) → cond b (Some text) None ≡ Some word → text ≡ word
-chosen_is true text word is = cc
-chosen_is false text word is = absurd cc
-
-pub word_no_space : (choice : Choice) (n : ℕ) (word : List ℕ) → word_of choice n ≡ Some word → NoSpace word
-word_no_space field.Mode n word is = no_space_at mode_words n word refl is
-word_no_space field.Place n word is = no_space_at place_words n word refl is
-word_no_space (field.Port true) n word is = no_space_at (port_words true) n word refl is
-word_no_space (field.Port false) n word is = no_space_at (port_words false) n word refl is
-word_no_space field.Bit n word is =
-    let below = word_below field.Bit n word is in
-    subst NoSpace (chosen_is (nat_lt n 128) (decimal n) word is) (decimal_no_space n (omega arith))
-word_no_space (field.Control bit) n word is =
-    let below = word_below (field.Control bit) n word is in
-    subst NoSpace (chosen_is (is_control bit n) (decimal n) word is) (decimal_no_space n (omega arith))
-
--- Words and what they stand for.
-abbrev mode_back : List ℕ → Mode
-mode_back word = cond (eqb (get_or word 0 0) 105) Inv (cond (eqb (get_or word 4 0) 116) (cond (eqb (get_or word 5 0) 48) Const0 Const1) (cond (eqb (get_or word 4 0) 48) Cnot0 Cnot1))
-
-back_of_mode : (mode : Mode) → mode_back (mode_text mode) ≡ mode
-back_of_mode Inv = refl
-back_of_mode Const0 = refl
-back_of_mode Const1 = refl
-back_of_mode Cnot0 = refl
-back_of_mode Cnot1 = refl
-
-mode_same : (a b : Mode) → mode_text a ≡ mode_text b → a ≡ b
-mode_same a b e = sym (back_of_mode a) ∙ ap mode_back e ∙ back_of_mode b
-
-mode_fits : (mode : Mode) → IsWordOf field.Mode (mode_text mode)
-mode_fits Inv = (0, refl)
-mode_fits Const0 = (1, refl)
-mode_fits Const1 = (2, refl)
-mode_fits Cnot0 = (3, refl)
-mode_fits Cnot1 = (4, refl)
-
-mode_at : (n : ℕ) (word : List ℕ) → slice_get mode_words n ≡ Some word → (mode : Mode) × (mode_text mode ≡ word)
-mode_at zero word is = (Inv, cc)
-mode_at (suc zero) word is = (Const0, cc)
-mode_at (suc (suc zero)) word is = (Const1, cc)
-mode_at (suc (suc (suc zero))) word is = (Cnot0, cc)
-mode_at (suc (suc (suc (suc zero)))) word is = (Cnot1, cc)
-mode_at (suc (suc (suc (suc (suc n))))) word is = absurd cc
-
-back_of_place : (is_cell : Bool) → eqb (get_or (place_text is_cell) 0 0) 99 ≡ is_cell
-back_of_place true = refl
-back_of_place false = refl
-
-place_same : (a b : Bool) → place_text a ≡ place_text b → a ≡ b
-place_same a b e = sym (back_of_place a) ∙ ap (λ w. eqb (get_or w 0 0) 99) e ∙ back_of_place b
-
-place_fits : (is_cell : Bool) → IsWordOf field.Place (place_text is_cell)
-place_fits true = (0, refl)
-place_fits false = (1, refl)
-
-pub place_at : (n : ℕ) (word : List ℕ) → slice_get place_words n ≡ Some word → place_text (eqb n 0) ≡ word
-place_at zero word is = cc
-place_at (suc zero) word is = cc
-place_at (suc (suc n)) word is = absurd cc
-
-mode_no_space : (mode : Mode) → NoSpace (mode_text mode)
-mode_no_space mode = let fits = mode_fits mode in word_no_space field.Mode fits.0 (mode_text mode) fits.1
-
-place_no_space : (is_cell : Bool) → NoSpace (place_text is_cell)
-place_no_space is_cell = let fits = place_fits is_cell in word_no_space field.Place fits.0 (place_text is_cell) fits.1
-
--- a site with these fields
-abbrev pub plain_control : Mode → ℕ → Option ℕ
-plain_control Inv bit = None
-plain_control Const0 bit = None
-plain_control Const1 bit = None
-plain_control Cnot0 zero = Some 1
-plain_control Cnot0 (suc bit) = Some 0
-plain_control Cnot1 zero = Some 1
-plain_control Cnot1 (suc bit) = Some 0
-
-has_control : (mode : Mode) (bit : ℕ) → HasControl mode bit (plain_control mode bit)
-has_control Inv bit = refl
-has_control Const0 bit = refl
-has_control Const1 bit = refl
-has_control Cnot0 zero = (refl, refl)
-has_control Cnot0 (suc bit) = (refl, later_control bit)
-has_control Cnot1 zero = (refl, refl)
-has_control Cnot1 (suc bit) = (refl, later_control bit)
-
-letter_name : IsName (97 ∷ [])
-letter_name = record { some = omega arith; text = letter }
-
-abbrev pub plain_site : Mode → Bool → ℕ → SiteText
-plain_site mode is_cell bit = record {
-  mode = mode;
-  top = 97 ∷ [];
-  is_cell = is_cell;
-  name = 97 ∷ [];
-  port = codes "D";
-  bit = bit;
-  control = plain_control mode bit;
-  file = 97 ∷ [];
-  line = 1;
-}
-
-d_port : (is_cell : Bool) → IsWordOf (field.Port is_cell) (codes "D")
-d_port true = (3, refl)
-d_port false = (0, refl)
-
-pub plain_fields : (mode : Mode) (is_cell : Bool) (bit : ℕ) → bit < 128 → IsSite (plain_site mode is_cell bit)
-plain_fields mode is_cell bit below = record {
-  top = letter_name;
-  name = letter_name;
-  port = d_port is_cell;
-  bit = below;
-  control = has_control mode bit;
-  file = letter_name;
-  line_some = omega arith;
-  line_fits = omega arith;
-}
+use Rattle.site_texts.proofs.Words.{chosen_is, decimal_no_space, mode_at, mode_fits, mode_no_space, mode_same, place_at, place_fits, place_no_space, place_same, plain_fields, plain_site, word_no_space}
 
 -- the mode
 abbrev mode_field : SiteText → List ℕ
@@ -189,7 +39,7 @@ mode_behind mode word solid is = rest_stuck IsAny (HasMode mode) site_text mode_
     (λ site f k. record { with_field = record { site = site; fields = f; known = tt; spelled = ap mode_text k ∙ sym is }; same = refl })
 
 -- the top module's name
-abbrev with_top : List ℕ → SiteText → SiteText
+abbrev pub with_top : List ℕ → SiteText → SiteText
 with_top name site = record site { top = name }
 
 pub top_fields : (name : List ℕ) (site : SiteText) → IsName name → IsSite site → IsSite (with_top name site)
@@ -238,7 +88,7 @@ place_behind mode is_cell word solid is = rest_stuck (HasMode mode) (HasPlace mo
     (λ site f k. record { with_field = record { site = site; fields = f; known = k.0; spelled = ap place_text k.1 ∙ sym is }; same = refl })
 
 -- the name of the cell or register
-abbrev with_name : List ℕ → SiteText → SiteText
+abbrev pub with_name : List ℕ → SiteText → SiteText
 with_name name site = record site { name = name }
 
 pub name_fields : (name : List ℕ) (site : SiteText) → IsName name → IsSite site → IsSite (with_name name site)
@@ -270,7 +120,7 @@ name_behind mode is_cell name is = rest_stuck (HasPlace mode is_cell) (HasPlace 
     (λ site f k. record { with_field = record { site = with_name name site; fields = name_fields name site is f; known = k; spelled = refl }; same = refl })
 
 -- the port
-abbrev with_port : Bool → List ℕ → SiteText → SiteText
+abbrev pub with_port : Bool → List ℕ → SiteText → SiteText
 with_port is_cell port site = record site { is_cell = is_cell; port = port }
 
 pub port_fields : (is_cell : Bool) (port : List ℕ) (site : SiteText) → IsWordOf (field.Port is_cell) port → IsSite site → IsSite (with_port is_cell port site)
@@ -317,7 +167,7 @@ bit_field site = decimal site.bit
 bit_splits : (mode : Mode) → Splits (HasMode mode) bit_text bit_field control_text
 bit_splits mode = record { splits = λ site f k. refl }
 
-bit_is : (n : ℕ) (word : List ℕ) → word_of field.Bit n ≡ Some word → (decimal n ≡ word) × (n < 128)
+pub bit_is : (n : ℕ) (word : List ℕ) → word_of field.Bit n ≡ Some word → (decimal n ≡ word) × (n < 128)
 bit_is n word is = (chosen_is (nat_lt n 128) (decimal n) word is, word_below field.Bit n word is)
 
 bit_fits : (n : ℕ) → n < 128 → IsWordOf field.Bit (decimal n)
@@ -336,7 +186,7 @@ bit_behind mode bit word is =
     (λ site f k. record { with_field = record { site = site; fields = f; known = k.0; spelled = ap decimal k.1 ∙ b.0 }; same = refl })
 
 -- the control bit
-abbrev with_control : Mode → ℕ → Option ℕ → SiteText → SiteText
+abbrev pub with_control : Mode → ℕ → Option ℕ → SiteText → SiteText
 with_control mode bit control site = record site { mode = mode; bit = bit; control = control }
 
 pub control_fields : (mode : Mode) (bit : ℕ) (control : Option ℕ) (site : SiteText) → bit < 128 → HasControl mode bit control → IsSite site → IsSite (with_control mode bit control site)
@@ -428,115 +278,3 @@ control_behind mode bit n word reads below is =
       };
       same = refl;
     })
-
--- What was read of a site's fields, with the part behind them.
-pub mode_part : (mode : Mode) (word : List ℕ) → word ≡ mode_text mode → (Fields : SiteText → Type 0) (text behind : List ℕ) → text ≡ word ++ 32 ∷ behind → IsPart (HasMode mode) top_text Fields behind → IsPart IsAny site_text Fields text
-mode_part mode word is Fields text behind e part =
-    let s = part.rest in
-    record {
-      rest = record {
-        site = s.site;
-        fields = s.fields;
-        known = tt;
-        spelled = e ∙ ap (λ t. word ++ 32 ∷ t) s.spelled ∙ ap (λ w. w ++ 32 ∷ top_text s.site) (is ∙ ap mode_text (sym s.known));
-      };
-      fields = part.fields;
-    }
-
-pub top_part : (mode : Mode) (name : List ℕ) → IsName name → (place : PlaceText) (parts : Parts) → parts.mode ≡ mode → parts.top.now ≡ name → parts.place ≡ place → (text behind : List ℕ) → text ≡ name ++ 32 ∷ behind
-    → IsPart (HasMode mode) kind_text (AreOfPlace place) behind → IsPart (HasMode mode) top_text (AreOf parts) text
-top_part mode name is place parts of_mode of_top of_place text behind e part =
-    let s = part.rest in
-    record {
-      rest = record {
-        site = with_top name s.site;
-        fields = top_fields name s.site is s.fields;
-        known = s.known;
-        spelled = e ∙ ap (λ t. name ++ 32 ∷ t) s.spelled;
-      };
-      fields = (of_mode ∙ sym s.known, of_top, subst (λ (p : PlaceText). AreOfPlace p s.site) (sym of_place) part.fields);
-    }
-
-pub place_part : (mode : Mode) (is_cell : Bool) (word : List ℕ) → word ≡ place_text is_cell → (Fields : SiteText → Type 0) (text behind : List ℕ) → text ≡ word ++ 32 ∷ behind
-    → IsPart (HasPlace mode is_cell) name_text Fields behind → IsPart (HasMode mode) kind_text Fields text
-place_part mode is_cell word is Fields text behind e part =
-    let s = part.rest in
-    record {
-      rest = record {
-        site = s.site;
-        fields = s.fields;
-        known = s.known.0;
-        spelled = e ∙ ap (λ t. word ++ 32 ∷ t) s.spelled ∙ ap (λ w. w ++ 32 ∷ name_text s.site) (is ∙ ap place_text (sym s.known.1));
-      };
-      fields = part.fields;
-    }
-
-pub name_part : (mode : Mode) (is_cell : Bool) (name : List ℕ) → IsName name → (port : List ℕ) (bits : Bits) (place : PlaceText) → place.is_cell ≡ is_cell → place.name.now ≡ name → place.port.now ≡ port → place.bits ≡ bits
-    → (text behind : List ℕ) → text ≡ name ++ 32 ∷ behind → IsPart (HasPlace mode is_cell) port_text (AreOfPort port bits) behind → IsPart (HasPlace mode is_cell) name_text (AreOfPlace place) text
-name_part mode is_cell name is port bits place of_cell of_name of_port of_bits text behind e part =
-    let s = part.rest in
-    record {
-      rest = record {
-        site = with_name name s.site;
-        fields = name_fields name s.site is s.fields;
-        known = s.known;
-        spelled = e ∙ ap (λ t. name ++ 32 ∷ t) s.spelled;
-      };
-      fields = (of_cell ∙ sym s.known.1, of_name, (of_port ∙ part.fields.0, subst (λ (b : Bits). AreOfBits b s.site) (sym of_bits) part.fields.1));
-    }
-
-pub port_part : (mode : Mode) (is_cell : Bool) (port : List ℕ) → IsWordOf (field.Port is_cell) port → (bits : Bits) (text behind : List ℕ) → text ≡ port ++ 32 ∷ behind
-    → IsPart (HasMode mode) bit_text (AreOfBits bits) behind → IsPart (HasPlace mode is_cell) port_text (AreOfPort port bits) text
-port_part mode is_cell port is bits text behind e part =
-    let s = part.rest in
-    record {
-      rest = record {
-        site = with_port is_cell port s.site;
-        fields = port_fields is_cell port s.site is s.fields;
-        known = (s.known, refl);
-        spelled = e ∙ ap (λ t. port ++ 32 ∷ t) s.spelled;
-      };
-      fields = (refl, part.fields);
-    }
-
-pub bit_part : (mode : Mode) (bit : ℕ) (word : List ℕ) → word_of field.Bit bit ≡ Some word → (control : Option ℕ) (source : Source) (bits : Bits) → bits.bit ≡ bit → bits.control ≡ control → bits.source ≡ source
-    → (text behind : List ℕ) → text ≡ word ++ 32 ∷ behind → IsPart (HasBit mode bit) control_text (AreOfControl control source) behind → IsPart (HasMode mode) bit_text (AreOfBits bits) text
-bit_part mode bit word is control source bits of_bit of_control of_source text behind e part =
-    let s = part.rest in
-    record {
-      rest = record {
-        site = s.site;
-        fields = s.fields;
-        known = s.known.0;
-        spelled = e ∙ ap (λ t. word ++ 32 ∷ t) s.spelled ∙ ap (λ w. w ++ 32 ∷ control_text s.site) (sym (bit_is bit word is).0 ∙ ap decimal (sym s.known.1));
-      };
-      fields = (of_bit ∙ sym s.known.1, (of_control ∙ part.fields.0, subst (λ (o : Source). AreOfSource o s.site) (sym of_source) part.fields.1));
-    }
-
-pub none_part : (mode : Mode) (bit : ℕ) → reads_control mode ≡ false → bit < 128 → (source : Source) (text : List ℕ) → IsPart IsAny source_text (AreOfSource source) text → IsPart (HasBit mode bit) control_text (AreOfControl None source) text
-none_part mode bit none below source text part =
-    let s = part.rest in
-    record {
-      rest = record {
-        site = with_control mode bit None s.site;
-        fields = control_fields mode bit None s.site below none s.fields;
-        known = (refl, refl);
-        spelled = s.spelled;
-      };
-      fields = (refl, part.fields);
-    }
-
-pub control_part : (mode : Mode) (bit n : ℕ) (word : List ℕ) → reads_control mode ≡ true → bit < 128 → word_of (field.Control bit) n ≡ Some word → (source : Source) (text behind : List ℕ) → text ≡ word ++ 32 ∷ behind
-    → IsPart IsAny source_text (AreOfSource source) behind → IsPart (HasBit mode bit) control_text (AreOfControl (Some n) source) text
-control_part mode bit n word reads below is source text behind e part =
-    let s = part.rest in
-    let c = control_is mode bit n word reads is in
-    record {
-      rest = record {
-        site = with_control mode bit (Some n) s.site;
-        fields = control_fields mode bit (Some n) s.site below c.0 s.fields;
-        known = (refl, refl);
-        spelled = e ∙ ap (λ t. word ++ 32 ∷ t) s.spelled ∙ ap (λ w. w ++ 32 ∷ source_text s.site) (sym c.1);
-      };
-      fields = (refl, part.fields);
-    }

@@ -3,6 +3,8 @@ mod Splits
 mod Choosing
 mod Fronts
 mod Stuck
+mod Words
 mod Fields
+mod Joining
 mod Sources
 mod Reading

@@ -18,7 +18,7 @@ use Rattle.site_texts.specs.declared.source.Source.{Source}
 use Rattle.site_texts.specs.Names.{IsFront, IsName, IsSolid, is_blank}
 use Rattle.site_texts.specs.Rests.{AreOfSource, IsAny, IsLastColon, IsNoLine, IsNoSource, IsPart, IsRest, IsSource, IsStuck}
 use Rattle.site_texts.specs.SiteTexts.{IsSite, source_text}
-use Rattle.site_texts.proofs.Fields.{plain_fields, plain_site}
+use Rattle.site_texts.proofs.Words.{plain_fields, plain_site}
 use Rattle.site_texts.proofs.Fronts.{letter, solid-append}
 
 abbrev IsFull : ℕ → Type 0

@@ -3,7 +3,8 @@ use Rattle.site_texts.specs.declared.choice.Choice.TheVariants as field
 use Rattle.site_texts.specs.declared.parts.Bits.{Bits}
 use Rattle.site_texts.proofs.Choosing.{word_below}
 use Rattle.site_texts.proofs.Stuck.{handed_on, shorter}
-use Rattle.site_texts.proofs.Fields.{bit_behind, bit_part, bit_stuck}
+use Rattle.site_texts.proofs.Fields.{bit_behind, bit_stuck}
+use Rattle.site_texts.proofs.Joining.{bit_part}
 use Rattle.site_texts.proofs.parts.read_bits.Goals as goal
 
 pub returns-in_err-bit : goal.returns-in_err-bit

@@ -1,7 +1,8 @@
 use Rattle.std.proofs.Common.{◌≡◌, arith, false, true}
 use Rattle.site_texts.specs.SiteTexts.{reads_control}
 use Rattle.site_texts.proofs.Stuck.{handed_on, shorter}
-use Rattle.site_texts.proofs.Fields.{control_behind, control_part, control_stuck, none_part, none_stuck}
+use Rattle.site_texts.proofs.Fields.{control_behind, control_stuck, none_stuck}
+use Rattle.site_texts.proofs.Joining.{control_part, none_part}
 use Rattle.site_texts.proofs.parts.read_control.Goals as goal
 
 pub returns-in-Ok : goal.returns-in-Ok

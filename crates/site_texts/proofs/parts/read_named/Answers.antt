@@ -1,7 +1,8 @@
-use Rattle.std.proofs.Common.{arith, refl, rules}
+use Rattle.std.proofs.Common.{arith, refl}
 use Rattle.site_texts.specs.declared.parts.PlaceText.{PlaceText}
 use Rattle.site_texts.proofs.Stuck.{handed_on, shorter}
-use Rattle.site_texts.proofs.Fields.{name_behind, name_part, name_stuck}
+use Rattle.site_texts.proofs.Fields.{name_behind, name_stuck}
+use Rattle.site_texts.proofs.Joining.{name_part}
 use Rattle.site_texts.proofs.parts.read_named.Goals as goal
 
 pub returns-in_err-name : goal.returns-in_err-name
@@ -9,9 +10,6 @@ returns-in_err-name c = handed_on c.from_residual.result c.in_err-name.field-0.0
 
 pub fact_in-name : goal.fact_in-name
 fact_in-name c = c.in_ok-name.ensures.0.text.utf8
-
-pub fact_in-port : goal.fact_in-port
-fact_in-port c = search rules
 
 pub overflow_sub-result : goal.overflow_sub-result
 overflow_sub-result c = let r = c.in_ok-name.ensures in omega (arith, shorter c.in_ok-name.name.now c.in_ok-name.rest.now c.args.text.now r.1)

@@ -2,7 +2,9 @@ use Rattle.std.proofs.Common.{arith}
 use Rattle.site_texts.specs.declared.choice.Choice.TheVariants as field
 use Rattle.site_texts.specs.Rests.{AreOf}
 use Rattle.site_texts.proofs.Stuck.{handed_on, shorter}
-use Rattle.site_texts.proofs.Fields.{mode_behind, mode_part, mode_stuck, word_no_space}
+use Rattle.site_texts.proofs.Words.{word_no_space}
+use Rattle.site_texts.proofs.Fields.{mode_behind, mode_stuck}
+use Rattle.site_texts.proofs.Joining.{mode_part}
 use Rattle.site_texts.proofs.parts.read_parts.Goals as goal
 
 pub returns-in_err-number : goal.returns-in_err-number

@@ -2,7 +2,9 @@ use Rattle.std.proofs.Common.{arith, eqb, sym}
 use Rattle.site_texts.specs.declared.choice.Choice.TheVariants as field
 use Rattle.site_texts.specs.Rests.{AreOfPlace}
 use Rattle.site_texts.proofs.Stuck.{handed_on, shorter}
-use Rattle.site_texts.proofs.Fields.{place_at, place_behind, place_part, place_stuck, word_no_space}
+use Rattle.site_texts.proofs.Words.{place_at, word_no_space}
+use Rattle.site_texts.proofs.Fields.{place_behind, place_stuck}
+use Rattle.site_texts.proofs.Joining.{place_part}
 use Rattle.site_texts.proofs.parts.read_place.Goals as goal
 
 pub returns-in_err-number : goal.returns-in_err-number

@@ -2,7 +2,8 @@ use Rattle.std.proofs.Common.{ℕ, List, arith, subst, sym}
 use Rattle.site_texts.specs.Rests.{AreOfPort, HasPlace, IsPart}
 use Rattle.site_texts.specs.SiteTexts.{port_text}
 use Rattle.site_texts.proofs.Stuck.{handed_on, shorter}
-use Rattle.site_texts.proofs.Fields.{port_behind, port_part, port_stuck}
+use Rattle.site_texts.proofs.Fields.{port_behind, port_stuck}
+use Rattle.site_texts.proofs.Joining.{port_part}
 use Rattle.site_texts.proofs.parts.read_port.Goals as goal
 
 pub returns-in_err-number : goal.returns-in_err-number

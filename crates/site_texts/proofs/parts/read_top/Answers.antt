@@ -1,7 +1,8 @@
 use Rattle.std.proofs.Common.{arith, refl}
 use Rattle.site_texts.specs.declared.parts.Parts.{Parts}
 use Rattle.site_texts.proofs.Stuck.{handed_on, shorter}
-use Rattle.site_texts.proofs.Fields.{top_behind, top_part, top_stuck}
+use Rattle.site_texts.proofs.Fields.{top_behind, top_stuck}
+use Rattle.site_texts.proofs.Joining.{top_part}
 use Rattle.site_texts.proofs.parts.read_top.Goals as goal
 
 pub returns-in_err-top : goal.returns-in_err-top
