@@ -1,0 +1,4 @@
+mod OptionWords
+mod Turns
+mod RunWords
+mod Whole

@@ -1,0 +1,144 @@
+-- One word at a time: a word that names no flag is refused, or it is what it is without flags.
+use Rattle.std.proofs.Common.{◌≡◌, ◌∙◌, ℕ, Bool, cond, true, false, zero, suc, refl, sym, ap, subst, List, [], ◌∷◌, drop, length, Option, Some, None, inl, inr}
+use Rattle.std.specs.Prelude.{◌⊎◌, ⊤, bytes_eq, encode_utf8, slice_get}
+use Rattle.std.specs.Option.{option_map_or}
+use Rattle.std.specs.List.{fold}
+use Rattle.std.specs.Str.{chars}
+use Rattle.clap.specs.Lexer.{long_of, short_of}
+use Rattle.clap.specs.Walk.{Held, Names, Row, Step, Text, Waiting, Walk, after_flag, arg_by_index, arg_by_long, arg_by_short, bundle_met, bundle_step, finished, idle, long_or_other, plain, plain_word, settled, short_or_plain, subcommand_met, subcommand_or_other, trailing, walked, word_met}
+use Rattle.clap.specs.Simple.{Shape}
+use Rattle.clap.specs.Kinds.{Kinds, or_else}
+use Rattle.clap.specs.Faults.{bundle_fault, bundle_step_fault, check_fault, defaults_fault, flag_word_fault, flags_fault, long_fault, other_fault, positional_fault, settle_fault, short_fault, step_fault, stray_fault, turn_fault, walk_fault, word_fault}
+use Rattle.clap.specs.declared.error.ErrorKind.TheVariants.{UnknownArgument, InvalidSubcommand}
+use Rattle.command_words.specs.declared.command.Command.{Command}
+use Rattle.command_words.proofs.OptionWords.{long_parts, short_parts}
+
+abbrev pub dashes : Text
+dashes = 45 ∷ 45 ∷ []
+
+-- ---- refusals
+
+abbrev pub IsRefused : Kinds → Type 0
+IsRefused [] = ⊥
+IsRefused (k ∷ ks) = ⊤
+
+pub or_refused : (f g : Kinds) → IsRefused f → IsRefused (or_else f g)
+or_refused [] g h = absurd h
+or_refused (k ∷ ks) g h = tt
+
+-- what is answered where these kinds are the fault
+abbrev pub taken : Kinds → Option Command → Option Command
+taken [] command = command
+taken (k ∷ ks) command = None
+
+pub taken_refused : (f g : Kinds) (command : Option Command) → IsRefused f → taken (or_else f g) command ≡ None
+taken_refused [] g command h = absurd h
+taken_refused (k ∷ ks) g command h = refl
+
+pub taken_last : (f : Kinds) (command : Option Command) → taken (or_else f []) command ≡ taken f command
+taken_last [] command = refl
+taken_last (k ∷ ks) command = refl
+
+stray_refused : (s : Shape) → IsRefused (stray_fault s)
+stray_refused s = go s.is_leaf
+  where
+    go : (b : Bool) → IsRefused (cond b (UnknownArgument ∷ []) (UnknownArgument ∷ InvalidSubcommand ∷ []))
+    go true = tt
+    go false = tt
+
+-- ---- a word that names no flag
+
+-- the command has no flag of the word's name
+pub record KnowsNot (s : Shape) (word : Text) : Type 0 where
+  pub long : (p : Text × Option Text) → long_of word ≡ Some p → arg_by_long s.rules p.0 ≡ None
+  pub short : (c : ℕ) → arg_by_short s.rules c ≡ None
+
+abbrev pub Begins : Text → Type 0
+Begins word = (rest : Text) × (word ≡ 45 ∷ rest)
+
+abbrev pub holding : List Row → Option (Text × List Text) → Held
+holding rows pending = record { rows = rows; pending = pending; skip = 0 }
+
+abbrev pub at : Held → Waiting → Walk
+at h waiting = record { held = h; waiting = waiting; position = 1; is_trailing = false; stopped = None }
+
+module _ (s : Shape) (waiting : Waiting) (word : Text) (rows : List Row) (pending : Option (Text × List Text)) (knows : KnowsNot s word) where
+  abbrev h : Held
+  h = holding rows pending
+
+  abbrev IsMet : Kinds → Held × Step → Type 0
+  IsMet fault met = (IsRefused fault × Begins word) ⊎ ((fault ≡ []) × (met ≡ plain_word s.rules waiting word h))
+
+  flag_met : (begins : Begins word) (k : ℕ) (flags : Text) (c : Option ℕ) → IsMet (bundle_step_fault s.rules s.args_override_self c flags 0 h (flags_fault s.rules s.args_override_self k))
+      (after_flag s.rules waiting word (bundle_step s.rules c flags 0 plain h (bundle_met s.rules k)).0 (bundle_step s.rules c flags 0 plain h (bundle_met s.rules k)).1)
+  flag_met begins k flags None = inr (refl, refl)
+  flag_met begins k flags (Some x) =
+      let rest = drop (length (encode_utf8 x)) flags in
+      inl (subst (λ a. IsRefused (short_fault s.rules s.args_override_self a rest h (flags_fault s.rules s.args_override_self k rest 0))) (sym (knows.short x)) tt, begins)
+
+  flags_met : (begins : Begins word) (n : ℕ) (flags : Text) → IsMet (flags_fault s.rules s.args_override_self n flags 0 h)
+      (after_flag s.rules waiting word (bundle_met s.rules n flags 0 plain h).0 (bundle_met s.rules n flags 0 plain h).1)
+  unfolding flags_fault bundle_met
+  flags_met begins zero flags = inr (refl, refl)
+  flags_met begins (suc k) flags = flag_met begins k flags (slice_get (chars flags) 0)
+
+  short_met : (o : Option Text) → short_of word ≡ o → IsMet (option_map_or (λ flags. bundle_fault s.rules s.args_override_self flags h) o []) (short_or_plain s.rules waiting word o h)
+  short_met None e = inr (refl, refl)
+  short_met (Some flags) e = flags_met (short_parts word flags e) (length flags) flags
+
+  long_met : (o : Option (Text × Option Text)) → long_of word ≡ o → IsMet (flag_word_fault s.rules s.args_override_self o word h) (long_or_other s.rules waiting word o h)
+  long_met None e = short_met (short_of word) refl
+  long_met (Some p) e =
+      let parts = long_parts word p e in
+      inl (subst (λ a. IsRefused (long_fault s.rules s.args_override_self a p.1 h)) (sym (knows.long p e)) tt, (45 ∷ parts.0, parts.1))
+
+  pub word_is_met : (names : Names) → subcommand_met names waiting word ≡ None → bytes_eq word dashes ≡ false
+      → IsMet (word_fault s names false waiting word h) (word_met s.rules names false waiting 1 word h)
+  word_is_met names none dash =
+      subst (λ m. IsMet (other_fault s m word h) (subcommand_or_other s.rules m waiting 1 word h)) (sym none)
+      (subst (λ b. IsMet (cond b [] (flag_word_fault s.rules s.args_override_self (long_of word) word h)) (cond b (h, trailing 1) (long_or_other s.rules waiting word (long_of word) h))) (sym dash)
+      (long_met (long_of word) refl))
+
+-- where nothing waits for a value and there is no positional, it is refused
+met_idle : (s : Shape) (word : Text) (h : Held) (fault : Kinds) (met : Held × Step) → (IsRefused fault × Begins word) ⊎ ((fault ≡ []) × (met ≡ plain_word s.rules idle word h))
+    → arg_by_index s.rules 1 ≡ None → IsRefused (or_else fault (step_fault s 1 met.0 met.1))
+met_idle s word h fault met (inl r) index = or_refused fault (step_fault s 1 met.0 met.1) r.0
+met_idle s word h fault met (inr r) index =
+    subst (λ f. IsRefused (or_else f (step_fault s 1 met.0 met.1))) (sym r.0)
+    (subst (λ (m : Held × Step). IsRefused (step_fault s 1 m.0 m.1)) (sym r.1)
+    (subst (λ a. IsRefused (option_map_or (λ x. positional_fault s.rules s.args_override_self x h) a (stray_fault s))) (sym index) (stray_refused s)))
+
+pub stray : (s : Shape) (names : Names) (word : Text) (rows : List Row) (pending : Option (Text × List Text)) → KnowsNot s word → arg_by_index s.rules 1 ≡ None
+    → subcommand_met names idle word ≡ None → bytes_eq word dashes ≡ false → IsRefused (turn_fault s names (at (holding rows pending) idle) word)
+stray s names word rows pending knows index none dash =
+    met_idle s word (holding rows pending) (word_fault s names false idle word (holding rows pending)) (word_met s.rules names false idle 1 word (holding rows pending))
+    (word_is_met s idle word rows pending knows names none dash) index
+
+-- ---- a level of the parse, word by word
+
+-- the faults of the end
+abbrev pub end_fault : Shape → Held → Bool → Kinds
+end_fault s h has_subcommand =
+    or_else (settle_fault s.rules s.args_override_self h)
+    (or_else (defaults_fault (settled s.rules h).rows s.rules) (check_fault s (finished s.rules h) has_subcommand))
+
+-- the command that the words behind a subcommand give, from this place on, where its rows give `command`
+abbrev pub verdict : Shape → (List Row → Option Command) → Walk → List Text → Option Command
+verdict s command w words =
+    taken (or_else (walk_fault s [] w words) (end_fault s (fold (walked s.rules []) w words).held false)) (command (finished s.rules (fold (walked s.rules []) w words).held))
+
+module _ (s : Shape) (command : List Row → Option Command) (w : Walk) (word : Text) (rest : List Text) where
+  abbrev with_turn : Kinds → Walk → Option Command
+  with_turn f next =
+      taken (or_else (or_else f (walk_fault s [] next rest)) (end_fault s (fold (walked s.rules []) next rest).held false))
+      (command (finished s.rules (fold (walked s.rules []) next rest).held))
+
+  turn_first : verdict s command w (word ∷ rest) ≡ with_turn (turn_fault s [] w word) (walked s.rules [] w word)
+  unfolding walk_fault
+  turn_first = refl
+
+  pub refused_at : IsRefused (turn_fault s [] w word) → verdict s command w (word ∷ rest) ≡ None
+  refused_at h = turn_first ∙ taken_refused (or_else (turn_fault s [] w word) (walk_fault s [] (walked s.rules [] w word) rest)) _ _ (or_refused (turn_fault s [] w word) _ h)
+
+  pub moves_to : (next : Walk) → turn_fault s [] w word ≡ [] → walked s.rules [] w word ≡ next → verdict s command w (word ∷ rest) ≡ verdict s command next rest
+  moves_to next none step = turn_first ∙ ap (λ f. with_turn f (walked s.rules [] w word)) none ∙ ap (λ v. with_turn [] v) step

@@ -1,0 +1,21 @@
+-- The name of the subcommand and its rows make one pair.
+use Rattle.std.proofs.Common.{rules, ap, sym, codes, true≢false, ◌≡◌, ◌∙◌, List, Option, Some, None, option_map}
+use Rattle.std.specs.Option.{is_some, option_map_or}
+use Rattle.clap.specs.Words.{Row, Text, first_of, found_of, rows_of, subcommand_rows_of}
+use Rattle.clap.proofs.WalkLemmas.{first_value-rows}
+use Rattle.command_words.specs.Program.{command_by, command_named, run_by}
+use Rattle.command_words.proofs.reading.matched.Goals as goal
+
+paired : {X : Type 0} (f : X → Text × List Row) (o : Option X) (name : Text) (rows : List Row) → Some name ≡ option_map (λ b. (f b).0) o
+    → Some rows ≡ option_map (λ (p : Text × List Row). p.1) (option_map f o) → option_map f o ≡ Some (name, rows)
+paired f None name rows n r = absurd (true≢false (ap is_some n))
+paired f (Some b) name rows n r = λ i. Some (option_map_or (λ x. x) (sym n i) name, option_map_or (λ x. x) (sym r i) rows)
+
+pub returns-in-run : goal.returns-in-run
+returns-in-run c =
+    let rows : List Row = rows_of (found_of c.in_ok-name.inner.now) in
+    let found : subcommand_rows_of c.args.matches.now ≡ Some (c.in_ok-name.name.now, rows) = paired _ _ _ rows c.in_ok-name.ensures.name c.in_ok-name.ensures.rows in
+    let value : c.stopping.result ≡ run_by (first_of (codes "stop-after") rows) = c.stopping.ensures
+    ∙ ap run_by (c.get_str.ensures ∙ first_value-rows (found_of c.in_ok-name.inner.now) (codes "stop-after")) in
+    let is_run : c.in_ok-name.name.now ≡ codes "run" = search rules in
+    value ∙ sym (ap command_by found ∙ ap (λ name. command_named name rows) is_run)

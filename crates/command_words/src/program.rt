@@ -1,0 +1,26 @@
+//! The command line as `clap` knows it: a subcommand for each command, and the one option of `run`. `clap`'s own help is
+//! switched off, so that `help`, `-h` and `--help` are words that it does not know.
+ghost use Rattle.std.specs.Prelude.{◌≡◌, IfOk};
+ghost use Rattle.clap.specs.Words.{app_of};
+ghost use Rattle.command_words.specs.Program.{command_line};
+
+use clap::{Arg, ArgAction};
+use std::alloc::{AllocError, Global};
+
+/// The whole command line. No word before the command is the program's name, and none asks for help.
+pub(crate) fn command_line<'a>(alloc: Global) -> Result<clap::Command<'a>, AllocError>
+    ensures { IfOk result (λ line. app_of line ≡ command_line) }
+{
+    let stop_after = Arg::new(alloc, "stop-after")
+        .long("stop-after")
+        .action(ArgAction::Set);
+    let run = clap::Command::new(alloc, "run").arg(stop_after)?;
+    clap::Command::new(alloc, "mcy")
+        .no_binary_name(true)
+        .disable_help_flag(true)
+        .disable_help_subcommand(true)
+        .subcommand(clap::Command::new(alloc, "init"))?
+        .subcommand(run)?
+        .subcommand(clap::Command::new(alloc, "list"))?
+        .subcommand(clap::Command::new(alloc, "status"))
+}

@@ -1,0 +1,64 @@
+//! Reading the words after the program's name: `init`, `run`, `list` or `status`, alone, or `run` with its one option,
+//! `run --stop-after N` or `run --stop-after=N`.
+ghost use Rattle.std.specs.Prelude.{◌≡◌, IfOk, bytes_eq, codes, map, option_map, string_bytes};
+ghost use Rattle.std.specs.List.{list_any};
+ghost use Rattle.clap.specs.Words.{subcommand_rows_of};
+ghost use Rattle.command_words.specs.Commands.{command_of};
+ghost use Rattle.command_words.specs.Program.{command_by, run_by};
+
+use crate::command::{Command, run_until};
+use crate::program::command_line;
+use clap::ArgMatches;
+use clap::error::ErrorKind;
+use std::alloc::{AllocError, Global};
+
+/// The command that the words give, if they give one.
+pub fn read_words<'a>(alloc: Global, words: &'a [String]) -> Result<Option<Command>, AllocError>
+    ensures { IfOk result (λ command. command ≡ command_of (map string_bytes words.now)) }
+{
+    // `clap` takes a `--` behind which nothing stands.
+    if has_dashes(words) {
+        return Ok(None);
+    }
+    let command: clap::Command<'a> = command_line(alloc)?;
+    match command.try_get_matches_from(words) {
+        Ok(matches) => Ok(matched(&matches)),
+        Err(error) => {
+            if error.kind() == ErrorKind::OutOfMemory {
+                Err(AllocError)
+            } else {
+                Ok(None)
+            }
+        }
+    }
+}
+
+fn has_dashes(words: &[String]) -> bool
+    ensures { result ≡ list_any (λ word. bytes_eq (string_bytes word) (codes "--")) words.now }
+{
+    words.iter().any(|word| word.as_str() == "--")
+}
+
+/// The command that `clap` found in the words.
+fn matched(matches: &ArgMatches<'_>) -> Option<Command>
+    ensures { result ≡ command_by (subcommand_rows_of matches.now) }
+{
+    let (name, inner) = matches.subcommand()?;
+    match name {
+        "init" => Some(Command::Init),
+        "run" => stopping(inner.get_str("stop-after")),
+        "list" => Some(Command::List),
+        "status" => Some(Command::Status),
+        _ => None,
+    }
+}
+
+/// `run` with the value of its option, if it has one.
+fn stopping(number: Option<&str>) -> Option<Command>
+    ensures { result ≡ run_by (option_map (λ word. word.now) number.entry) }
+{
+    match number {
+        Some(word) => run_until(word),
+        None => Some(Command::Run { stop_after: None }),
+    }
+}
