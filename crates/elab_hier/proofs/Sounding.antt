@@ -11,6 +11,7 @@ use Rattle.flat_scopes.specs.declared.signal.Signal.{Signal}
 use Rattle.elab_expr.specs.Building.{AllBelow, Building, IsSignal, PortsBelow, empty, signal, with_declared}
 use Rattle.flat_runs.specs.Meanings.{Meaning}
 use Rattle.flat_runs.specs.Designs.{Design}
+use Rattle.flat_runs.specs.Finishing.{Begins}
 use Rattle.flat_runs.proofs.Lists.{contains_cases, contains_none}
 use Rattle.flat_runs.specs.Parts.{StandsBelow}
 use Rattle.flat_runs.proofs.Growing.{declared_stand, empty_stands}
@@ -22,9 +23,10 @@ use Rattle.flat_items.specs.declared.item.FlatItem.TheVariants as f
 use Rattle.flat_laws.specs.Sound.{AllStand, AreSized, HasBits, IsSound, ItemStands, NamesSignal, PlaceStands}
 use Rattle.elab_hier.specs.Designs.{register_of, registers_of, some_stores, width_in, widths_of}
 use Rattle.elab_hier.specs.Laws.{DesignsBegin, SoundAreDeclared}
-use Rattle.elab_hier.specs.Wires.{Stands}
+use Rattle.elab_hier.specs.Items.{Stands}
 use Rattle.elab_hier.specs.Signals.{declared}
 use Rattle.elab_hier.specs.Starts.{names_at, names_in}
+use Rattle.elab_hier.proofs.Starting.{declared_start}
 use Rattle.elab_hier.proofs.Declaring.{lengths, begun, owns, some_bits, widths_are, bits_width}
 
 counted : (ss : List Signal) → length (declared ss empty).signals ≡ length ss
@@ -75,7 +77,7 @@ stands_declared flat h = record {
 }
 
 pub declared_stands : SoundAreDeclared
-declared_stands flat h = stands_declared flat h
+declared_stands flat h = (stands_declared flat h, declared_start flat.signals)
 
 -- The registers of a design are signals.
 
@@ -100,8 +102,19 @@ register_in n m k ms (item ∷ more) h c = elim (Contains-append_cases (register
   | inr later ↦ register_in n m k ms more h.1 later
 ]
 
+begins_with : (b : Building) (design : Design) (starts : List ℕ) → Begins b design → Begins (record b { starts = starts }) design
+begins_with b design starts h = record {
+  cells = h.cells;
+  joints = h.joints;
+  registers = h.registers;
+  own = record { nets = h.own.nets; below = h.own.below; once = h.own.once };
+  widths = h.widths;
+  some = h.some;
+}
+
 pub designs_begin : DesignsBegin
-designs_begin ports clock flat design sound is =
-    begun flat.signals (declared flat.signals empty) design sound.sized refl
+designs_begin ports clock flat first design sound same is =
+    let begins : Begins (declared flat.signals empty) design = begun flat.signals (declared flat.signals empty) design sound.sized refl
     (λ k. ap (λ (d : Design). d.width k) is.2)
-    (λ k has. register_in (length flat.signals) (length flat.places) k is.0 flat.items sound.items (subst (λ (d : Design). Contains d.registers k) is.2 has))
+    (λ k has. register_in (length flat.signals) (length flat.places) k is.0 flat.items sound.items (subst (λ (d : Design). Contains d.registers k) is.2 has)) in
+    subst (λ (b : Building). Begins b design) (sym same) (begins_with (declared flat.signals empty) design first.starts begins)

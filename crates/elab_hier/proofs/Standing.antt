@@ -5,21 +5,35 @@ use Rattle.std.proofs.Math.Seq.{take-length}
 use Rattle.netlist_core.specs.declared.bit.Bit.{Bit}
 use Rattle.vlog_meaning.specs.declared.scope.Decl.{Decl}
 use Rattle.vlog_meaning.specs.declared.scope.Decl.TheVariants.{Signal, Constant}
+use Rattle.vlog_meaning.specs.declared.fault.ConstError.{ConstError}
 use Rattle.vlog_meaning.specs.Scopes.{Names}
+use Rattle.elab_proc.specs.declared.refusal.Refusal.{Refusal}
+use Rattle.elab_proc.specs.Order.{IsFirst}
+use Rattle.process_latches.specs.Refused.{process_refusals}
+use Rattle.elab_hier.specs.declared.error.Reason.TheVariants.{Found, Start}
 use Rattle.elab_expr.specs.Building.{Building, AllBelow, IsSignal, empty, signal}
-use Rattle.elab_expr.specs.Made.{Made}
 use Rattle.flat_runs.specs.Meanings.{Meaning}
 use Rattle.flat_runs.specs.Adding.{AddsItems}
 use Rattle.flat_runs.proofs.Signals.{below_more}
 use Rattle.flat_assigns.specs.Built.{IsReady}
+use Rattle.flat_items.specs.Flattened.{Flat}
 use Rattle.flat_items.specs.Places.{Place}
+use Rattle.flat_clocks.specs.Clocks.{Clocks}
 use Rattle.flat_items.specs.declared.item.FlatItem.{FlatItem}
-use Rattle.elab_hier.specs.Starts.{Widths, names_at, names_in}
+use Rattle.flat_items.specs.declared.item.FlatItem.TheVariants as f
+use Rattle.proc_muxes.specs.Working.{pending_of}
+use Rattle.process_cells.specs.Items.{Widths, AddsMeaning, widths_in}
+use Rattle.process_cells.specs.Ready.{HasPlaces}
+use Rattle.elab_hier.specs.declared.desk.Desk.{Desk}
+use Rattle.elab_hier.specs.Desks.{Serves}
+use Rattle.elab_hier.specs.Starts.{names_at, names_in, start_error}
 use Rattle.elab_hier.specs.Meanings.{AllMean}
 use Rattle.elab_hier.specs.Designs.{design_of, widths_of}
 use Rattle.elab_hier.specs.Signals.{declared}
-use Rattle.elab_hier.specs.Laws.{WiresAreAdded}
-use Rattle.elab_hier.specs.Wires.{Builds, BuildsAll, BuildsMeaning, Stands, item_cells, widths_in}
+use Rattle.elab_hier.specs.Laws.{ItemsAreAdded}
+use Rattle.elab_hier.specs.Starting.{AllStart, CanStart}
+use Rattle.elab_hier.specs.Items.{Builds, Refuses, Stands}
+use Rattle.elab_hier.specs.Timed.{BuildsAll}
 use Rattle.elab_hier.proofs.Declaring.{widths_are}
 
 -- the names of a scope that is there
@@ -29,7 +43,7 @@ names_found places k names h = go (slice_get places k) refl h where
   go (Some p) is e = let inner : p.names ≡ names = cc in ap names_in is ∙ inner
   go None is e = cc
 
-same_signal : (old new : Building) (d : Option Decl) → new.signals ≡ old.signals → old.nets ≤ new.nets → IsSignal old d → IsSignal new d
+pub same_signal : (old new : Building) (d : Option Decl) → new.signals ≡ old.signals → old.nets ≤ new.nets → IsSignal old d → IsSignal new d
 same_signal old new None same le h = tt
 same_signal old new (Some (Constant value is_signed)) same le h = tt
 same_signal old new (Some (Signal w low is_signed k)) same le h =
@@ -45,43 +59,82 @@ stands_on places old new same le ready h = record {
   narrow = subst (λ (l : List (List Bit)). (k : ℕ) → length (slice_index_or l k []) ≤ 128) (sym same) h.narrow;
 }
 
-meaning_stands : (places : List Place) (m : Option Meaning) (cells : List Made) (old new : Building) → BuildsMeaning old new m cells → Stands places old → Stands places new
-meaning_stands places None cells old new b h = subst (Stands places) (sym b) h
-meaning_stands places (Some m) cells old new b h = stands_on places old new b.adds.signals b.adds.nets b.ready h
-
 pub builds_stand : (inputs : List Bool) (places : List Place) (item : FlatItem) (old new : Building) → Builds inputs places item old new → Stands places old → Stands places new
-builds_stand inputs places item old new b h = meaning_stands places b.meaning (item_cells (widths_in old) places item) old new b.built h
+builds_stand inputs places item old new b h = go b.meaning b.adds where
+  go : (m : Option Meaning) → AddsMeaning old new m → Stands places new
+  go None adds = subst (Stands places) (sym adds) h
+  go (Some m) adds = stands_on places old new adds.signals adds.nets b.ready h
+
+-- What is at hand stays at hand.
+
+waits_on : (old new : Building) (waiting : List (List Bit)) → new.signals ≡ old.signals → old.nets ≤ new.nets → HasPlaces old waiting → HasPlaces new waiting
+waits_on old new waiting same le h = record {
+  count = h.count ∙ sym (ap (λ (l : List (List Bit)). length l) same);
+  below = λ n. below_more old.nets new.nets (pending_of waiting n) le (h.below n);
+}
+
+pub builds_serve : (inputs : List Bool) (places : List Place) (item : FlatItem) (old new : Building) (desk : Desk) → Builds inputs places item old new → Serves places old desk → Serves places new desk
+builds_serve inputs places item old new desk b h = go b.meaning b.adds where
+  go : (m : Option Meaning) → AddsMeaning old new m → Serves places new desk
+  go None adds = subst (λ (x : Building). Serves places x desk) (sym adds) h
+  go (Some m) adds = record { scopes = h.scopes; waiting = waits_on old new desk.waiting adds.signals adds.nets h.waiting }
 
 -- What all items add.
 
-widths_from : (a b : Building) → b.signals ≡ a.signals → widths_in b ≡ widths_in a
+pub widths_from : (a b : Building) → b.signals ≡ a.signals → widths_in b ≡ widths_in a
 widths_from a b same = ap (λ (l : List (List Bit)). λ (k : ℕ). length (slice_index_or l k [])) same
 
-widths_stay : (m : Option Meaning) (cells : List Made) (old new : Building) → BuildsMeaning old new m cells → widths_in new ≡ widths_in old
-widths_stay None cells old new b = ap widths_in b
-widths_stay (Some m) cells old new b = widths_from old new b.adds.signals
+pub widths_stay : (m : Option Meaning) (old new : Building) → AddsMeaning old new m → widths_in new ≡ widths_in old
+widths_stay None old new adds = ap widths_in adds
+widths_stay (Some m) old new adds = widths_from old new adds.signals
 
-adds_first : (m : Option Meaning) (ms : List Meaning) (cells : List Made) (old mid last : Building) → BuildsMeaning old mid m cells → AddsItems ms mid last → AddsItems (option_to_list m ++ ms) old last
-adds_first None ms cells old mid last b h = subst (λ (x : Building). AddsItems ms x last) b h
-adds_first (Some m) ms cells old mid last b h = (mid, b.adds, h)
+adds_first : (m : Option Meaning) (ms : List Meaning) (old mid last : Building) → AddsMeaning old mid m → AddsItems ms mid last → AddsItems (option_to_list m ++ ms) old last
+adds_first None ms old mid last adds h = subst (λ (x : Building). AddsItems ms x last) adds h
+adds_first (Some m) ms old mid last adds h = (mid, adds, h)
 
-all_added : (inputs : List Bool) (places : List Place) (items : List FlatItem) (old last : Building) → BuildsAll inputs places items old last → (ms : List Meaning) × AllMean (widths_in old) places items ms × AddsItems ms old last
-all_added inputs places [] old last h = ([], refl, h)
-all_added inputs places (item ∷ more) old last h =
+all_added : (inputs : List Bool) (flat : Flat) (clocks : Clocks) (items : List FlatItem) (old last : Building) → BuildsAll inputs flat clocks items old last → (ms : List Meaning) × AllMean (widths_in old) flat.places items ms × AddsItems ms old last
+all_added inputs flat clocks [] old last h = ([], refl, h)
+all_added inputs flat clocks (item ∷ more) old last h =
     let mid = h.0 in
-    let b = h.1 in
-    let later = all_added inputs places more mid last h.2 in
-    let cells = item_cells (widths_in old) places item in
-    let means = subst (λ (w : Widths). AllMean w places more later.0) (widths_stay b.meaning cells old mid b.built) later.1 in
-    (option_to_list b.meaning ++ later.0, (b.meaning, later.0, b.means, means, refl), adds_first b.meaning later.0 cells old mid last b.built later.2)
+    let b = h.1.builds in
+    let later = all_added inputs flat clocks more mid last h.2 in
+    let means = subst (λ (w : Widths). AllMean w flat.places more later.0) (widths_stay b.meaning old mid b.adds) later.1 in
+    (option_to_list b.meaning ++ later.0, (b.meaning, later.0, b.means, means, refl), adds_first b.meaning later.0 old mid last b.adds later.2)
 
-pub wires_added : WiresAreAdded
-wires_added ports clock flat inputs last h =
-    let first = declared flat.signals empty in
-    let found = all_added inputs flat.places flat.items first last h in
-    let same : widths_in first ≡ widths_of flat.signals = λ i k. widths_are flat.signals k i in
+-- Nothing is refused in the start values of items that are built.
+
+none_in : (x : Option Refusal) (xs : List Refusal) → IsFirst xs x → None ≡ option_map Found x → xs ≡ []
+none_in None xs h e = h
+none_in (Some r) xs h e = cc
+
+no_error : (x : Option ConstError) → None ≡ option_map Start x → x ≡ None
+no_error None e = refl
+no_error (Some k) e = cc
+
+start_accepted : (inputs : List Bool) (places : List Place) (item : FlatItem) (b : Building) → Refuses b inputs places item None → CanStart (widths_in b) places item
+start_accepted inputs places (f.Starts number k value) b h = no_error (start_error (names_at places k) value (widths_in b number)) h
+start_accepted inputs places (f.Runs k p) b h = (h.0, none_in h.1 (process_refusals (names_at places k) h.0 p) h.3 h.4)
+start_accepted inputs places (f.Declares k) b h = tt
+start_accepted inputs places (f.Assigns k left right) b h = tt
+start_accepted inputs places (f.Drives k net value) b h = tt
+start_accepted inputs places (f.Enters port k value) b h = tt
+start_accepted inputs places (f.Open port) b h = tt
+start_accepted inputs places (f.Leaves k value inside port) b h = tt
+start_accepted inputs places (f.Refuses error) b h = tt
+
+all_accepted : (inputs : List Bool) (flat : Flat) (clocks : Clocks) (items : List FlatItem) (old last : Building) → BuildsAll inputs flat clocks items old last → AllStart (widths_in old) flat.places items
+all_accepted inputs flat clocks [] old last h = tt
+all_accepted inputs flat clocks (item ∷ more) old last h =
+    let b = h.1.builds in
+    let later = all_accepted inputs flat clocks more h.0 last h.2 in
+    (start_accepted inputs flat.places item old b.accepted, subst (λ (w : Widths). AllStart w flat.places more) (widths_stay b.meaning old h.0 b.adds) later)
+
+pub items_added : ItemsAreAdded
+items_added ports clock flat inputs clocks first last begun h =
+    let found = all_added inputs flat clocks flat.items first last h in
+    let same : widths_in first ≡ widths_of flat.signals = widths_from (declared flat.signals empty) first (ap (λ (b : Building). b.signals) begun) ∙ (λ i k. widths_are flat.signals k i) in
     let means = subst (λ (w : Widths). AllMean w flat.places flat.items found.0) same found.1 in
-    (design_of ports clock flat found.0, (found.0, means, refl), found.2)
+    (design_of ports clock flat found.0, (found.0, means, refl), found.2, all_accepted inputs flat clocks flat.items first last h)
 
 -- What is left of a list whose first item is taken.
 pub rest_is : {A : Type 0} (l : List A) (x : A) (k : ℕ) → 1 ≤ length l → x ≡ get_or l 0 x → k ≡ length l - 1 → l ≡ x ∷ take k (drop 1 l)

@@ -13,7 +13,8 @@ use Rattle.flat_items.specs.Flattened.{Flat}
 use Rattle.flat_items.specs.Tops.{own_in}
 use Rattle.flat_items.specs.declared.item.FlatItem.{FlatItem}
 use Rattle.flat_items.specs.declared.item.FlatItem.TheVariants.{Declares}
-use Rattle.elab_hier.specs.Starts.{Widths, start_values}
+use Rattle.process_cells.specs.Items.{Widths}
+use Rattle.elab_hier.specs.Starts.{start_values}
 use Rattle.elab_hier.specs.Meanings.{AllMean}
 
 -- Signals, by their numbers.

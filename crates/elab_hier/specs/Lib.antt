@@ -2,5 +2,11 @@ pub mod Starts
 pub mod Meanings
 pub mod Designs
 pub mod Signals
-pub mod Wires
+pub mod Writers
+pub mod Items
+pub mod Starting
+pub mod Timed
+pub mod Desks
+pub mod Answers
+pub mod Full
 pub mod Laws

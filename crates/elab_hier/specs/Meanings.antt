@@ -13,7 +13,8 @@ use Rattle.flat_assigns.specs.Values.{right_value}
 use Rattle.flat_items.specs.Places.{Place}
 use Rattle.flat_items.specs.declared.item.FlatItem.{FlatItem}
 use Rattle.flat_items.specs.declared.item.FlatItem.TheVariants as f
-use Rattle.elab_hier.specs.Starts.{Widths, names_at}
+use Rattle.process_cells.specs.Items.{Widths, process_meaning}
+use Rattle.elab_hier.specs.Starts.{names_at}
 
 -- A connection of an input gives the whole port a value (12.3.9.2).
 abbrev pub entering : Widths → ℕ → Names → Expr → Meaning
@@ -24,7 +25,7 @@ abbrev pub opening : Widths → ℕ → Meaning
 opening width port = Assign (places_from port 0 (width port)) (λ store. 0)
 
 -- The item means this, or nothing that holds of a cycle. What an output is connected to is the left side of the same form.
--- Processes have no meaning yet.
+-- A process has the meaning that its list of events gives it; one that runs once has start values alone.
 abbrev pub Means : Widths → List Place → FlatItem → Option Meaning → Type 0
 Means width places (f.Declares k) m = m ≡ None
 Means width places (f.Assigns k left right) m = m ≡ Some (assignment (names_at places k) left (names_at places k) right)
@@ -32,7 +33,7 @@ Means width places (f.Drives k net value) m = m ≡ Some (assignment (names_at p
 Means width places (f.Enters port k value) m = m ≡ Some (entering width port (names_at places k) value)
 Means width places (f.Open port) m = m ≡ Some (opening width port)
 Means width places (f.Leaves k value inside port) m = (left : LeftSide) × (same_form left ≡ value) × (m ≡ Some (assignment (names_at places k) left (names_at places inside) (e.Name port)))
-Means width places (f.Runs k p) m = ⊥
+Means width places (f.Runs k p) m = m ≡ process_meaning width (names_at places k) p
 Means width places (f.Starts number k value) m = m ≡ None
 Means width places (f.Refuses error) m = m ≡ None
 

@@ -1,5 +1,5 @@
 //! Connections of the inputs of instances.
-ghost use Rattle.std.specs.Prelude.{◌≡◌, ◌<◌, ◌≤◌, ℕ, None, List, Bool, length, IfErr, OnOk};
+ghost use Rattle.std.specs.Prelude.{◌≡◌, ◌<◌, ◌≤◌, None, length, IfErr, OnOk};
 ghost use Rattle.vlog_meaning.specs.Answers.{least};
 ghost use Rattle.vlog_meaning.specs.Scopes.{names_of};
 ghost use Rattle.elab_expr.specs.Building.{HasSignals, signal};
@@ -9,12 +9,14 @@ ghost use Rattle.flat_assigns.specs.Built.{IsBuilt, IsReady};
 ghost use Rattle.flat_assigns.specs.Values.{right_cells, right_refusals, right_value};
 ghost use Rattle.flat_items.specs.Views.{flat_of};
 ghost use Rattle.flat_items.specs.declared.item.FlatItem.TheVariants.{Enters, Open};
-ghost use Rattle.elab_hier.specs.Wires.{Builds, Fails, FailsInput, Stands, input_error, unsupported, wrong};
+ghost use Rattle.elab_hier.specs.Items.{Builds, Fails, FailsInput, Stands, input_error, unsupported, wrong};
 
 use crate::error::{BuildError, Reason};
 use crate::sides::scope_at;
+use crate::writers::has_writer;
 use elab_expr::{Builder, ElabError};
-use flat_assigns::{Refusal, build_input, tie_input};
+use elab_proc::Refusal;
+use flat_assigns::{build_input, tie_input};
 use flat_items::Flat;
 use mcy_base::Span;
 use vlog_meaning::{Cause, Fault, Scope};
@@ -24,7 +26,7 @@ use vlog_syntax::{Expr, Feature};
 fn wrong(cause: Cause, span: Span) -> BuildError
     ensures { result ≡ wrong cause span }
 {
-    BuildError::Refused(Reason::Wire(Refusal::Wrong(Fault { cause, span })))
+    BuildError::Refused(Reason::Found(Refusal::Wrong(Fault { cause, span })))
 }
 
 /// What is not supported in a value.
@@ -72,54 +74,48 @@ fn enter(builder: &mut Builder, port: u32, value: &Expr, scope: &Scope) -> Resul
     }
 }
 
-/// Gives a port the value of an expression, where there is such a signal.
-fn enter_known(
-    builder: &mut Builder,
-    port: u32,
-    value: &Expr,
-    scope: &Scope,
-) -> Result<(), BuildError>
-    requires ready { IsReady builder.old }
-    requires signals { HasSignals (names_of scope.now) builder.old }
-    requires some { (k : ℕ) → k < length builder.old.signals → 1 ≤ length (signal builder.old k) }
-    requires narrow { (k : ℕ) → length (signal builder.old k) ≤ 128 }
-    ensures accepted { OnOk result (least (right_refusals (names_of scope.now) value.now (length (signal builder.old port))) ≡ None) }
-    ensures built { OnOk result (IsBuilt builder.old builder.new (Assign (whole builder.old port) (right_value (names_of scope.now) value.now (length (signal builder.old port)))) (right_cells (names_of scope.now) value.now (length (signal builder.old port)))) }
-    ensures fails { IfErr result (λ e. FailsInput (names_of scope.now) value.now (length (signal builder.old port)) (length builder.old.cells) e) }
-{
-    if port >= builder.signal_count() {
-        return Err(BuildError::Memory);
-    }
-    enter(builder, port, value, scope)
-}
-
 /// Builds the connection of an input of an instance to the value of an expression of a scope.
 #[tactic(auto, using(crate::proofs::Building::enters_built, crate::proofs::Building::enters_fail))]
 pub(crate) fn build_enter(
     builder: &mut Builder,
+    inputs: &[bool],
     flat: &Flat,
     port: u32,
     place: u32,
     value: &Expr,
 ) -> Result<(), BuildError>
     requires { Stands (flat_of flat.now).places builder.old }
-    ensures built { OnOk result ((inputs : List Bool) → Builds inputs (flat_of flat.now).places (Enters port place value.now) builder.old builder.new) }
-    ensures fails { IfErr result (λ e. (inputs : List Bool) → Fails inputs (flat_of flat.now).places (Enters port place value.now) builder.old e) }
+    ensures built { OnOk result (Builds inputs.now (flat_of flat.now).places (Enters port place value.now) builder.old builder.new) }
+    ensures fails { IfErr result (λ e. Fails inputs.now (flat_of flat.now).places (Enters port place value.now) builder.old e) }
 {
     let Some(scope) = scope_at(flat, place) else {
         return Err(BuildError::Memory);
     };
-    enter_known(builder, port, value, scope)
+    if port >= builder.signal_count() {
+        return Err(BuildError::Memory);
+    }
+    if has_writer(builder, inputs, port) {
+        return Err(BuildError::Memory);
+    }
+    enter(builder, port, value, scope)
 }
 
 /// Builds an input of an instance that nothing is connected to.
 #[tactic(auto, using(crate::proofs::Building::opens_built))]
-pub(crate) fn build_open(builder: &mut Builder, flat: &Flat, port: u32) -> Result<(), BuildError>
+pub(crate) fn build_open(
+    builder: &mut Builder,
+    inputs: &[bool],
+    flat: &Flat,
+    port: u32,
+) -> Result<(), BuildError>
     requires { Stands (flat_of flat.now).places builder.old }
-    ensures built { OnOk result ((inputs : List Bool) → Builds inputs (flat_of flat.now).places (Open port) builder.old builder.new) }
-    ensures fails { IfErr result (λ e. (inputs : List Bool) → Fails inputs (flat_of flat.now).places (Open port) builder.old e) }
+    ensures built { OnOk result (Builds inputs.now (flat_of flat.now).places (Open port) builder.old builder.new) }
+    ensures fails { IfErr result (λ e. Fails inputs.now (flat_of flat.now).places (Open port) builder.old e) }
 {
     if port >= builder.signal_count() {
+        return Err(BuildError::Memory);
+    }
+    if has_writer(builder, inputs, port) {
         return Err(BuildError::Memory);
     }
     match tie_input(builder, port) {

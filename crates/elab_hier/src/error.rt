@@ -2,18 +2,21 @@
 ghost use Rattle.std.specs.Prelude.{◌≡◌};
 ghost use Rattle.elab_hier.specs.declared.error.BuildError.TheVariants.{Memory};
 
-use flat_assigns::Refusal;
+use elab_proc::Refusal;
 use flat_items::ItemError;
 use mcy_base::Kind;
 use std::alloc::AllocError;
+use vlog_meaning::ConstError;
 
 /// Why an item is refused.
 #[derive(Clone, Copy, Debug, PartialEq, Eq)]
 pub enum Reason {
     /// It is listed as a refusal.
     Listed(ItemError),
-    /// What is refused in an assignment or a connection.
-    Wire(Refusal),
+    /// What is refused in an assignment, a connection or a process.
+    Found(Refusal),
+    /// A start value is no constant.
+    Start(ConstError),
 }
 
 /// Why a flattened design is not built.

@@ -1,7 +1,7 @@
 //! Left sides that outputs of instances are connected to, which stand in the tree as expressions.
 ghost use Rattle.std.specs.Prelude.{◌≡◌, map, IfOk};
 ghost use Rattle.vlog_syntax.specs.declared.left_side.LeftSide.TheVariants as l;
-ghost use Rattle.elab_hier.specs.Wires.{AreLefts, IsLeft};
+ghost use Rattle.elab_hier.specs.Items.{AreLefts, IsLeft};
 
 use mcy_base::Span;
 use std::alloc::{AllocError, Global};

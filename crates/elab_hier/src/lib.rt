@@ -1,17 +1,28 @@
 //! Flattened designs become netlists: their signals are declared, and their items are built one after the other.
 #![tactic(auto)]
 
+mod answer;
 mod connection;
+mod desk;
 mod error;
+mod full;
+mod item;
+mod items;
 mod laws;
 mod left;
+mod run;
 mod sides;
 mod signals;
-mod wire;
-mod wires;
+mod start;
+mod timed;
+mod writers;
 
+pub use answer::{ElabError, item_answer, reason_answer};
+pub use desk::Desk;
 pub use error::{BuildError, Reason};
-pub use laws::{sound_designs_are_declared, wires_are_added};
+pub use full::listed_before;
+pub use item::build_item;
+pub use items::build_items;
+pub use laws::{items_are_added, sound_designs_are_declared};
 pub use signals::declare_signals;
-pub use wire::build_wire;
-pub use wires::build_wires;
+pub use start::set_starts;

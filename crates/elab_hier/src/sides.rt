@@ -5,10 +5,11 @@ ghost use Rattle.elab_expr.specs.Building.{HasSignals};
 ghost use Rattle.flat_assigns.specs.Built.{IsReady};
 ghost use Rattle.flat_items.specs.Views.{flat_of};
 ghost use Rattle.elab_hier.specs.Starts.{names_at};
-ghost use Rattle.elab_hier.specs.Wires.{BuildsSides, FailsSides, Stands, assign_error};
+ghost use Rattle.elab_hier.specs.Items.{BuildsSides, FailsSides, Stands, assign_error, found_in};
 
 use crate::error::{BuildError, Reason};
 use elab_expr::Builder;
+use elab_proc::Refusal;
 use flat_assigns::{AssignError, build_assign};
 use flat_items::Flat;
 use vlog_meaning::Scope;
@@ -25,12 +26,24 @@ pub(crate) fn scope_at<'a>(flat: &'a Flat<'_>, number: u32) -> Option<&'a Scope>
     }
 }
 
+/// What is refused in an assignment.
+fn found_in(refusal: flat_assigns::Refusal) -> Reason
+    ensures { result ≡ found_in refusal }
+{
+    match refusal {
+        flat_assigns::Refusal::Wrong(fault) => Reason::Found(Refusal::Wrong(fault)),
+        flat_assigns::Refusal::TwoWriters(span, number) => {
+            Reason::Found(Refusal::TwoWriters(span, number))
+        }
+    }
+}
+
 /// Why an assignment is not built.
 fn assign_error(error: AssignError) -> BuildError
     ensures { result ≡ assign_error error }
 {
     match error {
-        AssignError::Refused(refusal) => BuildError::Refused(Reason::Wire(refusal)),
+        AssignError::Refused(refusal) => BuildError::Refused(found_in(refusal)),
         AssignError::TooMany(kind) => BuildError::TooMany(kind),
         AssignError::Memory => BuildError::Memory,
     }

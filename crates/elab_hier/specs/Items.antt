@@ -1,10 +1,12 @@
--- How the items of a flattened design are built that are assignments: why they are refused, which cells they add, and what is left.
-use Rattle.std.specs.Prelude.{◌≡◌, ◌⊎◌, ℕ, ◌+◌, ◌<◌, ◌≤◌, Bool, List, [], ◌∷◌, length, map, option_map, Option, None, Some}
+-- How the items of a flattened design are built: why they are refused, which cells they add, and what is left.
+use Rattle.std.specs.Prelude.{◌≡◌, ℕ, ◌+◌, ◌<◌, ◌≤◌, Bool, List, [], ◌++◌, length, map, option_map, Option, None, Some}
 use Rattle.mcy_base.specs.declared.kind.Kind.TheVariants.{Cells}
+use Rattle.netlist_core.specs.declared.cell.Cell.{Cell}
 use Rattle.vlog_syntax.specs.declared.expr.Expr.{Expr}
 use Rattle.vlog_syntax.specs.declared.expr.Expr.TheVariants as e
 use Rattle.vlog_syntax.specs.declared.feature.Feature.{Feature}
 use Rattle.vlog_syntax.specs.declared.feature.Feature.TheVariants as feature
+use Rattle.vlog_syntax.specs.declared.item.Process.{Process as Tree}
 use Rattle.vlog_syntax.specs.declared.left_side.LeftSide.{LeftSide}
 use Rattle.vlog_syntax.specs.declared.left_side.LeftSide.TheVariants as l
 use Rattle.mcy_base.specs.declared.span.Span.{Span}
@@ -18,35 +20,38 @@ use Rattle.vlog_effects.specs.Expressions.{width_of}
 use Rattle.elab_expr.specs.declared.error.ElabError.{ElabError}
 use Rattle.elab_expr.specs.declared.error.ElabError.TheVariants as elab
 use Rattle.elab_expr.specs.Building.{Building, HasSignals, signal}
-use Rattle.elab_expr.specs.Made.{Made}
+use Rattle.elab_expr.specs.Made.{Made, made_of}
 use Rattle.elab_expr.specs.Refusals.{max_cells}
+use Rattle.elab_proc.specs.declared.refusal.Refusal.{Refusal}
+use Rattle.elab_proc.specs.declared.refusal.Refusal.TheVariants.{Wrong, TwoWriters}
+use Rattle.elab_proc.specs.Order.{IsFirst}
 use Rattle.elab_proc.specs.Refusals.{same_form}
 use Rattle.flat_runs.specs.Meanings.{Meaning}
-use Rattle.flat_assigns.specs.declared.refusal.Refusal.{Refusal}
-use Rattle.flat_assigns.specs.declared.refusal.Refusal.TheVariants.{Wrong}
+use Rattle.flat_assigns.specs.declared.refusal.Refusal.{Refusal as AssignRefusal}
+use Rattle.flat_assigns.specs.declared.refusal.Refusal.TheVariants as assigned
 use Rattle.flat_assigns.specs.declared.refusal.AssignError.{AssignError}
 use Rattle.flat_assigns.specs.declared.refusal.AssignError.TheVariants as assign
 use Rattle.flat_assigns.specs.Assignments.{IsRefusal, assignment}
 use Rattle.flat_assigns.specs.Built.{IsBuilt, IsReady}
 use Rattle.flat_assigns.specs.Sides.{left_width}
 use Rattle.flat_assigns.specs.Values.{right_cells, right_refusals}
+use Rattle.process_events.specs.Events.{sensitivity}
+use Rattle.process_latches.specs.Refused.{process_refusals}
+use Rattle.process_cells.specs.Items.{Widths, AddsMeaning, AddsProcess, BuildsBy, process_cells, process_steps, widths_in}
 use Rattle.flat_items.specs.Places.{Place}
 use Rattle.flat_items.specs.declared.item.FlatItem.{FlatItem}
 use Rattle.flat_items.specs.declared.item.FlatItem.TheVariants as f
 use Rattle.elab_hier.specs.declared.error.BuildError.{BuildError}
 use Rattle.elab_hier.specs.declared.error.BuildError.TheVariants.{Refused, TooMany, Memory}
 use Rattle.elab_hier.specs.declared.error.Reason.{Reason}
-use Rattle.elab_hier.specs.declared.error.Reason.TheVariants.{Listed, Wire}
-use Rattle.elab_hier.specs.Starts.{Widths, names_at}
+use Rattle.elab_hier.specs.declared.error.Reason.TheVariants.{Listed, Found, Start}
+use Rattle.elab_hier.specs.Starts.{names_at, start_error}
 use Rattle.elab_hier.specs.Meanings.{Means}
-
--- how many bits each signal of a builder has
-abbrev pub widths_in : Building → Widths
-widths_in b k = length (signal b k)
+use Rattle.elab_hier.specs.Writers.{HasWriter, TellsWriters}
 
 -- Cells.
 
--- The cells of an item: those of the right side of the assignment that it is, where its left side has so many bits.
+-- The cells of an item that is an assignment: those of its right side, where its left side has so many bits.
 abbrev pub item_cells : Widths → List Place → FlatItem → List Made
 item_cells width places (f.Assigns k left right) = right_cells (names_at places k) right (left_width (names_at places k) left)
 item_cells width places (f.Drives k net value) = right_cells (names_at places k) value (left_width (names_at places k) (l.Name net))
@@ -54,14 +59,28 @@ item_cells width places (f.Enters port k value) = right_cells (names_at places k
 item_cells width places (f.Leaves k value inside port) = right_cells (names_at places inside) (e.Name port) (width_of (names_at places k) value)
 item_cells width places other = []
 
+-- how many cells an item adds
+abbrev pub cell_count : Widths → List Place → FlatItem → ℕ
+cell_count width places (f.Runs k p) = process_cells (names_at places k) p
+cell_count width places item = length (item_cells width places item)
+
 -- Refusals.
+
+-- what is refused in an assignment, as it is answered
+abbrev pub found_in : AssignRefusal → Reason
+found_in (assigned.Wrong x) = Found (Wrong x)
+found_in (assigned.TwoWriters span number) = Found (TwoWriters span number)
 
 -- the first refusal of an assignment, or none
 abbrev pub RefusesSides : Building → List Bool → Names → LeftSide → Names → Expr → Option Reason → Type 0
-RefusesSides b inputs lefts left rights right reason = (x : Option Refusal) × IsRefusal b inputs lefts left rights right x × (reason ≡ option_map Wire x)
+RefusesSides b inputs lefts left rights right reason = (x : Option AssignRefusal) × IsRefusal b inputs lefts left rights right x × (reason ≡ option_map found_in x)
 
 abbrev pub wrong_value : Fault → Reason
-wrong_value x = Wire (Wrong x)
+wrong_value x = Found (Wrong x)
+
+-- the first refusal of a process, or none, by the signals that have a writer already
+abbrev pub RefusesProcess : Building → List Bool → Names → Tree → Option Reason → Type 0
+RefusesProcess b inputs names p reason = (written : List Bool) × (x : Option Refusal) × TellsWriters b inputs written × IsFirst (process_refusals names written p) x × (reason ≡ option_map Found x)
 
 -- The first refusal of an item in this builder, or none. An item that lists a refusal is refused for it.
 abbrev pub Refuses : Building → List Bool → List Place → FlatItem → Option Reason → Type 0
@@ -71,8 +90,8 @@ Refuses b inputs places (f.Drives k net value) reason = RefusesSides b inputs (n
 Refuses b inputs places (f.Enters port k value) reason = reason ≡ option_map wrong_value (least (right_refusals (names_at places k) value (widths_in b port)))
 Refuses b inputs places (f.Open port) reason = reason ≡ None
 Refuses b inputs places (f.Leaves k value inside port) reason = (left : LeftSide) × (same_form left ≡ value) × RefusesSides b inputs (names_at places k) left (names_at places inside) (e.Name port) reason
-Refuses b inputs places (f.Runs k p) reason = ⊥
-Refuses b inputs places (f.Starts number k value) reason = reason ≡ None
+Refuses b inputs places (f.Runs k p) reason = RefusesProcess b inputs (names_at places k) p reason
+Refuses b inputs places (f.Starts number k value) reason = reason ≡ option_map Start (start_error (names_at places k) value (widths_in b number))
 Refuses b inputs places (f.Refuses error) reason = reason ≡ Some (Listed error)
 
 -- What is built.
@@ -84,22 +103,36 @@ pub record Stands (places : List Place) (b : Building) : Type 0 where
   pub some : (k : ℕ) → k < length b.signals → 1 ≤ length (signal b k)
   pub narrow : (k : ℕ) → length (signal b k) ≤ 128
 
--- what an item means is added with just its cells; one that says nothing of a cycle changes nothing
-abbrev pub BuildsMeaning : Building → Building → Option Meaning → List Made → Type 0
-BuildsMeaning old new None cells = new ≡ old
-BuildsMeaning old new (Some m) cells = IsBuilt old new m cells
+-- just these cells were added
+pub record AddsCells (old new : Building) (made : List Made) : Type 0 where
+  pub more : List Cell
+  pub cells : new.cells ≡ old.cells ++ more
+  pub are : map made_of more ≡ made
+  pub registers : new.registers ≡ old.registers
 
--- Processes are not built yet.
-abbrev pub IsWire : FlatItem → Type 0
-IsWire (f.Runs k p) = ⊥
-IsWire other = Unit {0}
+-- The parts that an item adds, in their order: cells of a right side; or the cells of statements, with the joints or registers of
+-- their variables.
+abbrev pub HasParts : List Place → FlatItem → Building → Building → Type 0
+HasParts places (f.Runs k p) old new = BuildsBy (sensitivity p) (process_steps (names_at places k) p) old new
+HasParts places item old new = AddsCells old new (item_cells (widths_in old) places item)
 
--- An item is built, in which nothing is refused.
+-- an input of an instance that gets its value has no writer before
+abbrev pub IsNewPort : Building → List Bool → FlatItem → Type 0
+IsNewPort b inputs (f.Enters port k value) = ¬ HasWriter b inputs port
+IsNewPort b inputs (f.Open port) = ¬ HasWriter b inputs port
+IsNewPort b inputs item = Unit {0}
+
+-- An item is built, in which nothing is refused: what it means is added, or where it says nothing of a cycle, nothing.
 pub record Builds (inputs : List Bool) (places : List Place) (item : FlatItem) (old new : Building) : Type 0 where
   pub accepted : Refuses old inputs places item None
   pub meaning : Option Meaning
   pub means : Means (widths_in old) places item meaning
-  pub built : BuildsMeaning old new meaning (item_cells (widths_in old) places item)
+  pub adds : AddsMeaning old new meaning
+  pub parts : HasParts places item old new
+  pub port : IsNewPort old inputs item
+  pub ready : IsReady new
+  pub declared : new.declared ≡ old.declared
+  pub starts : new.starts ≡ old.starts
 
 -- There is no room for so many cells: there would be too many, or there is no memory.
 abbrev pub IsShort : ℕ → BuildError → Type 0
@@ -110,24 +143,8 @@ IsShort cells other = ⊥
 -- An item is not built: it is refused, or there is no room for its cells.
 abbrev pub Fails : List Bool → List Place → FlatItem → Building → BuildError → Type 0
 Fails inputs places item old (Refused reason) = Refuses old inputs places item (Some reason)
-Fails inputs places item old (TooMany kind) = Refuses old inputs places item None × IsShort (length old.cells + length (item_cells (widths_in old) places item)) (TooMany kind)
+Fails inputs places item old (TooMany kind) = Refuses old inputs places item None × IsShort (length old.cells + cell_count (widths_in old) places item) (TooMany kind)
 Fails inputs places item old Memory = Unit {0}
-
--- Items, one after the other.
-
-abbrev pub AreWires : List FlatItem → Type 0
-AreWires [] = Unit {0}
-AreWires (item ∷ more) = IsWire item × AreWires more
-
--- all items are built
-abbrev pub BuildsAll : List Bool → List Place → List FlatItem → Building → Building → Type 0
-BuildsAll inputs places [] old new = new ≡ old
-BuildsAll inputs places (item ∷ more) old new = (mid : Building) × Builds inputs places item old mid × BuildsAll inputs places more mid new
-
--- An item is not built, where those before it are: the first one that is refused, or for which there is no room.
-abbrev pub FailsSome : List Bool → List Place → List FlatItem → Building → BuildError → Type 0
-FailsSome inputs places [] old error = ⊥
-FailsSome inputs places (item ∷ more) old error = Fails inputs places item old error ⊎ ((mid : Building) × Builds inputs places item old mid × FailsSome inputs places more mid error)
 
 -- The code's parts.
 
@@ -142,7 +159,7 @@ FailsSides inputs lefts left rights right old Memory = Unit {0}
 
 -- why an assignment is not built, as it is answered
 abbrev pub assign_error : AssignError → BuildError
-assign_error (assign.Refused refusal) = Refused (Wire refusal)
+assign_error (assign.Refused refusal) = Refused (found_in refusal)
 assign_error (assign.TooMany kind) = TooMany kind
 assign_error assign.Memory = Memory
 
@@ -180,3 +197,20 @@ input_error (elab.TooWide span) = wrong cause.TooWide span
 input_error (elab.Unsupported span x) = unsupported span x
 input_error (elab.TooMany kind) = TooMany kind
 input_error elab.Memory = Memory
+
+-- A process is built, or it is not.
+
+-- what is built of a process in a scope of these names
+pub record BuildsProcess (inputs : List Bool) (names : Names) (p : Tree) (old new : Building) : Type 0 where
+  pub accepted : RefusesProcess old inputs names p None
+  pub adds : AddsProcess names p old new
+  pub ready : IsReady new
+
+abbrev pub FailsProcess : List Bool → Names → Tree → Building → BuildError → Type 0
+FailsProcess inputs names p old (Refused reason) = RefusesProcess old inputs names p (Some reason)
+FailsProcess inputs names p old (TooMany kind) = RefusesProcess old inputs names p None × IsShort (length old.cells + process_cells names p) (TooMany kind)
+FailsProcess inputs names p old Memory = Unit {0}
+
+abbrev pub process_error : ElabError → BuildError
+process_error (elab.TooMany kind) = TooMany kind
+process_error other = Memory
