@@ -59,7 +59,7 @@ fn make_call<R: Print + AllocGlobal>(rt: &R, stage: &mut Stage, line: &str) -> i
 /// Prints the command that the words give.
 fn tell_command<R: Print + AllocGlobal>(rt: &R, line: &str) -> io::Result<()> {
     let words = words_of(rt.alloc(), line)?;
-    let command = read_words(&words)?;
+    let command = read_words(rt.alloc(), &words)?;
     println!(rt; "{line}: {command:?}")
 }
 

@@ -7,7 +7,7 @@ use Rattle.project_file.specs.declared.project.Project.{Project}
 use Rattle.project_file.specs.Projects.{design_files}
 use Rattle.result_book.specs.declared.check.BookError.{BookError}
 use Rattle.result_book.specs.declared.check.BookError.TheVariants.{Stray, Memory as NoMemoryFor}
-use Rattle.mcy_top.specs.declared.command.Command.{Command}
+use Rattle.command_words.specs.declared.command.Command.{Command}
 use Rattle.mcy_top.specs.declared.prepared.Prepared.{Prepared}
 use Rattle.mcy_top.specs.declared.outcome.Refusal.{Refusal}
 use Rattle.mcy_top.specs.declared.outcome.Refusal.TheVariants.{ProjectBad as RefusedProject, SourceBad as RefusedSource, Missing as RefusedMissing, TooLarge as RefusedTooLarge, ReadFault as RefusedRead, Memory as RefusedMemory, Unbuilt as RefusedUnbuilt}
@@ -16,7 +16,7 @@ use Rattle.mcy_top.specs.declared.outcome.BookRefusal.TheVariants.{NoCampaign as
 use Rattle.mcy_top.specs.declared.outcome.Outcome.{Outcome}
 use Rattle.mcy_top.specs.declared.outcome.Outcome.TheVariants.{Done, Unfinished, Usage, ProjectBad, SourceBad, Missing, TooLarge, NoCampaign, AlreadyBegun, BookBad, ReadFault, KeeperFault, WriteFault, Memory, Unbuilt}
 use Rattle.mcy_top.specs.Limits.{max_bytes}
-use Rattle.mcy_top.specs.Commands.{command_of}
+use Rattle.command_words.specs.Commands.{command_of}
 use Rattle.mcy_top.specs.Campaigns.{config_name, IsMade, IsPlan}
 use Rattle.mcy_top.specs.Reads.{AtSources, HasProject, IsNext, IsUnmade, IsUntaken, IsUntakenDesign}
 use Rattle.mcy_top.specs.Outcomes.{book_outcome, outcome_of}

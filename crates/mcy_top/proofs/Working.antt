@@ -12,8 +12,8 @@ use Rattle.result_book.specs.declared.check.BookError.TheVariants.{Meta, Mutatio
 use Rattle.result_book.specs.Scripts.{is_ended}
 use Rattle.result_book.specs.Rows.{ask_on, IsFinished, IsWellFormed}
 use Rattle.source_report.specs.Texts.{status_text}
-use Rattle.mcy_top.specs.declared.command.Command.{Command}
-use Rattle.mcy_top.specs.declared.command.Command.TheVariants.{Init, Run, List as Listing, Status}
+use Rattle.command_words.specs.declared.command.Command.{Command}
+use Rattle.command_words.specs.declared.command.Command.TheVariants.{Init, Run, List as Listing, Status}
 use Rattle.mcy_top.specs.declared.prepared.Prepared.{Prepared}
 use Rattle.mcy_top.specs.declared.work.Ending.{Ending}
 use Rattle.mcy_top.specs.declared.work.Ending.TheVariants.{Written, Refused, NoMemory}

@@ -5,13 +5,14 @@ use Rattle.mcy_keeper.specs.declared.book.Book.{Book}
 use Rattle.mcy_base.specs.declared.file.SourceFile.{SourceFile}
 use Rattle.mcy_outside.specs.Files.{Held}
 use Rattle.project_file.specs.declared.project.Project.{Project}
-use Rattle.mcy_top.specs.declared.command.Command.{Command}
+use Rattle.command_words.specs.declared.command.Command.{Command}
 use Rattle.mcy_top.specs.declared.prepared.Prepared.{Prepared}
 use Rattle.thin_source.specs.declared.thin.ThinModule.{ThinModule}
 use Rattle.mcy_top.specs.declared.outcome.Outcome.{Outcome}
 use Rattle.mcy_top.specs.declared.outcome.Outcome.TheVariants.{Done, Unfinished, Memory}
 use Rattle.step_trials.specs.Inputs.{max_free_bits}
-use Rattle.mcy_top.specs.Commands.{command_of, stop_of}
+use Rattle.command_words.specs.Commands.{command_of}
+use Rattle.mcy_top.specs.Commands.{stop_of}
 use Rattle.thin_source.specs.ThinModules.{input_names}
 use Rattle.mcy_top.specs.Campaigns.{IsDesign, IsMade}
 use Rattle.mcy_top.specs.Reads.{GotSources}

@@ -2,14 +2,14 @@
 use Rattle.std.specs.Prelude.{◌≡◌, ◌≢◌, ◌⊎◌, ℕ, List, Option, None, Some, ⊤}
 use Rattle.mcy_keeper.specs.declared.book.Book.{Book}
 use Rattle.mcy_outside.specs.Files.{Held}
-use Rattle.mcy_top.specs.declared.command.Command.{Command}
+use Rattle.command_words.specs.declared.command.Command.{Command}
 use Rattle.mcy_top.specs.declared.prepared.Prepared.{Prepared}
 use Rattle.mcy_top.specs.declared.outcome.Refusal.{Refusal}
 use Rattle.mcy_top.specs.declared.outcome.BookRefusal.{BookRefusal}
 use Rattle.mcy_top.specs.declared.outcome.BookRefusal.TheVariants.{Memory as NoMemory}
 use Rattle.mcy_top.specs.declared.outcome.Outcome.{Outcome}
 use Rattle.mcy_top.specs.declared.outcome.Outcome.TheVariants.{Usage, ReadFault, Memory}
-use Rattle.mcy_top.specs.Commands.{command_of}
+use Rattle.command_words.specs.Commands.{command_of}
 use Rattle.mcy_top.specs.Campaigns.{IsMade, IsPlan}
 use Rattle.mcy_top.specs.Reads.{IsUnmade}
 use Rattle.mcy_top.specs.Outcomes.{book_outcome, outcome_of}

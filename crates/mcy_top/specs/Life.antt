@@ -7,14 +7,15 @@ use Rattle.mcy_outside.specs.Files.{Held}
 use Rattle.result_book.specs.Scripts.{ask, is_ended}
 use Rattle.result_book.specs.Rows.{groups, IsFinished, IsWellFormed}
 use Rattle.mcy_outside.specs.Written.{Appends, AppendsPart}
-use Rattle.mcy_top.specs.declared.command.Command.{Command}
-use Rattle.mcy_top.specs.declared.command.Command.TheVariants.{Init, Run, List as Listing, Status}
+use Rattle.command_words.specs.declared.command.Command.{Command}
+use Rattle.command_words.specs.declared.command.Command.TheVariants.{Init, Run, List as Listing, Status}
 use Rattle.mcy_top.specs.declared.prepared.Prepared.{Prepared}
 use Rattle.mcy_top.specs.declared.outcome.Refusal.TheVariants.{ProjectBad as RefusedProject, SourceBad as RefusedSource, Missing as RefusedMissing, TooLarge as RefusedTooLarge, ReadFault as RefusedRead, Unbuilt as RefusedUnbuilt}
 use Rattle.mcy_top.specs.declared.outcome.BookRefusal.TheVariants.{NoCampaign as RefusedNone, AlreadyBegun as RefusedBegun, BookBad as RefusedBook}
 use Rattle.mcy_top.specs.declared.outcome.Outcome.{Outcome}
 use Rattle.mcy_top.specs.declared.outcome.Outcome.TheVariants.{Done, Unfinished, Usage, ProjectBad, SourceBad, Missing, TooLarge, NoCampaign, AlreadyBegun, BookBad, ReadFault, KeeperFault, WriteFault, Memory, Unbuilt}
-use Rattle.mcy_top.specs.Commands.{command_of, slots_of, stop_of, IsWithin, OnlyReads, Runs}
+use Rattle.command_words.specs.Commands.{command_of}
+use Rattle.mcy_top.specs.Commands.{slots_of, stop_of, IsWithin, OnlyReads, Runs}
 use Rattle.mcy_top.specs.Campaigns.{IsMade}
 use Rattle.mcy_top.specs.Reads.{IsUnmade}
 use Rattle.mcy_top.specs.BookRefusals.{RefusesBook}

@@ -3,8 +3,8 @@ use Rattle.std.specs.Prelude.{ℕ, List, ◌++◌, length, codes}
 use Rattle.mcy_keeper.specs.declared.book.Book.{Book}
 use Rattle.source_report.specs.Lists.{list_text}
 use Rattle.source_report.specs.Texts.{number_line, status_text}
-use Rattle.mcy_top.specs.declared.command.Command.{Command}
-use Rattle.mcy_top.specs.declared.command.Command.TheVariants.{Init, Run, List as Listing, Status}
+use Rattle.command_words.specs.declared.command.Command.{Command}
+use Rattle.command_words.specs.declared.command.Command.TheVariants.{Init, Run, List as Listing, Status}
 use Rattle.mcy_top.specs.declared.prepared.Prepared.{Prepared}
 
 -- the sites that there are, and the mutations that were taken

@@ -1,7 +1,6 @@
 //! One campaign from words to a text, over files, a keeper, a sink and a counter of steps.
 #![tactic(auto)]
 
-mod command;
 mod fault_lines;
 pub mod laws;
 mod main_call;
@@ -14,7 +13,7 @@ mod reading;
 mod running;
 mod work;
 
-pub use command::{Command, read_words};
+pub use command_words::{Command, read_words};
 pub use fault_lines::fault_line;
 pub use main_call::{mcy_call, mcy_main};
 pub use outcome::{Outcome, Part, SourceError, SourceFault, exit_status};

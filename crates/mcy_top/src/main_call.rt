@@ -1,13 +1,13 @@
 //! The one call of the program.
 ghost use Rattle.std.specs.Prelude.{◌≡◌, ◌⊎◌, ◌<◌, ℕ, map, string_bytes};
-ghost use Rattle.mcy_top.specs.declared.command.Command.{Command as Asked};
+ghost use Rattle.command_words.specs.declared.command.Command.{Command as Asked};
 ghost use Rattle.mcy_top.specs.Complete.{Completes, IsReady, NoneRose};
 ghost use Rattle.mcy_top.specs.Life.{Answered, Early, HasCause, IsQuiet, Life};
 
-use crate::command::read_words;
 use crate::outcome::Outcome;
 use crate::reading::read_campaign;
 use crate::work::{Task, failed};
+use command_words::read_words;
 use mcy_base::Steps;
 use mcy_keeper::Keeper;
 use mcy_outside::{Sink, SourceFiles};
@@ -64,7 +64,7 @@ fn carry_out_words<F: SourceFiles, K: Keeper, O: Sink, L: Ledger>(
     ensures life { K.tells keeper.new → Early (K.leaves keeper.old) (K.leaves keeper.new) steps.old steps.new result
         ⊎ Life (map string_bytes words.now) (F.held files.old) (K.holds keeper.old) (K.leaves keeper.old) (K.leaves keeper.new) (O.written out.old) (O.written out.new) steps.old steps.new result }
 {
-    let command = match read_words(words) {
+    let command = match read_words(alloc, words) {
         Ok(Some(command)) => command,
         Ok(None) => return Outcome::Usage,
         Err(_) => return Outcome::Memory,

@@ -13,13 +13,13 @@ ghost use Rattle.mcy_top.specs.BookRefusals.{told, RefusesBook};
 ghost use Rattle.mcy_top.specs.Endings.{ended_outcome, failed_outcome, run_outcome, Delivers, Ends};
 ghost use Rattle.mcy_top.specs.Running.{book_of};
 ghost use Rattle.mcy_top.specs.Life.{Work};
-ghost use Rattle.mcy_top.specs.declared.command.Command.{Command as Asked};
+ghost use Rattle.command_words.specs.declared.command.Command.{Command as Asked};
 ghost use Rattle.mcy_top.specs.declared.prepared.Prepared.{Prepared as Planned};
 
-use crate::command::Command;
 use crate::outcome::{BookRefusal, Outcome};
 use crate::prepared::Prepared;
 use crate::running::Tester;
+use command_words::Command;
 use mcy_base::Steps;
 use mcy_keeper::{Book, KeepError, Keeper};
 use mcy_outside::Sink;

@@ -3,7 +3,7 @@ use Rattle.mcy_keeper.specs.declared.book.Entry.{Entry}
 use Rattle.mcy_keeper.specs.declared.keeper.KeepError.{KeepError}
 use Rattle.mcy_keeper.specs.Books.{blank, LeavesEither}
 use Rattle.mcy_top.specs.Changes.{opened}
-use Rattle.mcy_top.specs.declared.command.Command.TheVariants.{Run}
+use Rattle.command_words.specs.declared.command.Command.TheVariants.{Run}
 use Rattle.mcy_top.specs.Running.{book_of}
 use Rattle.mcy_top.specs.Life.{Work}
 use Rattle.mcy_top.proofs.Plans.{plan_fit}

@@ -2,7 +2,7 @@ use Rattle.std.proofs.Common.{◌∙◌, ℕ, List, subst, refl, Result, OnErr}
 use Rattle.mcy_keeper.specs.declared.keeper.KeepError.{KeepError}
 use Rattle.mcy_keeper.specs.Books.{blank, LeavesEither}
 use Rattle.mcy_top.specs.Changes.{opened}
-use Rattle.mcy_top.specs.declared.command.Command.TheVariants.{Init}
+use Rattle.command_words.specs.declared.command.Command.TheVariants.{Init}
 use Rattle.mcy_top.specs.Endings.{Delivers}
 use Rattle.mcy_top.proofs.Working.{begin_left, work_init, work_unopened}
 use Rattle.mcy_top.proofs.work.Task.init.Goals as goal

@@ -1,4 +1,4 @@
-use Rattle.mcy_top.specs.declared.command.Command.TheVariants.{Run}
+use Rattle.command_words.specs.declared.command.Command.TheVariants.{Run}
 use Rattle.mcy_top.proofs.Working.{run_not_init, work_refused}
 use Rattle.mcy_top.proofs.work.Task.resume.Goals as goal
 

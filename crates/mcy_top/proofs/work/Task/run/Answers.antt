@@ -4,7 +4,7 @@ use Rattle.result_book.specs.Rows.{IsFinished}
 use Rattle.mcy_top.specs.declared.prepared.Prepared.{Prepared}
 use Rattle.source_report.specs.Texts.{status_text}
 use Rattle.mcy_top.specs.Endings.{run_outcome}
-use Rattle.mcy_top.specs.declared.command.Command.TheVariants.{Run}
+use Rattle.command_words.specs.declared.command.Command.TheVariants.{Run}
 use Rattle.mcy_top.specs.declared.outcome.BookRefusal.TheVariants.{Memory}
 use Rattle.mcy_top.specs.Running.{book_of, Broke, Ran, Reached}
 use Rattle.mcy_top.proofs.Working.{ending_ends, run_carried, work_broke, work_ran, work_refused}
