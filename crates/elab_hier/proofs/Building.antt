@@ -34,8 +34,8 @@ use Rattle.flat_assigns.specs.Assignments.{IsRefusal, assignment}
 use Rattle.flat_assigns.specs.Built.{IsBuilt, IsLimit, IsReady}
 use Rattle.flat_assigns.specs.Sides.{left_width}
 use Rattle.flat_assigns.specs.Values.{right_cells, right_refusals, right_value}
-use Rattle.flat_items.specs.Places.{Place}
-use Rattle.flat_items.specs.declared.item.FlatItem.TheVariants as f
+use Rattle.flat_instances.specs.Places.{Place}
+use Rattle.flat_instances.specs.declared.item.FlatItem.TheVariants as f
 use Rattle.elab_hier.specs.declared.error.BuildError.{BuildError}
 use Rattle.elab_hier.specs.declared.error.BuildError.TheVariants.{Refused, TooMany, Memory}
 use Rattle.process_cells.specs.Items.{widths_in}

@@ -20,8 +20,8 @@ use Rattle.elab_proc.specs.Order.{IsFirst}
 use Rattle.elab_expr.specs.Refusals.{IsShort as IsShortOf}
 use Rattle.process_latches.specs.Refused.{process_refusals}
 use Rattle.process_cells.specs.Items.{Adds, process_cells, process_meaning, widths_in}
-use Rattle.flat_items.specs.Places.{Place}
-use Rattle.flat_items.specs.declared.item.FlatItem.TheVariants as f
+use Rattle.flat_instances.specs.Places.{Place}
+use Rattle.flat_instances.specs.declared.item.FlatItem.TheVariants as f
 use Rattle.elab_hier.specs.declared.error.BuildError.{BuildError}
 use Rattle.elab_hier.specs.declared.error.BuildError.TheVariants.{Refused, TooMany, Memory}
 use Rattle.elab_hier.specs.declared.error.Reason.TheVariants.{Found}

@@ -17,9 +17,9 @@ use Rattle.flat_runs.specs.Parts.{StandsBelow}
 use Rattle.flat_runs.proofs.Growing.{declared_stand, empty_stands}
 use Rattle.flat_runs.proofs.Signals.{empty_owns}
 use Rattle.flat_items.specs.Flattened.{Flat}
-use Rattle.flat_items.specs.Places.{Place}
-use Rattle.flat_items.specs.declared.item.FlatItem.{FlatItem}
-use Rattle.flat_items.specs.declared.item.FlatItem.TheVariants as f
+use Rattle.flat_instances.specs.Places.{Place}
+use Rattle.flat_instances.specs.declared.item.FlatItem.{FlatItem}
+use Rattle.flat_instances.specs.declared.item.FlatItem.TheVariants as f
 use Rattle.flat_laws.specs.Sound.{AllStand, AreSized, HasBits, IsSound, ItemStands, NamesSignal, PlaceStands}
 use Rattle.elab_hier.specs.Designs.{register_of, registers_of, some_stores, width_in, widths_of}
 use Rattle.elab_hier.specs.Laws.{DesignsBegin, SoundAreDeclared}

@@ -17,10 +17,10 @@ use Rattle.flat_runs.specs.Adding.{AddsItems}
 use Rattle.flat_runs.proofs.Signals.{below_more}
 use Rattle.flat_assigns.specs.Built.{IsReady}
 use Rattle.flat_items.specs.Flattened.{Flat}
-use Rattle.flat_items.specs.Places.{Place}
+use Rattle.flat_instances.specs.Places.{Place}
 use Rattle.flat_clocks.specs.Clocks.{Clocks}
-use Rattle.flat_items.specs.declared.item.FlatItem.{FlatItem}
-use Rattle.flat_items.specs.declared.item.FlatItem.TheVariants as f
+use Rattle.flat_instances.specs.declared.item.FlatItem.{FlatItem}
+use Rattle.flat_instances.specs.declared.item.FlatItem.TheVariants as f
 use Rattle.proc_muxes.specs.Working.{pending_of}
 use Rattle.process_cells.specs.Items.{Widths, AddsMeaning, widths_in}
 use Rattle.process_cells.specs.Ready.{HasPlaces}

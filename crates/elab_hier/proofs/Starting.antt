@@ -12,9 +12,9 @@ use Rattle.elab_expr.specs.Building.{Building, empty, fresh_bits, signal, start_
 use Rattle.process_latches.specs.Refused.{process_refusals}
 use Rattle.process_cells.specs.Items.{Widths, widths_in}
 use Rattle.process_cells.specs.Starts.{SameButStarts, StartsWith, assigned_value, process_starts}
-use Rattle.flat_items.specs.Places.{Place}
-use Rattle.flat_items.specs.declared.item.FlatItem.{FlatItem}
-use Rattle.flat_items.specs.declared.item.FlatItem.TheVariants as f
+use Rattle.flat_instances.specs.Places.{Place}
+use Rattle.flat_instances.specs.declared.item.FlatItem.{FlatItem}
+use Rattle.flat_instances.specs.declared.item.FlatItem.TheVariants as f
 use Rattle.elab_hier.specs.Items.{Stands}
 use Rattle.elab_hier.specs.Signals.{declared}
 use Rattle.elab_hier.specs.Starting.{AllStart, CanStart}

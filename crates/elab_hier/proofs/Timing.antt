@@ -7,7 +7,7 @@ use Rattle.elab_proc.specs.Order.{IsFirst, limit, place, precedes, rank}
 use Rattle.mcy_base.specs.declared.kind.Kind.{Kind}
 use Rattle.elab_expr.specs.Building.{Building}
 use Rattle.flat_items.specs.Flattened.{Flat}
-use Rattle.flat_items.specs.declared.item.FlatItem.{FlatItem}
+use Rattle.flat_instances.specs.declared.item.FlatItem.{FlatItem}
 use Rattle.flat_clocks.specs.Clocks.{Clocks}
 use Rattle.flat_clocks.specs.Refusals.{clock_refusals}
 use Rattle.elab_hier.specs.declared.error.BuildError.TheVariants.{Refused, TooMany}

@@ -14,10 +14,10 @@ use Rattle.flat_scopes.specs.declared.range.RangeError.TheVariants as range
 use Rattle.flat_scopes.specs.declared.refusal.Refusal.{Refusal as Declaration}
 use Rattle.flat_scopes.specs.declared.refusal.Refusal.TheVariants as declaration
 use Rattle.flat_scopes.specs.declared.signal.Signal.{Signal}
-use Rattle.flat_items.specs.declared.error.ItemError.{ItemError}
-use Rattle.flat_items.specs.declared.error.ItemError.TheVariants as item
-use Rattle.flat_items.specs.declared.error.ParameterError.{ParameterError}
-use Rattle.flat_items.specs.declared.error.ParameterError.TheVariants as parameter
+use Rattle.flat_instances.specs.declared.error.ItemError.{ItemError}
+use Rattle.flat_instances.specs.declared.error.ItemError.TheVariants as item
+use Rattle.flat_instances.specs.declared.error.ParameterError.{ParameterError}
+use Rattle.flat_instances.specs.declared.error.ParameterError.TheVariants as parameter
 use Rattle.elab_hier.specs.declared.answer.ElabError.{ElabError}
 use Rattle.elab_hier.specs.declared.answer.ElabError.TheVariants.{DivideByZero, Latch, NotConstant, PortMismatch, Recursive, TooMany, TooWide, Twice, TwoWriters, Unknown, Unsupported}
 use Rattle.elab_hier.specs.declared.error.Reason.{Reason}

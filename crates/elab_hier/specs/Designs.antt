@@ -11,8 +11,8 @@ use Rattle.flat_runs.specs.Meanings.{Meaning, Assign, Combinational, Clocked}
 use Rattle.flat_runs.specs.Designs.{Design}
 use Rattle.flat_items.specs.Flattened.{Flat}
 use Rattle.flat_items.specs.Tops.{own_in}
-use Rattle.flat_items.specs.declared.item.FlatItem.{FlatItem}
-use Rattle.flat_items.specs.declared.item.FlatItem.TheVariants.{Declares}
+use Rattle.flat_instances.specs.declared.item.FlatItem.{FlatItem}
+use Rattle.flat_instances.specs.declared.item.FlatItem.TheVariants.{Declares}
 use Rattle.process_cells.specs.Items.{Widths}
 use Rattle.elab_hier.specs.Starts.{start_values}
 use Rattle.elab_hier.specs.Meanings.{AllMean}

@@ -4,7 +4,7 @@ use Rattle.vlog_meaning.specs.declared.scope.Decl.{Decl}
 use Rattle.vlog_meaning.specs.Scopes.{names_of}
 use Rattle.elab_expr.specs.Building.{Building}
 use Rattle.process_cells.specs.Ready.{HasPlaces}
-use Rattle.flat_items.specs.Places.{Place}
+use Rattle.flat_instances.specs.Places.{Place}
 use Rattle.elab_hier.specs.declared.desk.Desk.{Desk}
 use Rattle.elab_hier.specs.Starts.{names_at}
 

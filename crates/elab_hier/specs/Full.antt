@@ -1,9 +1,9 @@
 -- Designs with more bits than a builder can have.
 use Rattle.std.specs.Prelude.{ℕ, ◌+◌, nat_lt, List, [], ◌∷◌, Option, None, Some, if◌then◌else◌}
 use Rattle.process_cells.specs.Items.{Widths}
-use Rattle.flat_items.specs.declared.error.ItemError.{ItemError}
-use Rattle.flat_items.specs.declared.item.FlatItem.{FlatItem}
-use Rattle.flat_items.specs.declared.item.FlatItem.TheVariants as f
+use Rattle.flat_instances.specs.declared.error.ItemError.{ItemError}
+use Rattle.flat_instances.specs.declared.item.FlatItem.{FlatItem}
+use Rattle.flat_instances.specs.declared.item.FlatItem.TheVariants as f
 use Rattle.elab_hier.specs.Signals.{max_bits}
 
 -- The first item that is listed as refused before the signal that passes the limit, where those before it have so many bits.

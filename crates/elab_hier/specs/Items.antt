@@ -38,9 +38,9 @@ use Rattle.flat_assigns.specs.Values.{right_cells, right_refusals}
 use Rattle.process_events.specs.Events.{sensitivity}
 use Rattle.process_latches.specs.Refused.{process_refusals}
 use Rattle.process_cells.specs.Items.{Widths, AddsMeaning, AddsProcess, BuildsBy, process_cells, process_steps, widths_in}
-use Rattle.flat_items.specs.Places.{Place}
-use Rattle.flat_items.specs.declared.item.FlatItem.{FlatItem}
-use Rattle.flat_items.specs.declared.item.FlatItem.TheVariants as f
+use Rattle.flat_instances.specs.Places.{Place}
+use Rattle.flat_instances.specs.declared.item.FlatItem.{FlatItem}
+use Rattle.flat_instances.specs.declared.item.FlatItem.TheVariants as f
 use Rattle.elab_hier.specs.declared.error.BuildError.{BuildError}
 use Rattle.elab_hier.specs.declared.error.BuildError.TheVariants.{Refused, TooMany, Memory}
 use Rattle.elab_hier.specs.declared.error.Reason.{Reason}

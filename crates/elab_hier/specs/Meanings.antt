@@ -10,9 +10,9 @@ use Rattle.flat_runs.specs.Meanings.{Meaning, Assign}
 use Rattle.flat_runs.specs.Parts.{places_from}
 use Rattle.flat_assigns.specs.Assignments.{assignment}
 use Rattle.flat_assigns.specs.Values.{right_value}
-use Rattle.flat_items.specs.Places.{Place}
-use Rattle.flat_items.specs.declared.item.FlatItem.{FlatItem}
-use Rattle.flat_items.specs.declared.item.FlatItem.TheVariants as f
+use Rattle.flat_instances.specs.Places.{Place}
+use Rattle.flat_instances.specs.declared.item.FlatItem.{FlatItem}
+use Rattle.flat_instances.specs.declared.item.FlatItem.TheVariants as f
 use Rattle.process_cells.specs.Items.{Widths, process_meaning}
 use Rattle.elab_hier.specs.Starts.{names_at}
 

@@ -2,9 +2,9 @@
 use Rattle.std.specs.Prelude.{◌≡◌, Bool, List, [], ◌∷◌, None}
 use Rattle.process_latches.specs.Refused.{process_refusals}
 use Rattle.process_cells.specs.Items.{Widths}
-use Rattle.flat_items.specs.Places.{Place}
-use Rattle.flat_items.specs.declared.item.FlatItem.{FlatItem}
-use Rattle.flat_items.specs.declared.item.FlatItem.TheVariants as f
+use Rattle.flat_instances.specs.Places.{Place}
+use Rattle.flat_instances.specs.declared.item.FlatItem.{FlatItem}
+use Rattle.flat_instances.specs.declared.item.FlatItem.TheVariants as f
 use Rattle.elab_hier.specs.Starts.{names_at, start_error}
 
 -- nothing is refused in what an item gives

@@ -7,10 +7,10 @@ use Rattle.vlog_meaning.specs.Scopes.{Names, Store, nothing}
 use Rattle.vlog_meaning.specs.Senses.{sense, assigned, constant_faults_at}
 use Rattle.process_cells.specs.Items.{Widths}
 use Rattle.process_cells.specs.Starts.{assigned_value, process_starts}
-use Rattle.flat_items.specs.Instances.{no_names}
-use Rattle.flat_items.specs.Places.{Place}
-use Rattle.flat_items.specs.declared.item.FlatItem.{FlatItem}
-use Rattle.flat_items.specs.declared.item.FlatItem.TheVariants as f
+use Rattle.flat_instances.specs.Instances.{no_names}
+use Rattle.flat_instances.specs.Places.{Place}
+use Rattle.flat_instances.specs.declared.item.FlatItem.{FlatItem}
+use Rattle.flat_instances.specs.declared.item.FlatItem.TheVariants as f
 
 -- what names are declared as in the scope of this number
 abbrev pub names_in : Option Place → Names

@@ -5,7 +5,7 @@ use Rattle.elab_proc.specs.declared.refusal.Refusal.{Refusal}
 use Rattle.elab_proc.specs.Order.{IsFirst}
 use Rattle.process_cells.specs.Items.{widths_in}
 use Rattle.flat_items.specs.Flattened.{Flat}
-use Rattle.flat_items.specs.declared.item.FlatItem.{FlatItem}
+use Rattle.flat_instances.specs.declared.item.FlatItem.{FlatItem}
 use Rattle.flat_clocks.specs.Clocks.{Clocks}
 use Rattle.flat_clocks.specs.Refusals.{clock_refusals}
 use Rattle.elab_hier.specs.declared.error.BuildError.{BuildError}

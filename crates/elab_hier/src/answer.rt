@@ -5,7 +5,7 @@ ghost use Rattle.elab_hier.specs.declared.answer.ElabError.TheVariants.{Memory};
 
 use crate::error::Reason;
 use elab_proc::Refusal;
-use flat_items::{ItemError, ParameterError};
+use flat_instances::{ItemError, ParameterError};
 use flat_scopes::{RangeError, Signal};
 use mcy_base::{Kind, Span, Text};
 use std::alloc::{AllocError, Global};

@@ -8,7 +8,7 @@ ghost use Rattle.flat_runs.specs.Parts.{whole};
 ghost use Rattle.flat_assigns.specs.Built.{IsBuilt, IsReady};
 ghost use Rattle.flat_assigns.specs.Values.{right_cells, right_refusals, right_value};
 ghost use Rattle.flat_items.specs.Views.{flat_of};
-ghost use Rattle.flat_items.specs.declared.item.FlatItem.TheVariants.{Enters, Open};
+ghost use Rattle.flat_instances.specs.declared.item.FlatItem.TheVariants.{Enters, Open};
 ghost use Rattle.elab_hier.specs.Items.{Builds, Fails, FailsInput, Stands, input_error, unsupported, wrong};
 
 use crate::error::{BuildError, Reason};

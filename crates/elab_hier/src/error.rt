@@ -3,7 +3,7 @@ ghost use Rattle.std.specs.Prelude.{◌≡◌};
 ghost use Rattle.elab_hier.specs.declared.error.BuildError.TheVariants.{Memory};
 
 use elab_proc::Refusal;
-use flat_items::ItemError;
+use flat_instances::ItemError;
 use mcy_base::Kind;
 use std::alloc::AllocError;
 use vlog_meaning::ConstError;

@@ -4,7 +4,7 @@ ghost use Rattle.std.specs.Prelude.{◌≡◌};
 ghost use Rattle.elab_hier.specs.Designs.{widths_of};
 ghost use Rattle.elab_hier.specs.Full.{listed_before};
 
-use flat_items::{FlatItem, ItemError};
+use flat_instances::{FlatItem, ItemError};
 use flat_scopes::Signal;
 
 /// The most bits of the signals of a design.

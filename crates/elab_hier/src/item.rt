@@ -1,7 +1,7 @@
 //! The items of a flattened design: each is built in a builder that has the signals.
 ghost use Rattle.std.specs.Prelude.{◌≡◌, Bool, List, IfErr, OnOk};
 ghost use Rattle.flat_items.specs.Views.{flat_of};
-ghost use Rattle.flat_items.specs.declared.item.FlatItem.TheVariants.{Drives, Leaves, Starts};
+ghost use Rattle.flat_instances.specs.declared.item.FlatItem.TheVariants.{Drives, Leaves, Starts};
 ghost use Rattle.elab_hier.specs.Desks.{Serves};
 ghost use Rattle.elab_hier.specs.Items.{Builds, Fails, Stands};
 
@@ -13,7 +13,8 @@ use crate::run::build_run;
 use crate::sides::{build_sides, scope_at};
 use crate::start::start_of;
 use elab_expr::Builder;
-use flat_items::{Flat, FlatItem};
+use flat_instances::FlatItem;
+use flat_items::Flat;
 use vlog_syntax::{Expr, Identifier, LeftSide};
 
 /// Builds the initial value of a net of a scope.

@@ -6,7 +6,7 @@ ghost use Rattle.elab_proc.specs.Refusals.{AreSized};
 ghost use Rattle.flat_assigns.specs.Built.{IsReady};
 ghost use Rattle.process_cells.specs.Ready.{HasPlaces};
 ghost use Rattle.flat_items.specs.Views.{flat_of};
-ghost use Rattle.flat_items.specs.declared.item.FlatItem.TheVariants.{Runs};
+ghost use Rattle.flat_instances.specs.declared.item.FlatItem.TheVariants.{Runs};
 ghost use Rattle.elab_hier.specs.Desks.{Serves};
 ghost use Rattle.elab_hier.specs.Items.{Builds, BuildsProcess, Fails, FailsProcess, Stands, process_error};
 

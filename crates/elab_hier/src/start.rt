@@ -5,7 +5,7 @@ ghost use Rattle.vlog_meaning.specs.Scopes.{Store, names_of};
 ghost use Rattle.process_cells.specs.Items.{widths_in};
 ghost use Rattle.process_cells.specs.Starts.{SameButStarts, StartsWith, assigned_value};
 ghost use Rattle.flat_items.specs.Views.{flat_of};
-ghost use Rattle.flat_items.specs.declared.item.FlatItem.TheVariants.{Runs, Starts};
+ghost use Rattle.flat_instances.specs.declared.item.FlatItem.TheVariants.{Runs, Starts};
 ghost use Rattle.elab_hier.specs.Starting.{AllStart, CanStart};
 ghost use Rattle.elab_hier.specs.Items.{Stands};
 ghost use Rattle.elab_hier.specs.Starts.{start_error, started, starts_from, with_value};
@@ -13,7 +13,8 @@ ghost use Rattle.elab_hier.specs.Starts.{start_error, started, starts_from, with
 use crate::error::BuildError;
 use crate::sides::scope_at;
 use elab_expr::Builder;
-use flat_items::{Flat, FlatItem};
+use flat_instances::FlatItem;
+use flat_items::Flat;
 use mcy_base::Word;
 use process_cells::start_process;
 use vlog_meaning::{ConstError, Scope, constant_at};

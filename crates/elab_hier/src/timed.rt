@@ -8,7 +8,7 @@ ghost use Rattle.flat_clocks.specs.Refusals.{clock_refusals};
 ghost use Rattle.flat_clocks.specs.Views.{clocks_in};
 ghost use Rattle.flat_items.specs.Flattened.{Flat as Design};
 ghost use Rattle.flat_items.specs.Views.{flat_of};
-ghost use Rattle.flat_items.specs.declared.item.FlatItem.{FlatItem as Item};
+ghost use Rattle.flat_instances.specs.declared.item.FlatItem.{FlatItem as Item};
 ghost use Rattle.elab_hier.specs.Desks.{Serves};
 ghost use Rattle.elab_hier.specs.Items.{Fails, Stands};
 ghost use Rattle.elab_hier.specs.Timed.{BuildsTimed, FailsTimed, IsSooner};
@@ -20,7 +20,8 @@ use crate::item::build_item;
 use elab_expr::Builder;
 use elab_proc::{Refusal, earlier};
 use flat_clocks::Clocks;
-use flat_items::{Flat, FlatItem};
+use flat_instances::FlatItem;
+use flat_items::Flat;
 
 /// The first by place of what is found in an item and of how it misuses the clock.
 #[tactic(auto, using(crate::proofs::Timing::own_first))]

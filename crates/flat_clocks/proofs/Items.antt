@@ -5,8 +5,8 @@ use Rattle.vlog_syntax.specs.declared.expr.Expr.{Expr}
 use Rattle.vlog_syntax.specs.declared.item.Process.{Process}
 use Rattle.vlog_meaning.specs.Scopes.{Names}
 use Rattle.flat_scopes.specs.declared.signal.Signal.{Signal}
-use Rattle.flat_items.specs.declared.item.FlatItem.{FlatItem}
-use Rattle.flat_items.specs.declared.item.FlatItem.TheVariants as f
+use Rattle.flat_instances.specs.declared.item.FlatItem.{FlatItem}
+use Rattle.flat_instances.specs.declared.item.FlatItem.TheVariants as f
 use Rattle.flat_items.specs.Flattened.{Flat}
 use Rattle.elab_proc.specs.declared.refusal.Refusal.{Refusal}
 use Rattle.elab_proc.specs.Order.{IsFirst}

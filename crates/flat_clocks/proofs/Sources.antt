@@ -9,9 +9,9 @@ use Rattle.std.specs.Ordering.{nat_cmp}
 use Rattle.std.proofs.lemmas.Bool.Decides.{nat_tests}
 use Rattle.vlog_meaning.specs.Scopes.{Names}
 use Rattle.flat_scopes.specs.declared.signal.Signal.{Signal}
-use Rattle.flat_items.specs.declared.item.FlatItem.{FlatItem}
+use Rattle.flat_instances.specs.declared.item.FlatItem.{FlatItem}
 use Rattle.flat_items.specs.Flattened.{Flat}
-use Rattle.flat_items.specs.Places.{Place}
+use Rattle.flat_instances.specs.Places.{Place}
 use Rattle.flat_clocks.specs.Clocks.{Sources, names_in, names_at, own, with_source, with_item, with_items, sources}
 use Rattle.flat_clocks.specs.Views.{source_or, sources_in}
 

@@ -11,11 +11,11 @@ use Rattle.vlog_meaning.specs.declared.scope.Decl.TheVariants.{Signal}
 use Rattle.vlog_meaning.specs.Scopes.{Names}
 use Rattle.process_events.specs.Events.{clock_in, sensitivity}
 use Rattle.flat_scopes.specs.declared.signal.Signal.{Signal as Kept}
-use Rattle.flat_items.specs.declared.item.FlatItem.{FlatItem}
-use Rattle.flat_items.specs.declared.item.FlatItem.TheVariants as f
+use Rattle.flat_instances.specs.declared.item.FlatItem.{FlatItem}
+use Rattle.flat_instances.specs.declared.item.FlatItem.TheVariants as f
 use Rattle.flat_items.specs.Flattened.{Flat}
-use Rattle.flat_items.specs.Instances.{no_names}
-use Rattle.flat_items.specs.Places.{Place}
+use Rattle.flat_instances.specs.Instances.{no_names}
+use Rattle.flat_instances.specs.Places.{Place}
 
 -- what names are declared as in the scope of this number
 abbrev pub names_in : Option Place → Names

@@ -7,9 +7,9 @@ use Rattle.vlog_syntax.specs.declared.identifier.Identifier.{Identifier}
 use Rattle.vlog_syntax.specs.declared.item.Process.{Process}
 use Rattle.process_events.specs.Events.{clock_in, sensitivity}
 use Rattle.flat_scopes.specs.declared.signal.Signal.{Signal}
-use Rattle.flat_items.specs.declared.item.FlatItem.{FlatItem}
-use Rattle.flat_items.specs.declared.item.FlatItem.TheVariants as f
-use Rattle.flat_items.specs.Places.{Place}
+use Rattle.flat_instances.specs.declared.item.FlatItem.{FlatItem}
+use Rattle.flat_instances.specs.declared.item.FlatItem.TheVariants as f
+use Rattle.flat_instances.specs.Places.{Place}
 use Rattle.elab_proc.specs.declared.refusal.Refusal.{Refusal}
 use Rattle.elab_proc.specs.declared.refusal.Refusal.TheVariants.{Unsupported}
 use Rattle.flat_clocks.specs.Clocks.{Clocks, clock_names, names_at, passed_on}

@@ -9,7 +9,8 @@ ghost use Rattle.flat_items.specs.Views.{flat_of};
 ghost use Rattle.flat_clocks.specs.Clocks.{names_at, is_bit, bit_of, named_bit, passed_on, with_source, with_item, with_items, sources, signal_of, clock_name, signal_named, first_clock, as_input, clocks_of, is_clock};
 ghost use Rattle.flat_clocks.specs.Views.{sources_in, clocks_in};
 
-use flat_items::{Flat, FlatItem};
+use flat_instances::FlatItem;
+use flat_items::Flat;
 use flat_scopes::Signal;
 use process_events::clock_of;
 use std::alloc::{AllocError, Global};

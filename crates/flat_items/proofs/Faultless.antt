@@ -4,7 +4,7 @@ use Rattle.std.specs.Option.{option_map, is_some}
 use Rattle.vlog_meaning.specs.declared.fault.ConstError.{ConstError}
 use Rattle.vlog_meaning.specs.declared.fault.Fault.{Fault}
 use Rattle.vlog_meaning.specs.Answers.{const_error}
-use Rattle.flat_items.specs.declared.error.ItemError.TheVariants.{Constant}
+use Rattle.flat_instances.specs.declared.error.ItemError.TheVariants.{Constant}
 use Rattle.flat_items.specs.Flattened.{faultless}
 
 pub kept : (o : Option Fault) (v w : ℕ) → None ≡ option_map const_error o → w ≡ v → Ok w ≡ faultless o v

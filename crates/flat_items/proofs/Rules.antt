@@ -17,17 +17,17 @@ use Rattle.flat_scopes.specs.declared.signal.What.{What}
 use Rattle.flat_scopes.specs.declared.opening.Head.{Head}
 use Rattle.flat_scopes.specs.Openings.{Opened, unopened}
 use Rattle.flat_scopes.specs.Opens.{Opens}
-use Rattle.flat_items.specs.declared.error.ItemError.{ItemError}
-use Rattle.flat_items.specs.declared.item.FlatItem.{FlatItem}
-use Rattle.flat_items.specs.declared.item.FlatItem.TheVariants as f
+use Rattle.flat_instances.specs.declared.error.ItemError.{ItemError}
+use Rattle.flat_instances.specs.declared.item.FlatItem.{FlatItem}
+use Rattle.flat_instances.specs.declared.item.FlatItem.TheVariants as f
 use Rattle.flat_items.specs.declared.task.Task.{Task}
 use Rattle.flat_items.specs.declared.task.Task.TheVariants as t
 use Rattle.flat_items.specs.declared.task.Turn.{Turn}
 use Rattle.flat_items.specs.declared.turn.Outcome.TheVariants.{Goes, Ends, Refused}
 use Rattle.flat_items.specs.Flattened.{Flat, block_head, block_items, add_all, entered, tasks_of, step_items, step_tasks, module_at, placed_in, condition_in, integer_in, chosen_tasks, label_of, IsBlockName, OpensBlock, Sees, genvar_fault, turn_start}
-use Rattle.flat_items.specs.Instances.{inner_prefix, no_names, OpensInstance}
-use Rattle.flat_items.specs.declared.place.Place.{Place as Kept}
-use Rattle.flat_items.specs.Places.{Place, place_of}
+use Rattle.flat_instances.specs.Instances.{inner_prefix, no_names, OpensInstance}
+use Rattle.flat_instances.specs.declared.place.Place.{Place as Kept}
+use Rattle.flat_instances.specs.Places.{Place, place_of}
 use Rattle.flat_items.specs.Replacing.{Replaces, Flattens, replaces, PlacesInstance, step, refused, not_placed, placed, condition, arm_null, arm_condition, arm_block, bad_genvar, bad_start, loop, turn_ended, bad_turn, turn, no_construct, is_block_form, is_construct_form, first_turn, outcome, TurnsOnce, turn_name, next_turn}
 
 -- whatever the modules are

@@ -11,7 +11,7 @@ use Rattle.flat_scopes.specs.Valued.{constant_name}
 use Rattle.flat_scopes.specs.Words.{word}
 use Rattle.flat_items.specs.declared.task.Turn.{Turn}
 use Rattle.flat_items.specs.Flattened.{turn_start}
-use Rattle.flat_items.specs.Places.{Place}
+use Rattle.flat_instances.specs.Places.{Place}
 
 pub turn_starts : (o n : Opened) (p : Place) (signals : List Signal) (x : Turn) (head : GenerateLoop) (decl : Decl) (names : Names)
     → names ≡ p.names → o ≡ unopened names signals → head ≡ x.head → decl ≡ Constant (word 32 x.value) true → n ≡ constant_name o head.name decl (o.own head.name.name) → n ≡ turn_start p signals x

@@ -5,9 +5,9 @@ use Rattle.std.specs.Option.{is_some}
 use Rattle.std.specs.Str.{bytes_eq}
 use Rattle.vlog_syntax.specs.declared.module.Module.{Module}
 use Rattle.flat_scopes.specs.Owns.{what_of}
-use Rattle.flat_items.specs.declared.place.Place.{Place as Kept}
+use Rattle.flat_instances.specs.declared.place.Place.{Place as Kept}
 use Rattle.flat_items.specs.Flattened.{module_from, module_at}
-use Rattle.flat_items.specs.Places.{place_of}
+use Rattle.flat_instances.specs.Places.{place_of}
 use Rattle.flat_items.specs.Tops.{IsTop, own_at}
 
 pub own_found : (xs : List Kept) (k : ℕ) (p : Kept) (name : List ℕ) → slice_get xs k ≡ Some p → own_at (map place_of xs) k name ≡ what_of p.own name

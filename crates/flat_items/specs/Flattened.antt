@@ -27,15 +27,15 @@ use Rattle.flat_scopes.specs.Openings.{Opened, unopened, own_name}
 use Rattle.flat_scopes.specs.Opens.{Opens}
 use Rattle.flat_scopes.specs.Owns.{Own}
 use Rattle.flat_scopes.specs.Words.{word}
-use Rattle.flat_items.specs.declared.error.ItemError.{ItemError}
-use Rattle.flat_items.specs.declared.error.ItemError.TheVariants as e
-use Rattle.flat_items.specs.declared.item.FlatItem.{FlatItem}
-use Rattle.flat_items.specs.declared.item.FlatItem.TheVariants as f
+use Rattle.flat_instances.specs.declared.error.ItemError.{ItemError}
+use Rattle.flat_instances.specs.declared.error.ItemError.TheVariants as e
+use Rattle.flat_instances.specs.declared.item.FlatItem.{FlatItem}
+use Rattle.flat_instances.specs.declared.item.FlatItem.TheVariants as f
 use Rattle.flat_items.specs.declared.task.Task.{Task}
 use Rattle.flat_items.specs.declared.task.Task.TheVariants as t
 use Rattle.flat_items.specs.declared.task.Turn.{Turn}
-use Rattle.flat_items.specs.Instances.{inner_prefix, no_names}
-use Rattle.flat_items.specs.Places.{Place}
+use Rattle.flat_instances.specs.Instances.{inner_prefix, no_names}
+use Rattle.flat_instances.specs.Places.{Place}
 
 -- What there is so far: the signals, the scopes and the items.
 pub record Flat : Type 0 where

@@ -18,19 +18,19 @@ use Rattle.flat_scopes.specs.declared.signal.What.{What}
 use Rattle.flat_scopes.specs.declared.signal.What.TheVariants as w
 use Rattle.flat_scopes.specs.Openings.{Opened, unopened}
 use Rattle.flat_scopes.specs.Opens.{OpensModule}
-use Rattle.flat_items.specs.declared.error.ItemError.{ItemError}
-use Rattle.flat_items.specs.declared.error.ItemError.TheVariants as e
-use Rattle.flat_items.specs.declared.item.FlatItem.{FlatItem}
-use Rattle.flat_items.specs.declared.item.FlatItem.TheVariants as f
+use Rattle.flat_instances.specs.declared.error.ItemError.{ItemError}
+use Rattle.flat_instances.specs.declared.error.ItemError.TheVariants as e
+use Rattle.flat_instances.specs.declared.item.FlatItem.{FlatItem}
+use Rattle.flat_instances.specs.declared.item.FlatItem.TheVariants as f
 use Rattle.flat_items.specs.declared.task.Task.{Task}
 use Rattle.flat_items.specs.declared.task.Task.TheVariants as t
 use Rattle.flat_items.specs.declared.task.Turn.{Turn}
 use Rattle.flat_items.specs.declared.turn.Outcome.{Outcome}
 use Rattle.flat_items.specs.declared.turn.Outcome.TheVariants.{Goes, Ends, Refused}
 use Rattle.flat_items.specs.Flattened.{Flat, add_all, entered, tasks_of, step_items, step_tasks, module_at, placed_in, condition_in, integer_in, chosen_tasks, label_of, IsBlockName, OpensBlock, Sees, genvar_fault, turn_start}
-use Rattle.flat_items.specs.Instances.{inner_prefix, no_names, OpensInstance}
-use Rattle.flat_items.specs.Places.{Place}
-use Rattle.flat_items.specs.Wires.{ports_of}
+use Rattle.flat_instances.specs.Instances.{inner_prefix, no_names, OpensInstance}
+use Rattle.flat_instances.specs.Places.{Place}
+use Rattle.flat_instances.specs.Wires.{ports_of}
 
 -- An instance of the module with the number n stands in the place with the number k: its module is the next place.
 pub record PlacesInstance (modules : List Module) (n k : ℕ) (place : Place) (values : ParameterValues) (instance : Instance) (flat : Flat) (tasks : List Task) (next : Flat) : Type 0 where

@@ -4,7 +4,7 @@ use Rattle.vlog_syntax.specs.declared.module.Module.{Module}
 use Rattle.flat_scopes.specs.declared.signal.What.{What}
 use Rattle.flat_scopes.specs.Owns.{Own}
 use Rattle.flat_items.specs.Flattened.{module_at}
-use Rattle.flat_items.specs.Places.{Place}
+use Rattle.flat_instances.specs.Places.{Place}
 
 -- the first module of this name
 abbrev pub IsTop : List Module → List ℕ → Module → Type 0

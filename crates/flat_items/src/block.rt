@@ -4,16 +4,16 @@ ghost use Rattle.vlog_syntax.specs.declared.item.Item.{out-Item};
 ghost use Rattle.vlog_syntax.specs.declared.module.Module.{Module as Tree};
 ghost use Rattle.flat_scopes.specs.Views.{opened_of};
 ghost use Rattle.flat_items.specs.Flattened.{block_head, block_items, OpensBlock};
-ghost use Rattle.flat_items.specs.Places.{Place as Spot};
+ghost use Rattle.flat_instances.specs.Places.{Place as Spot};
 ghost use Rattle.flat_items.specs.Replacing.{Replaces, is_block_form};
 ghost use Rattle.flat_items.specs.Views.{flat_of};
 ghost use Rattle.flat_items.specs.declared.task.Task.TheVariants.{Arm as Chosen};
 
 use crate::flat::Flat;
 use crate::generate::one;
-use crate::instance::inner_prefix;
 use crate::names::block_name;
 use crate::task::Task;
+use flat_instances::inner_prefix;
 use flat_scopes::{Head, Lent, Opening, Signal};
 use mcy_base::Text;
 use std::alloc::{AllocError, Global};

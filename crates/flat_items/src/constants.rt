@@ -3,7 +3,7 @@ ghost use Rattle.std.specs.Prelude.{◌≡◌};
 ghost use Rattle.vlog_meaning.specs.Scopes.{names_of};
 ghost use Rattle.flat_items.specs.Flattened.{condition_in, integer_in};
 
-use crate::error::ItemError;
+use flat_instances::ItemError;
 use vlog_meaning::{Scope, constant, constant_at};
 use vlog_syntax::Expr;
 

@@ -3,14 +3,12 @@ ghost use Rattle.std.specs.Prelude.{◌≡◌, ◌∷◌, [], map, length, slice
 ghost use Rattle.vlog_meaning.specs.Scopes.{names_of};
 ghost use Rattle.flat_scopes.specs.Views.{opened_of};
 ghost use Rattle.flat_items.specs.Flattened.{add_all, entered as with_place, tasks_of, plain_items, plain_tasks, assigned_items, step_items, step_tasks, Sees};
-ghost use Rattle.flat_items.specs.Places.{place_of};
+ghost use Rattle.flat_instances.specs.Places.{place_of};
 ghost use Rattle.flat_items.specs.Views.{flat_of};
 ghost use Rattle.flat_items.specs.declared.task.Task.TheVariants.{Instance as Placed};
 
-use crate::error::ItemError;
-use crate::item::FlatItem;
-use crate::place::Place;
 use crate::task::Task;
+use flat_instances::{FlatItem, ItemError, Place};
 use flat_scopes::{Lent, Opening, Parts, Signal, Step, What};
 use mcy_base::Text;
 use std::alloc::{AllocError, Global};

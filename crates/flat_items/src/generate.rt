@@ -8,10 +8,10 @@ ghost use Rattle.flat_items.specs.Views.{flat_of};
 ghost use Rattle.flat_items.specs.declared.task.Task.TheVariants.{Generates as Constructs, Turn as TurnTask};
 
 use crate::constants::{condition, integer};
-use crate::error::ItemError;
 use crate::flat::Flat;
 use crate::names::block_name;
 use crate::task::{Task, Turn};
+use flat_instances::ItemError;
 use flat_scopes::{Lent, What};
 use mcy_base::{Span, Text};
 use std::alloc::{AllocError, Global};

@@ -1,18 +1,15 @@
 //! Instances of modules (IEEE 1364-2005, 12.1.2): which module an instance has, and what it is replaced by.
 ghost use Rattle.std.specs.Prelude.{◌≡◌, ◌∷◌, Some, slice_get, IfOk, IfSome};
 ghost use Rattle.flat_items.specs.Flattened.{add_all, module_at, is_within, placed_in};
-ghost use Rattle.flat_items.specs.Places.{Place as Spot};
+ghost use Rattle.flat_instances.specs.Places.{Place as Spot};
 ghost use Rattle.flat_items.specs.Replacing.{PlacesInstance, Replaces};
 ghost use Rattle.flat_items.specs.Views.{flat_of};
 ghost use Rattle.flat_items.specs.declared.task.Task.TheVariants.{Instance as Placed};
 
-use crate::error::ItemError;
 use crate::flat::Flat;
 use crate::generate::one;
-use crate::instance::{Entered, open_instance};
-use crate::item::FlatItem;
-use crate::joint::Joint;
 use crate::task::Task;
+use flat_instances::{Entered, FlatItem, ItemError, Joint, open_instance};
 use std::alloc::{AllocError, Global};
 use vlog_syntax::{Identifier, Instance, Module, ParameterValues};
 

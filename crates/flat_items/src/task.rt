@@ -1,5 +1,5 @@
 //! Parts of a design that are still to be replaced by what they stand for.
-use crate::error::ItemError;
+use flat_instances::ItemError;
 use flat_scopes::{Lent, Step};
 use mcy_base::Text;
 use vlog_syntax::{Boxed, GenerateLoop, Identifier, Instance, Item, ParameterValues};

@@ -8,12 +8,10 @@ ghost use Rattle.flat_items.specs.Replacing.{Replaces, Flattens, is_number, repe
 ghost use Rattle.flat_items.specs.Views.{flat_of};
 ghost use Rattle.flat_items.specs.declared.walk.FlattenError.TheVariants.{NoTop};
 
-use crate::error::ItemError;
 use crate::flat::Flat;
-use crate::item::FlatItem;
 use crate::placing::{inner_modules, module_at};
 use crate::task::Task;
-use crate::wire::ports_of;
+use flat_instances::{FlatItem, ItemError, ports_of};
 use flat_scopes::{Head, Opening};
 use mcy_base::Text;
 use std::alloc::{AllocError, Global};

@@ -15,16 +15,16 @@ use Rattle.flat_scopes.specs.declared.signal.What.{What}
 use Rattle.flat_scopes.specs.declared.signal.What.TheVariants as w
 use Rattle.flat_scopes.specs.Openings.{Opened, unopened}
 use Rattle.flat_scopes.specs.Words.{word}
-use Rattle.flat_items.specs.declared.error.ItemError.{ItemError}
-use Rattle.flat_items.specs.declared.item.FlatItem.{FlatItem}
+use Rattle.flat_instances.specs.declared.error.ItemError.{ItemError}
+use Rattle.flat_instances.specs.declared.item.FlatItem.{FlatItem}
 use Rattle.flat_items.specs.declared.task.Task.{Task}
 use Rattle.flat_items.specs.declared.task.Task.TheVariants as t
 use Rattle.flat_items.specs.declared.task.Turn.{Turn}
 use Rattle.flat_items.specs.Flattened.{Flat, block_head, block_items, add_all, entered, tasks_of, integer_in, OpensBlock, turn_start}
-use Rattle.flat_items.specs.Instances.{head_of, inner_prefix, no_names}
-use Rattle.flat_items.specs.Gifts.{gift_of, parameters_of}
-use Rattle.flat_items.specs.Wires.{ports_of}
-use Rattle.flat_items.specs.Places.{Place}
+use Rattle.flat_instances.specs.Instances.{head_of, inner_prefix, no_names}
+use Rattle.flat_instances.specs.Gifts.{gift_of, parameters_of}
+use Rattle.flat_instances.specs.Wires.{ports_of}
+use Rattle.flat_instances.specs.Places.{Place}
 use Rattle.flat_items.specs.Replacing.{PlacesInstance, TurnsOnce, turn_name, next_turn, stepped, step_fault}
 use Rattle.flat_laws.specs.Sound.{AreSized, NamesSignal, OwnsSignal, PlaceStands, AllStand, times_declared}
 use Rattle.flat_laws.proofs.Lists.{either, holds_more, each_more, below}

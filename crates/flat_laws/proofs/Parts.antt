@@ -11,14 +11,14 @@ use Rattle.vlog_syntax.specs.declared.item.PlainItem.TheVariants as p
 use Rattle.vlog_syntax.specs.declared.stmt.Assignment.{Assignment}
 use Rattle.flat_scopes.specs.declared.opening.Step.{Step}
 use Rattle.flat_scopes.specs.declared.opening.Step.TheVariants as s
-use Rattle.flat_items.specs.declared.error.ItemError.{ItemError}
-use Rattle.flat_items.specs.declared.error.ItemError.TheVariants as err
-use Rattle.flat_items.specs.declared.item.FlatItem.{FlatItem}
-use Rattle.flat_items.specs.declared.item.FlatItem.TheVariants as f
+use Rattle.flat_instances.specs.declared.error.ItemError.{ItemError}
+use Rattle.flat_instances.specs.declared.error.ItemError.TheVariants as err
+use Rattle.flat_instances.specs.declared.item.FlatItem.{FlatItem}
+use Rattle.flat_instances.specs.declared.item.FlatItem.TheVariants as f
 use Rattle.flat_items.specs.declared.task.Task.{Task}
 use Rattle.flat_items.specs.declared.task.Task.TheVariants as t
 use Rattle.flat_items.specs.Flattened.{Flat, add_all, tasks_of, assigned_items, plain_items, plain_tasks, step_items, step_tasks, arm_tasks, chosen_tasks}
-use Rattle.flat_items.specs.Places.{Place}
+use Rattle.flat_instances.specs.Places.{Place}
 use Rattle.flat_laws.specs.Sound.{AreSized, PlaceStands, AllStand, times_declared}
 use Rattle.flat_laws.proofs.Lists.{below}
 use Rattle.flat_laws.proofs.Growing.{Grows, AllSteps, StepStands, listed, times_listed, grows_self, step_on}

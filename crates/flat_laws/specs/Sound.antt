@@ -7,10 +7,10 @@ use Rattle.flat_scopes.specs.declared.signal.Signal.{Signal}
 use Rattle.flat_scopes.specs.declared.signal.What.{What}
 use Rattle.flat_scopes.specs.declared.signal.What.TheVariants as w
 use Rattle.flat_items.specs.Flattened.{Flat}
-use Rattle.flat_items.specs.Places.{Place}
-use Rattle.flat_items.specs.Wires.{is_left}
-use Rattle.flat_items.specs.declared.item.FlatItem.{FlatItem}
-use Rattle.flat_items.specs.declared.item.FlatItem.TheVariants as f
+use Rattle.flat_instances.specs.Places.{Place}
+use Rattle.flat_instances.specs.Wires.{is_left}
+use Rattle.flat_instances.specs.declared.item.FlatItem.{FlatItem}
+use Rattle.flat_instances.specs.declared.item.FlatItem.TheVariants as f
 
 -- each signal has from 1 to 128 bits
 abbrev pub AreSized : List Signal → Type 0

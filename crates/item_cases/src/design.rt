@@ -4,7 +4,8 @@
 //! before them.
 use crate::page::Page;
 use crate::refusals::put_error;
-use flat_items::{Flat, FlatItem};
+use flat_instances::FlatItem;
+use flat_items::Flat;
 use flat_scopes::Signal;
 use mcy_base::Span;
 use vlog_syntax::{Direction, Expr, Identifier};

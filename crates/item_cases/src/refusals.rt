@@ -1,6 +1,6 @@
 //! What is printed of refusals: the kind, and the place.
 use crate::page::Page;
-use flat_items::{ItemError, ParameterError};
+use flat_instances::{ItemError, ParameterError};
 use flat_scopes::{RangeError, Refusal};
 use mcy_base::Span;
 use vlog_meaning::ConstError;

@@ -1,7 +1,7 @@
 use Rattle.std.proofs.Common.{List, sym, subst, inr, refl}
 use Rattle.flat_items.specs.Views.{flat_of}
 use Rattle.flat_clocks.specs.Views.{clocks_in}
-use Rattle.flat_items.specs.declared.item.FlatItem.{FlatItem}
+use Rattle.flat_instances.specs.declared.item.FlatItem.{FlatItem}
 use Rattle.elab_hier.specs.Timed.{BuildsAll, FailsSome}
 use Rattle.elab_hier.proofs.Standing.{builds_stand, rest_is}
 use Rattle.elab_hier.proofs.items.build_items.Goals as goal

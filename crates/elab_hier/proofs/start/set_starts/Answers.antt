@@ -3,7 +3,7 @@ use Rattle.vlog_meaning.specs.Scopes.{Store}
 use Rattle.process_cells.specs.Items.{Widths, widths_in}
 use Rattle.process_cells.specs.Starts.{StartsWith}
 use Rattle.flat_items.specs.Views.{flat_of}
-use Rattle.flat_items.specs.declared.item.FlatItem.{FlatItem}
+use Rattle.flat_instances.specs.declared.item.FlatItem.{FlatItem}
 use Rattle.elab_hier.specs.Starting.{AllStart, CanStart}
 use Rattle.elab_hier.specs.Starts.{started, starts_from}
 use Rattle.elab_hier.proofs.Standing.{rest_is}

@@ -1,6 +1,6 @@
 use Rattle.std.proofs.Common.{ap, ◌∙◌, sym, List, add-one, arith}
 use Rattle.flat_items.specs.Views.{flat_of}
-use Rattle.flat_items.specs.declared.item.FlatItem.{FlatItem}
+use Rattle.flat_instances.specs.declared.item.FlatItem.{FlatItem}
 use Rattle.flat_clocks.specs.Clocks.{with_items}
 use Rattle.flat_clocks.specs.Views.{sources_in}
 use Rattle.flat_clocks.proofs.Sources.{item_more, dropped}

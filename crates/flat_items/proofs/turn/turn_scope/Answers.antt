@@ -1,7 +1,7 @@
 use Rattle.std.proofs.Common.{ap}
 use Rattle.vlog_meaning.specs.Scopes.{names_of}
 use Rattle.flat_scopes.specs.Views.{opened_of}
-use Rattle.flat_items.specs.Places.{place_of}
+use Rattle.flat_instances.specs.Places.{place_of}
 use Rattle.flat_items.proofs.Starting.{turn_starts}
 use Rattle.flat_items.proofs.turn.turn_scope.Goals as goal
 

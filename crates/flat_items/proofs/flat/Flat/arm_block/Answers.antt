@@ -3,7 +3,7 @@ use Rattle.vlog_meaning.specs.Scopes.{names_of}
 use Rattle.flat_scopes.specs.Owns.{what_of}
 use Rattle.flat_scopes.specs.Views.{opened_of}
 use Rattle.flat_items.specs.Flattened.{label_of, IsBlockName}
-use Rattle.flat_items.specs.Places.{place_of}
+use Rattle.flat_instances.specs.Places.{place_of}
 use Rattle.flat_items.specs.Views.{flat_of}
 use Rattle.flat_items.proofs.Rules.{block_opens}
 use Rattle.flat_items.proofs.flat.Flat.arm_block.Goals as goal

@@ -1,6 +1,6 @@
 use Rattle.std.proofs.Common.{List, ℕ, ap, ◌∙◌}
 use Rattle.flat_items.specs.Flattened.{module_at, placed_in}
-use Rattle.flat_items.specs.Places.{place_of}
+use Rattle.flat_instances.specs.Places.{place_of}
 use Rattle.flat_items.specs.Views.{flat_of}
 use Rattle.flat_items.proofs.Rules.{instance_refused, instance_placed}
 use Rattle.flat_items.proofs.flat.Flat.instance.Goals as goal

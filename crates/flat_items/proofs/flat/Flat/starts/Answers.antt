@@ -1,5 +1,5 @@
 use Rattle.std.proofs.lemmas.Result.{IfOk-weaker}
-use Rattle.flat_items.specs.Places.{place_of}
+use Rattle.flat_instances.specs.Places.{place_of}
 use Rattle.flat_items.specs.Views.{flat_of}
 use Rattle.std.proofs.Common.{List, ℕ, subst}
 use Rattle.flat_items.specs.Flattened.{Sees}

@@ -4,7 +4,7 @@ use Rattle.vlog_syntax.specs.declared.item.GenerateLoop.{GenerateLoop}
 use Rattle.vlog_meaning.specs.Scopes.{Names}
 use Rattle.flat_scopes.specs.Views.{opened_of}
 use Rattle.flat_items.specs.Flattened.{condition_in}
-use Rattle.flat_items.specs.Places.{place_of}
+use Rattle.flat_instances.specs.Places.{place_of}
 use Rattle.flat_items.specs.Views.{flat_of}
 use Rattle.flat_items.proofs.Rules.{Tested, turn_goes, turn_ends, turn_refused}
 use Rattle.flat_items.proofs.flat.Flat.turn.Goals as goal

@@ -1,0 +1,6 @@
+use Rattle.std.proofs.Common.{◌≡◌, drop}
+use Rattle.flat_instances.specs.Gifts.{first_of}
+use Rattle.flat_instances.proofs.giving.first_refused.Given as goal
+
+abbrev pub invariant-loop-error : goal.invariant-loop-error
+invariant-loop-error l = first_of l.first (drop l.error-index l.refused) ≡ first_of l.initial.first l.refused

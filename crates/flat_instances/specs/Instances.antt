@@ -1,0 +1,42 @@
+-- One instance: its module is opened, and its connections are listed (IEEE 1364-2005, 12.1.2, 12.2.2 and 12.3).
+use Rattle.std.specs.Prelude.{◌≡◌, ℕ, List, [], ◌++◌, codes, option_to_list, Option, None, Some}
+use Rattle.vlog_syntax.specs.declared.identifier.Identifier.{Identifier}
+use Rattle.vlog_syntax.specs.declared.item.Instance.{Instance}
+use Rattle.vlog_syntax.specs.declared.item.ParameterValues.{ParameterValues}
+use Rattle.vlog_syntax.specs.declared.module.Module.{Module}
+use Rattle.vlog_meaning.specs.Scopes.{Names, names_of}
+use Rattle.flat_scopes.specs.declared.opening.Head.{Head}
+use Rattle.flat_scopes.specs.declared.signal.Signal.{Signal}
+use Rattle.flat_scopes.specs.Openings.{Opened, unopened}
+use Rattle.flat_scopes.specs.Opens.{OpensModule}
+use Rattle.flat_instances.specs.declared.error.ItemError.TheVariants.{Parameter}
+use Rattle.flat_instances.specs.declared.error.ParameterError.{ParameterError}
+use Rattle.flat_instances.specs.declared.item.FlatItem.{FlatItem}
+use Rattle.flat_instances.specs.declared.item.FlatItem.TheVariants.{Refuses}
+use Rattle.flat_instances.specs.Gifts.{parameters_of, gift_of, value_faults, first_of}
+use Rattle.flat_instances.specs.Places.{Place}
+use Rattle.flat_instances.specs.Wires.{ports_of, wires_of, connected}
+
+-- what stands before the names of a scope that has this name in another
+abbrev pub inner_prefix : List ℕ → List ℕ → List ℕ
+inner_prefix prefix name = prefix ++ name ++ codes "."
+
+abbrev pub no_names : Names
+no_names = names_of []
+
+abbrev pub head_of : (prefix : List ℕ) → Module → ParameterValues → Head
+head_of prefix m values = record { prefix = prefix; ports = ports_of m.ports; given = (gift_of (parameters_of m) values).given }
+
+abbrev pub fault_item : Option ParameterError → Option FlatItem
+fault_item None = None
+fault_item (Some e) = Some (Refuses (Parameter e))
+
+-- what an instance lists itself: the first by place of what is wrong in the values of its parameters, and then its connections
+abbrev pub listed_of : (outside inside : ℕ) → List ParameterError → List Identifier → Instance → Opened → List FlatItem
+listed_of outside inside refused ports instance child =
+    option_to_list (fault_item (first_of (first_of None refused) (value_faults child.steps))) ++ connected outside inside child (wires_of ports instance) ports
+
+-- The module of an instance is opened behind the signals so far, with the values that are read outside.
+pub record OpensInstance (place : Place) (outside inside : ℕ) (m : Module) (values : ParameterValues) (instance : Instance) (signals : List Signal) (child : Opened) (items : List FlatItem) : Type 0 where
+  pub opens : OpensModule (head_of (inner_prefix place.prefix instance.name.name) m values) place.names m (unopened no_names signals) child
+  pub lists : items ≡ listed_of outside inside (gift_of (parameters_of m) values).refused (ports_of m.ports) instance child

@@ -1,0 +1,164 @@
+//! The connections of an instance's ports, by name or by place (IEEE 1364-2005, 12.3.5 and 12.3.6).
+ghost use Rattle.std.specs.Prelude.{◌≡◌, ◌++◌, [], map, IfOk};
+ghost use Rattle.flat_instances.specs.Wires.{name_in, declared_ports, ports_of, named_wire, named_wires, ordered_wires, place_of, wires_of};
+
+use flat_scopes::{Lent, is_among};
+use mcy_base::Span;
+use std::alloc::{AllocError, Global};
+use vlog_syntax::{
+    Boxed, Connections, Expr, Identifier, Instance, NamedConnection, PortDeclaration, Ports,
+};
+
+/// What a connection says.
+#[derive(Drop)]
+pub enum Wire<'a> {
+    /// The port of this name has this value, or none.
+    To(Lent<'a, Identifier>, Option<Lent<'a, Expr>>),
+    /// There is no such port, or it was named before.
+    Mismatch(Span),
+}
+
+/// Adds the names that a declaration declares.
+fn add_declared<'a>(
+    ports: &mut Vec<Lent<'a, Identifier>>,
+    declaration: &'a PortDeclaration,
+) -> Result<(), AllocError>
+    ensures { IfOk result (λ done. ports.new.items ≡ ports.old.items ++ map name_in declaration.now.names) }
+{
+    for name in declaration.names.as_slice() {
+        ports.push(Lent::of(&name.name))?;
+    }
+    Ok(())
+}
+
+/// The names that declarations declare, in order.
+fn declared_ports<'a>(
+    alloc: Global,
+    declarations: &'a [PortDeclaration],
+) -> Result<Vec<Lent<'a, Identifier>>, AllocError>
+    ensures { IfOk result (λ names. names.items ≡ declared_ports declarations.now) }
+{
+    let mut ports = Vec::new(alloc);
+    for declaration in declarations {
+        add_declared(&mut ports, declaration)?;
+    }
+    Ok(ports)
+}
+
+/// These names, lent.
+fn all_lent<'a>(
+    alloc: Global,
+    names: &'a [Identifier],
+) -> Result<Vec<Lent<'a, Identifier>>, AllocError>
+    ensures { IfOk result (λ list. list.items ≡ names.now) }
+{
+    let mut list = Vec::new(alloc);
+    for name in names {
+        list.push(Lent::of(name))?;
+    }
+    Ok(list)
+}
+
+/// The names in the head of a module, in order.
+pub fn ports_of<'a>(
+    alloc: Global,
+    ports: &'a Ports,
+) -> Result<Vec<Lent<'a, Identifier>>, AllocError>
+    ensures { IfOk result (λ names. names.items ≡ ports_of ports.now) }
+{
+    match ports {
+        Ports::Names(names) => all_lent(alloc, names.as_slice()),
+        Ports::Declarations(declarations) => declared_ports(alloc, declarations.as_slice()),
+    }
+}
+
+/// The value, lent.
+fn lent<'a>(value: &'a Option<Boxed<Expr>>) -> Option<Lent<'a, Expr>>
+    ensures { result ≡ value.now }
+{
+    match value {
+        Some(value) => Some(Lent::of(value.get())),
+        None => None,
+    }
+}
+
+/// What a connection by name says, where these were named before.
+fn named_wire<'a>(
+    ports: &[Lent<'_, Identifier>],
+    seen: &[Lent<'_, Identifier>],
+    connection: &'a NamedConnection,
+) -> Wire<'a>
+    ensures { result ≡ named_wire ports.now seen.now connection.now }
+{
+    let name = connection.name.name.as_str();
+    if is_among(ports, name) && !is_among(seen, name) {
+        Wire::To(Lent::of(&connection.name), lent(&connection.value))
+    } else {
+        Wire::Mismatch(connection.name.span)
+    }
+}
+
+/// The connections by name.
+fn named_wires<'a>(
+    alloc: Global,
+    ports: &[Lent<'_, Identifier>],
+    connections: &'a [NamedConnection],
+) -> Result<Vec<Wire<'a>>, AllocError>
+    ensures { IfOk result (λ wires. wires.items ≡ named_wires ports.now [] connections.now) }
+{
+    let mut wires = Vec::new(alloc);
+    let mut seen = Vec::new(alloc);
+    for connection in connections {
+        wires.push(named_wire(ports, seen.as_slice(), connection))?;
+        seen.push(Lent::of(&connection.name))?;
+    }
+    Ok(wires)
+}
+
+/// The place of a value, or the instance's where it is left out.
+fn place_of(at: Span, value: &Option<Boxed<Expr>>) -> Span
+    ensures { result ≡ place_of at value.now }
+{
+    match value {
+        Some(value) => value.get().first_token(),
+        None => at,
+    }
+}
+
+/// The connections by place.
+fn ordered_wires<'a>(
+    alloc: Global,
+    at: Span,
+    ports: &[Lent<'a, Identifier>],
+    values: &'a [Option<Boxed<Expr>>],
+) -> Result<Vec<Wire<'a>>, AllocError>
+    ensures { IfOk result (λ wires. wires.items ≡ ordered_wires at ports.now values.now) }
+{
+    let mut wires = Vec::new(alloc);
+    for (place, value) in values.iter().enumerate() {
+        match ports.get(place) {
+            Some(port) => wires.push(Wire::To(Lent::of(port.get()), lent(value)))?,
+            None => {
+                wires.push(Wire::Mismatch(place_of(at, value)))?;
+                return Ok(wires);
+            }
+        }
+    }
+    Ok(wires)
+}
+
+/// The connections of an instance whose module has these ports, in written order.
+pub fn wires_of<'a>(
+    alloc: Global,
+    ports: &[Lent<'a, Identifier>],
+    instance: &'a Instance,
+) -> Result<Vec<Wire<'a>>, AllocError>
+    ensures { IfOk result (λ wires. wires.items ≡ wires_of ports.now instance.now) }
+{
+    match &instance.ports {
+        Connections::Ordered(values) => {
+            ordered_wires(alloc, instance.name.span, ports, values.as_slice())
+        }
+        Connections::Named(connections) => named_wires(alloc, ports, connections.as_slice()),
+    }
+}

@@ -1,6 +1,0 @@
-use Rattle.std.proofs.Common.{◌≡◌, ◌++◌, drop}
-use Rattle.flat_items.specs.Gifts.{head_names}
-use Rattle.flat_items.proofs.giving.add_head.Given as goal
-
-abbrev pub invariant-loop-declaration : goal.invariant-loop-declaration
-invariant-loop-declaration l = l.names.items ++ head_names (drop l.declaration-index l.declarations) ≡ l.initial.names.items ++ head_names l.declarations

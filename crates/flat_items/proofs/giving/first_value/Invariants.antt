@@ -1,6 +1,0 @@
-use Rattle.std.proofs.Common.{◌≡◌, drop}
-use Rattle.flat_items.specs.Gifts.{first_of, value_faults}
-use Rattle.flat_items.proofs.giving.first_value.Given as goal
-
-abbrev pub invariant-loop-step : goal.invariant-loop-step
-invariant-loop-step l = first_of l.first (value_faults (drop l.step-index l.steps)) ≡ first_of l.initial.first (value_faults l.steps)

@@ -1,6 +1,0 @@
-use Rattle.std.proofs.Common.{◌≡◌, ◌++◌, [], drop}
-use Rattle.flat_items.specs.Wires.{named_wires}
-use Rattle.flat_items.proofs.wire.named_wires.Given as goal
-
-abbrev pub invariant-loop-connection : goal.invariant-loop-connection
-invariant-loop-connection l = l.wires.items ++ named_wires l.ports l.seen.items (drop l.connection-index l.connections) ≡ named_wires l.ports [] l.connections

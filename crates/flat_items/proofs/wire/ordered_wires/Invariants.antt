@@ -1,6 +1,0 @@
-use Rattle.std.proofs.Common.{◌≡◌, ◌++◌, drop}
-use Rattle.flat_items.specs.Wires.{ordered_wires}
-use Rattle.flat_items.proofs.wire.ordered_wires.Given as goal
-
-abbrev pub invariant-loop-place : goal.invariant-loop-place
-invariant-loop-place l = l.wires.items ++ ordered_wires l.at (drop l.place l.ports) (drop l.place l.values) ≡ ordered_wires l.at l.ports l.values
