@@ -1,5 +1,0 @@
-use Rattle.elab_hier.proofs.Standing.{items_added}
-use Rattle.elab_hier.proofs.laws.items_are_added.Goals as goal
-
-pub returns : goal.returns
-returns c = items_added

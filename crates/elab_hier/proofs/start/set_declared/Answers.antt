@@ -1,7 +1,0 @@
-use Rattle.vlog_meaning.specs.Scopes.{names_of}
-use Rattle.flat_items.specs.Views.{flat_of}
-use Rattle.elab_hier.proofs.Starting.{declared_started}
-use Rattle.elab_hier.proofs.start.set_declared.Goals as goal
-
-pub returns-clause-starts : goal.returns-clause-starts
-returns-clause-starts c = λ store can start. declared_started (flat_of c.args.flat.now).places c.args.builder.now c.set_value.new.builder c.args.number c.args.place c.args.value.now (names_of c.in-Some.scope.now) store c.in-Some.ensures (c.set_value.ensures.starts store) can start

@@ -1,6 +1,0 @@
-use Rattle.std.proofs.Common.{◌↔◌, drop}
-use Rattle.elab_hier.specs.Writers.{SomeBitWritten}
-use Rattle.elab_hier.proofs.writers.some_bit_written.Given as goal
-
-abbrev pub invariant-loop-bit : goal.invariant-loop-bit
-invariant-loop-bit l = SomeBitWritten l.builder (drop l.bit-index l.bits) ↔ SomeBitWritten l.builder l.bits

@@ -1,0 +1,11 @@
+use Rattle.std.proofs.Common.{◌≡◌, ◌≤◌, drop}
+use Rattle.elab_items.specs.Designs.{widths_of}
+use Rattle.elab_items.specs.Full.{listed_before}
+use Rattle.elab_items.specs.Signals.{max_bits}
+use Rattle.elab_items.proofs.full.listed_before.Given as goal
+
+abbrev pub invariant-loop-item : goal.invariant-loop-item
+invariant-loop-item l = record {
+  same : listed_before (widths_of l.signals) l.bits (drop l.item-index l.items) ≡ listed_before (widths_of l.signals) 0 l.items;
+  fits : l.bits ≤ max_bits;
+}

@@ -1,0 +1,20 @@
+use Rattle.std.proofs.Common.{length}
+use Rattle.elab_expr.specs.Building.{Building}
+use Rattle.flat_items.specs.Views.{flat_of}
+use Rattle.flat_clocks.specs.Views.{clocks_in}
+use Rattle.elab_items.specs.declared.error.BuildError.{BuildError}
+use Rattle.elab_items.specs.Desks.{Serves}
+use Rattle.elab_items.specs.Items.{Stands}
+use Rattle.elab_items.specs.Timed.{BuildsAll, FailsSome}
+use Rattle.elab_items.proofs.items.build_items.Given as goal
+
+abbrev pub invariant-loop-rest : goal.invariant-loop-rest
+invariant-loop-rest l = record {
+  stands : Stands (flat_of l.flat).places l.builder;
+  serves : Serves (flat_of l.flat).places l.builder l.desk;
+  built : (new : Building) → BuildsAll l.inputs (flat_of l.flat) (clocks_in l.clocks) l.rest l.builder new → BuildsAll l.inputs (flat_of l.flat) (clocks_in l.clocks) l.initial.rest l.initial.builder new;
+  fails : (error : BuildError) → FailsSome l.inputs (flat_of l.flat) (clocks_in l.clocks) l.rest l.builder error → FailsSome l.inputs (flat_of l.flat) (clocks_in l.clocks) l.initial.rest l.initial.builder error;
+}
+
+abbrev pub decreases-loop-rest : goal.decreases-loop-rest
+decreases-loop-rest l = length l.rest

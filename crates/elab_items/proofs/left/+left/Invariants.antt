@@ -1,0 +1,6 @@
+use Rattle.std.proofs.Common.{◌≡◌, map, take}
+use Rattle.elab_proc.specs.Refusals.{same_form}
+use Rattle.elab_items.proofs.left.+left.Given as goal
+
+abbrev pub invariant-lefts_of-loop-part : goal.invariant-lefts_of-loop-part
+invariant-lefts_of-loop-part l = map same_form l.lefts ≡ take l.part-index l.parts
