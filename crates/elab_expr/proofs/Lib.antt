@@ -19,3 +19,7 @@ pub mod Marking
 pub mod Circling
 pub mod Laying
 pub mod Ending
+pub mod Wires
+pub mod Layouts
+pub mod Showing
+pub mod Netlists

@@ -10,3 +10,4 @@ pub mod Finished
 pub mod Stepping
 pub mod Tracing
 pub mod Rounds
+pub mod Laid

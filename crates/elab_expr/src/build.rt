@@ -10,6 +10,8 @@ ghost use Rattle.vlog_meaning.specs.Scopes.{names_of, decl_shape, decl_low, decl
 ghost use Rattle.vlog_meaning.specs.Senses.{sense, senses, own, binary_step, index_features, is_division, is_empty, total_width, joined, repeated, IsWhole, AreWhole, IsContext};
 ghost use Rattle.elab_expr.specs.Building.{AllBelow, HasSignals, RunsIn, store};
 ghost use Rattle.elab_expr.specs.Evaluates.{Adds, Builds, Evaluates};
+ghost use Rattle.elab_expr.specs.Laid.{lay, lay_arms, lay_binary, lay_condition, lay_parts, lay_select, lay_unary, layout, layouts, showing, widened};
+ghost use Rattle.elab_expr.specs.Laid as laid;
 ghost use Rattle.elab_expr.specs.Made.{plan, plans, made, all_unsupported, all_cells, cell_of, pick_cells, condition_cells, unary_cells, binary_cells, choice_cells};
 ghost use Rattle.elab_expr.specs.Refusals.{IsShort};
 
@@ -39,6 +41,7 @@ pub(crate) fn build(
     requires context { IsContext (sense (names_of scope.now) expr.now).shape context }
     requires some { 1 ≤ context.width }
     requires signals { HasSignals (names_of scope.now) builder.old }
+    ensures laid { IfOk result (λ bits. showing builder.new bits ≡ lay (names_of scope.now) expr.now context builder.old) }
     ensures built { IfOk result (λ bits. Evaluates (names_of scope.now) expr.now context builder.old builder.new bits) }
     ensures short { IfErr result (λ e. IsShort (length builder.old.cells + length (made (names_of scope.now) expr.now context)) e) }
 {
@@ -63,6 +66,7 @@ fn build_parts(
     requires context { IsContext (sense (names_of scope.now) expr.now).shape context }
     requires some { 1 ≤ context.width }
     requires signals { HasSignals (names_of scope.now) builder.old }
+    ensures laid { IfOk result (λ bits. showing builder.new bits ≡ lay (names_of scope.now) expr.now context builder.old) }
     ensures built { IfOk result (λ bits. Evaluates (names_of scope.now) expr.now context builder.old builder.new bits) }
     ensures short { IfErr result (λ e. IsShort (length builder.old.cells + length (made (names_of scope.now) expr.now context)) e) }
 {
@@ -131,6 +135,7 @@ fn select(
     requires wide { size ≤ width }
     requires narrow { width ≤ 128 }
     requires signals { HasSignals (names_of scope.now) builder.old }
+    ensures laid { IfOk result (λ bits. showing builder.new bits ≡ lay_select (names_of scope.now name.now.name) span (layout (names_of scope.now) index.now) size width builder.old) }
     ensures built { IfOk result (λ bits. Builds builder.old builder.new bits width (λ signals. window (pos (own signals (sense (names_of scope.now) index.now)) -ℤ pos (decl_low (names_of scope.now name.now.name))) size (decl_value signals (names_of scope.now name.now.name))) (pick_cells (names_of scope.now) name.now.name span (plan (names_of scope.now) index.now) size)) }
     ensures short { IfErr result (λ e. IsShort (length builder.old.cells + length (pick_cells (names_of scope.now) name.now.name span (plan (names_of scope.now) index.now) size)) e) }
 {
@@ -157,6 +162,7 @@ fn unary(
     requires supported { (plan (names_of scope.now) operand.now).unsupported ≡ [] }
     requires context { IsContext (unary_shape op (sense (names_of scope.now) operand.now).shape) context }
     requires signals { HasSignals (names_of scope.now) builder.old }
+    ensures laid { IfOk result (λ bits. showing builder.new bits ≡ lay_unary span op (layout (names_of scope.now) operand.now) context builder.old) }
     ensures built { IfOk result (λ bits. Builds builder.old builder.new bits context.width (λ signals. unary_value op (operand_context op (sense (names_of scope.now) operand.now).shape context) ((sense (names_of scope.now) operand.now).value signals (operand_context op (sense (names_of scope.now) operand.now).shape context))) (unary_cells span op (plan (names_of scope.now) operand.now) context)) }
     ensures short { IfErr result (λ e. IsShort (length builder.old.cells + length (unary_cells span op (plan (names_of scope.now) operand.now) context)) e) }
 {
@@ -183,6 +189,7 @@ fn binary(
     requires supported { is_division op ≡ false }
     requires context { IsContext (pair_shape (sizing op) (sense (names_of scope.now) left.now).shape (sense (names_of scope.now) right.now).shape) context }
     requires signals { HasSignals (names_of scope.now) builder.old }
+    ensures laid { IfOk result (λ bits. showing builder.new bits ≡ lay_binary span op (layout (names_of scope.now) left.now) (layout (names_of scope.now) right.now) context builder.old) }
     ensures built { IfOk result (λ bits. Builds builder.old builder.new bits context.width (λ signals. binary_step op (sense (names_of scope.now) left.now) (sense (names_of scope.now) right.now) signals context) (binary_cells span op (plan (names_of scope.now) left.now) (plan (names_of scope.now) right.now) context)) }
     ensures short { IfErr result (λ e. IsShort (length builder.old.cells + length (binary_cells span op (plan (names_of scope.now) left.now) (plan (names_of scope.now) right.now) context)) e) }
 {
@@ -202,6 +209,7 @@ fn condition(builder: &mut Builder, expr: &Expr, scope: &Scope) -> Result<BitLis
     requires whole { IsWhole (names_of scope.now) expr.now }
     requires supported { (plan (names_of scope.now) expr.now).unsupported ≡ [] }
     requires signals { HasSignals (names_of scope.now) builder.old }
+    ensures laid { IfOk result (λ bits. showing builder.new bits ≡ lay_condition (layout (names_of scope.now) expr.now) builder.old) }
     ensures built { IfOk result (λ bits. Builds builder.old builder.new bits 1 (λ signals. digit (not (own signals (sense (names_of scope.now) expr.now) == 0))) (condition_cells (plan (names_of scope.now) expr.now))) }
     ensures short { IfErr result (λ e. IsShort (length builder.old.cells + length (condition_cells (plan (names_of scope.now) expr.now))) e) }
 {
@@ -231,6 +239,7 @@ fn conditional(
     requires context_no { IsContext (sense (names_of scope.now) no.now).shape context }
     requires some { 1 ≤ context.width }
     requires signals { HasSignals (names_of scope.now) builder.old }
+    ensures laid { IfOk result (λ bits. showing builder.new bits ≡ lay_arms span (layout (names_of scope.now) yes.now) (layout (names_of scope.now) no.now) context (lay_condition (layout (names_of scope.now) test.now) builder.old)) }
     ensures built { IfOk result (λ bits. Builds builder.old builder.new bits context.width (λ signals. if own signals (sense (names_of scope.now) test.now) == 0 then (sense (names_of scope.now) no.now).value signals context else (sense (names_of scope.now) yes.now).value signals context) (choice_cells span (plan (names_of scope.now) test.now) (plan (names_of scope.now) yes.now) (plan (names_of scope.now) no.now) context)) }
     ensures short { IfErr result (λ e. IsShort (length builder.old.cells + length (choice_cells span (plan (names_of scope.now) test.now) (plan (names_of scope.now) yes.now) (plan (names_of scope.now) no.now) context)) e) }
 {
@@ -259,6 +268,7 @@ fn choice(
     requires context_no { IsContext (sense (names_of scope.now) no.now).shape context }
     requires some { 1 ≤ context.width }
     requires signals { HasSignals (names_of scope.now) builder.old }
+    ensures laid { IfOk result (λ bits. showing builder.new bits ≡ lay_arms span (layout (names_of scope.now) yes.now) (layout (names_of scope.now) no.now) context (showing builder.old s)) }
     ensures adds { IfOk result (λ bits. Adds builder.old builder.new bits context.width (λ nets. if number (values nets s) == 0 then (sense (names_of scope.now) no.now).value (store builder.old nets) context else (sense (names_of scope.now) yes.now).value (store builder.old nets) context) (made (names_of scope.now) yes.now context ++ (made (names_of scope.now) no.now context ++ cell_of (Some Mux) false (1 ∷ context.width ∷ context.width ∷ context.width ∷ []) span))) }
     ensures short { IfErr result (λ e. IsShort (length builder.old.cells + length (made (names_of scope.now) yes.now context ++ (made (names_of scope.now) no.now context ++ cell_of (Some Mux) false (1 ∷ context.width ∷ context.width ∷ context.width ∷ []) span))) e) }
 {
@@ -273,6 +283,7 @@ fn concatenation(builder: &mut Builder, parts: &[Expr], scope: &Scope) -> Result
     requires whole { AreWhole (names_of scope.now) parts.now }
     requires supported { all_unsupported (plans (names_of scope.now) parts.now) ≡ [] }
     requires signals { HasSignals (names_of scope.now) builder.old }
+    ensures laid { IfOk result (λ bits. showing builder.new bits ≡ lay_parts (layouts (names_of scope.now) parts.now) builder.old []) }
     ensures built { IfOk result (λ bits. Builds builder.old builder.new bits (total_width (senses (names_of scope.now) parts.now)) (λ signals. joined signals (senses (names_of scope.now) parts.now)) (all_cells (plans (names_of scope.now) parts.now))) }
     ensures short { IfErr result (λ e. IsShort (length builder.old.cells + length (all_cells (plans (names_of scope.now) parts.now))) e) }
 {
@@ -301,6 +312,7 @@ fn joined_at(
     requires wide { own.width ≤ width }
     requires narrow { width ≤ 128 }
     requires signals { HasSignals (names_of scope.now) builder.old }
+    ensures laid { IfOk result (λ bits. showing builder.new bits ≡ showing (lay_parts (layouts (names_of scope.now) parts.now) builder.old []).after (widened (lay_parts (layouts (names_of scope.now) parts.now) builder.old []).bits own.is_signed width)) }
     ensures built { IfOk result (λ bits. Builds builder.old builder.new bits width (λ signals. extended own width (joined signals (senses (names_of scope.now) parts.now))) (all_cells (plans (names_of scope.now) parts.now))) }
     ensures fits { IfOk result (λ bits. (nets : Nets) → RunsIn builder.new nets → joined (store builder.old nets) (senses (names_of scope.now) parts.now) < 2 ^ own.width) }
     ensures short { IfErr result (λ e. IsShort (length builder.old.cells + length (all_cells (plans (names_of scope.now) parts.now))) e) }
@@ -324,6 +336,7 @@ fn replicated(
     requires wide { times * total_width (senses (names_of scope.now) parts.now) ≤ width }
     requires narrow { width ≤ 128 }
     requires signals { HasSignals (names_of scope.now) builder.old }
+    ensures laid { IfOk result (λ bits. showing builder.new bits ≡ showing (lay_parts (layouts (names_of scope.now) parts.now) builder.old []).after (widened (laid.times times (lay_parts (layouts (names_of scope.now) parts.now) builder.old []).bits) false width)) }
     ensures built { IfOk result (λ bits. Builds builder.old builder.new bits width (λ signals. repeated times (total_width (senses (names_of scope.now) parts.now)) (joined signals (senses (names_of scope.now) parts.now))) (all_cells (plans (names_of scope.now) parts.now))) }
     ensures short { IfErr result (λ e. IsShort (length builder.old.cells + length (all_cells (plans (names_of scope.now) parts.now))) e) }
 {

@@ -6,6 +6,7 @@ ghost use Rattle.vlog_meaning.specs.Integers.{natural, bound_integer};
 ghost use Rattle.vlog_meaning.specs.Scopes.{Store, names_of, nothing};
 ghost use Rattle.vlog_meaning.specs.Senses.{sense, own, constant_integer, is_empty, IsWhole, IsContext};
 ghost use Rattle.elab_expr.specs.Building.{AllBelow};
+ghost use Rattle.elab_expr.specs.Laid.{number_bits};
 
 use crate::wiring::constant_bits;
 use netlist_core::BitList;
@@ -31,6 +32,7 @@ pub(crate) fn folded(
     requires whole { IsWhole (names_of scope.now) expr.now }
     requires constant { IsTrue (is_empty (sense (names_of scope.now) expr.now).signals) }
     requires context { IsContext (sense (names_of scope.now) expr.now).shape context }
+    ensures is { IfOk result (λ bits. bits ≡ number_bits context.width ((sense (names_of scope.now) expr.now).value nothing context)) }
     ensures long { IfOk result (λ bits. length bits ≡ context.width) }
     ensures value { IfOk result (λ bits. (nets : Nets) (signals : Store) → number (values nets bits) ≡ (sense (names_of scope.now) expr.now).value signals context) }
     ensures below { IfOk result (λ bits. (n : ℕ) → AllBelow n bits) }

@@ -7,6 +7,7 @@ ghost use Rattle.vlog_meaning.specs.Senses.{sense, IsWhole, IsContext};
 ghost use Rattle.elab_expr.specs.Building.{HasSignals};
 ghost use Rattle.elab_expr.specs.Evaluates.{Evaluates};
 ghost use Rattle.elab_expr.specs.Expressions.{refusals, elab_error};
+ghost use Rattle.elab_expr.specs.Laid.{lay, showing};
 ghost use Rattle.elab_expr.specs.Made.{made};
 ghost use Rattle.elab_expr.specs.Refusals.{IsShort, max_cells};
 
@@ -46,6 +47,7 @@ pub fn build_expr(
     requires context { IsWhole (names_of scope.now) expr.now → IsContext (sense (names_of scope.now) expr.now).shape (record { width = width; is_signed = is_signed }) }
     requires signals { HasSignals (names_of scope.now) builder.old }
     ensures built { IfOk result (λ bits. Evaluates (names_of scope.now) expr.now (record { width = width; is_signed = is_signed }) builder.old builder.new bits) }
+    ensures laid { IfOk result (λ bits. showing builder.new bits ≡ lay (names_of scope.now) expr.now (record { width = width; is_signed = is_signed }) builder.old) }
     ensures refused { (f : Wrong) → least (refusals (names_of scope.now) expr.now (record { width = width; is_signed = is_signed })) ≡ Some f → (result ≡ Err (elab_error f)) × (builder.new ≡ builder.old) }
     ensures room { IfOk result (λ bits. length builder.old.cells + length (made (names_of scope.now) expr.now (record { width = width; is_signed = is_signed })) ≤ max_cells) }
     ensures short { refusals (names_of scope.now) expr.now (record { width = width; is_signed = is_signed }) ≡ [] → IfErr result (λ e. IsShort (length builder.old.cells + length (made (names_of scope.now) expr.now (record { width = width; is_signed = is_signed }))) e) }

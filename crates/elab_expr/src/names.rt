@@ -1,5 +1,5 @@
 //! Names in expressions: the bits of a name as they stand, at a width and sign, and from a constant place on.
-ghost use Rattle.std.specs.Prelude.{◌≡◌, ◌≤◌, ◌^◌, ◌-ℤ◌, ℕ, pos, length, IfOk, IsTrue};
+ghost use Rattle.std.specs.Prelude.{◌≡◌, ◌≤◌, ◌^◌, ◌-ℤ◌, ℕ, pos, false, length, IfOk, IsTrue};
 ghost use Rattle.netlist_core.specs.Numbers.{number};
 ghost use Rattle.netlist_core.specs.Runs.{Nets, values};
 ghost use Rattle.vlog_meaning.specs.Integers.{window, bound_integer};
@@ -8,6 +8,8 @@ ghost use Rattle.vlog_meaning.specs.Scopes.{names_of, decl_shape, decl_low, decl
 ghost use Rattle.vlog_meaning.specs.Senses.{taken};
 ghost use Rattle.elab_expr.specs.Building.{HasSignals, AllBelow, store};
 ghost use Rattle.elab_expr.specs.Evaluates.{Holds};
+ghost use Rattle.elab_expr.specs.Laid.{bits_from, widened};
+ghost use Rattle.elab_expr.specs.Laid as laid;
 
 use crate::builder::Builder;
 use crate::wiring::{constant_bits, copied_bits, extended_bits, window_bits};
@@ -23,6 +25,7 @@ pub(crate) fn name_bits(
     name: &Identifier,
 ) -> Result<BitList, AllocError>
     requires { HasSignals (names_of scope.now) builder.now }
+    ensures is { IfOk result (λ bits. bits ≡ laid.name_bits builder.now (names_of scope.now name.now.name)) }
     ensures long { IfOk result (λ bits. length bits ≡ (decl_shape (names_of scope.now name.now.name)).width) }
     ensures value { IfOk result (λ bits. (nets : Nets) → number (values nets bits) ≡ decl_value (store builder.now nets) (names_of scope.now name.now.name)) }
     ensures below { IfOk result (λ bits. AllBelow builder.now.nets bits) }
@@ -59,7 +62,8 @@ pub(crate) fn named(
     requires name { IsSized (decl_shape (names_of scope.now name.now.name)) }
     requires wide { (decl_shape (names_of scope.now name.now.name)).width ≤ context.width }
     requires narrow { context.width ≤ 128 }
-    ensures { IfOk result (λ bits. Holds builder.now bits context.width (λ signals. taken (decl_shape (names_of scope.now name.now.name)) context (decl_value signals (names_of scope.now name.now.name)))) }
+    ensures is { IfOk result (λ bits. bits ≡ widened (laid.name_bits builder.now (names_of scope.now name.now.name)) context.is_signed context.width) }
+    ensures holds { IfOk result (λ bits. Holds builder.now bits context.width (λ signals. taken (decl_shape (names_of scope.now name.now.name)) context (decl_value signals (names_of scope.now name.now.name)))) }
 {
     let bits = name_bits(builder, scope, name)?;
     Ok(extended_bits(
@@ -84,6 +88,7 @@ fn placed_bits(
     requires some { 1 ≤ size }
     requires wide { size ≤ width }
     requires narrow { width ≤ 128 }
+    ensures is { IfOk result (λ found. found ≡ widened (bits_from bits.now (bound_integer place -ℤ pos low) size) false width) }
     ensures long { IfOk result (λ found. length found ≡ width) }
     ensures value { IfOk result (λ found. (nets : Nets) → number (values nets found) ≡ window (bound_integer place -ℤ pos low) size (number (values nets bits.now))) }
     ensures below { IfOk result (λ found. (n : ℕ) → AllBelow n bits.now → AllBelow n found) }
@@ -107,7 +112,8 @@ pub(crate) fn placed(
     requires some { 1 ≤ size }
     requires wide { size ≤ width }
     requires narrow { width ≤ 128 }
-    ensures { IfOk result (λ bits. Holds builder.now bits width (λ signals. window (bound_integer place -ℤ pos (decl_low (names_of scope.now name.now.name))) size (decl_value signals (names_of scope.now name.now.name)))) }
+    ensures is { IfOk result (λ bits. bits ≡ widened (bits_from (laid.name_bits builder.now (names_of scope.now name.now.name)) (bound_integer place -ℤ pos (decl_low (names_of scope.now name.now.name))) size) false width) }
+    ensures holds { IfOk result (λ bits. Holds builder.now bits width (λ signals. window (bound_integer place -ℤ pos (decl_low (names_of scope.now name.now.name))) size (decl_value signals (names_of scope.now name.now.name)))) }
 {
     let bits = name_bits(builder, scope, name)?;
     let low = name_low(scope, name);

@@ -12,6 +12,7 @@ ghost use Rattle.vlog_meaning.specs.Senses.{is_division};
 ghost use Rattle.elab_expr.specs.Building.{AllBelow, HasSignals, store};
 ghost use Rattle.elab_expr.specs.Evaluates.{Adds, takes_sign};
 ghost use Rattle.elab_expr.specs.Kinds.{unary_kind, binary_kind};
+ghost use Rattle.elab_expr.specs.Laid.{at_width, binary_cell, cell, mux_cell, name_bits, reduced, showing, unary_cell};
 ghost use Rattle.elab_expr.specs.Made.{cell_of};
 ghost use Rattle.elab_expr.specs.Refusals.{IsShort};
 
@@ -40,6 +41,7 @@ pub(crate) fn unary_bits(
     requires below { AllBelow builder.old.nets a }
     requires wide { (if is_reduction op then 1 else at.width) ≤ width }
     requires narrow { width ≤ 128 }
+    ensures laid { IfOk result (λ y. showing builder.new y ≡ at_width width (unary_cell (unary_kind op) (if is_reduction op then 1 else at.width) span (showing builder.old a))) }
     ensures adds { IfOk result (λ y. Adds builder.old builder.new y width (λ nets. unary_value op at (number (values nets a))) (cell_of (unary_kind op) false (at.width ∷ (if is_reduction op then 1 else at.width) ∷ []) span)) }
     ensures short { IfErr result (λ e. IsShort (length builder.old.cells + length (cell_of (unary_kind op) false (at.width ∷ (if is_reduction op then 1 else at.width) ∷ []) span)) e) }
 {
@@ -73,6 +75,7 @@ pub(crate) fn binary_bits(
     requires below_b { AllBelow builder.old.nets b }
     requires wide { result_width (sizing op) left ≤ width }
     requires narrow { width ≤ 128 }
+    ensures laid { IfOk result (λ y. showing builder.new y ≡ at_width width (binary_cell (binary_kind op left.is_signed) left (result_width (sizing op) left) span a (showing builder.old b))) }
     ensures adds { IfOk result (λ y. Adds builder.old builder.new y width (λ nets. binary_value op left (number (values nets a)) right (number (values nets b))) (cell_of (binary_kind op left.is_signed) left.is_signed (left.width ∷ right.width ∷ result_width (sizing op) left ∷ []) span)) }
     ensures short { IfErr result (λ e. IsShort (length builder.old.cells + length (cell_of (binary_kind op left.is_signed) left.is_signed (left.width ∷ right.width ∷ result_width (sizing op) left ∷ []) span)) e) }
 {
@@ -92,6 +95,7 @@ pub(crate) fn condition_bits(
     requires narrow { width ≤ 128 }
     requires long { length a ≡ width }
     requires below { AllBelow builder.old.nets a }
+    ensures laid { IfOk result (λ y. showing builder.new y ≡ reduced width span (showing builder.old a)) }
     ensures adds { IfOk result (λ y. Adds builder.old builder.new y 1 (λ nets. digit (not (number (values nets a) == 0))) (if nat_lt 1 width then cell_of (Some Ror) false (width ∷ 1 ∷ []) span else [])) }
     ensures short { IfErr result (λ e. IsShort (length builder.old.cells + length (if nat_lt 1 width then cell_of (Some Ror) false (width ∷ 1 ∷ []) span else [])) e) }
 {
@@ -119,6 +123,7 @@ pub(crate) fn choice_bits(
     requires below_s { AllBelow builder.old.nets s }
     requires below_yes { AllBelow builder.old.nets yes }
     requires below_no { AllBelow builder.old.nets no }
+    ensures laid { IfOk result (λ y. showing builder.new y ≡ mux_cell width span s yes (showing builder.old no)) }
     ensures adds { IfOk result (λ y. Adds builder.old builder.new y width (λ nets. if number (values nets s) == 0 then number (values nets no) else number (values nets yes)) (cell_of (Some Mux) false (1 ∷ width ∷ width ∷ width ∷ []) span)) }
     ensures short { IfErr result (λ e. IsShort (length builder.old.cells + 1) e) }
 {
@@ -143,6 +148,7 @@ pub(crate) fn picked(
     requires some { 1 ≤ size }
     requires wide { size ≤ width }
     requires narrow { width ≤ 128 }
+    ensures laid { IfOk result (λ y. showing builder.new y ≡ at_width width (cell Pick false (name_bits builder.old (names_of scope.now name.now.name) ∷ index ∷ []) size span builder.old)) }
     ensures adds { IfOk result (λ y. Adds builder.old builder.new y width (λ nets. window (pos (number (values nets index))) size (decl_value (store builder.old nets) (names_of scope.now name.now.name))) (cell_of (Some Pick) false ((decl_shape (names_of scope.now name.now.name)).width ∷ length index ∷ size ∷ []) span)) }
     ensures short { IfErr result (λ e. IsShort (length builder.old.cells + 1) e) }
 {
@@ -168,6 +174,7 @@ fn pick_bits(
     requires some { 1 ≤ size }
     requires wide { size ≤ width }
     requires narrow { width ≤ 128 }
+    ensures laid { IfOk result (λ y. showing builder.new y ≡ at_width width (cell Pick false (a ∷ index ∷ []) size span builder.old)) }
     ensures adds { IfOk result (λ y. Adds builder.old builder.new y width (λ nets. window (pos (number (values nets index))) size (number (values nets a))) (cell_of (Some Pick) false (length a ∷ length index ∷ size ∷ []) span)) }
     ensures short { IfErr result (λ e. IsShort (length builder.old.cells + 1) e) }
 {

@@ -1,11 +1,13 @@
 //! Bits without cells: constants, the extension of bits to a width, selects at a constant place, and bits
 //! side by side.
-ghost use Rattle.std.specs.Prelude.{◌≡◌, ◌+◌, ◌*◌, ◌/◌, ◌%◌, ◌-◌, ◌≤◌, ◌<◌, ◌^◌, ℕ, pos, ◌-ℤ◌, [], ◌∷◌, ◌++◌, length, IfOk, IsTrue};
+ghost use Rattle.std.specs.Prelude.{◌≡◌, ◌+◌, ◌*◌, ◌/◌, ◌%◌, ◌-◌, ◌≤◌, ◌<◌, ◌^◌, ℕ, pos, ◌+ℤ◌, ◌-ℤ◌, false, [], ◌∷◌, ◌++◌, length, IfOk, IsTrue};
 ghost use Rattle.netlist_core.specs.Numbers.{digit, number};
 ghost use Rattle.netlist_core.specs.Runs.{Nets, bit_value, values};
 ghost use Rattle.vlog_meaning.specs.Integers.{extended, window, bound_integer};
 ghost use Rattle.vlog_meaning.specs.Senses.{repeated};
 ghost use Rattle.elab_expr.specs.Building.{AllBelow};
+ghost use Rattle.elab_expr.specs.Laid.{bit_of, bits_from, number_bits, widened};
+ghost use Rattle.elab_expr.specs.Laid as laid;
 ghost use Rattle.elab_expr.specs.Wiring.{ShapeOfBits, fill_bit, bit_or_0, window_digit};
 
 use netlist_core::{Bit, BitList};
@@ -16,6 +18,7 @@ use vlog_meaning::Bound;
 pub fn constant_bits(alloc: Global, value: u128, width: u8) -> Result<BitList, AllocError>
     requires narrow { width ≤ 128 }
     requires fits { value < 2 ^ width }
+    ensures is { IfOk result (λ bits. bits ≡ number_bits width value) }
     ensures long { IfOk result (λ bits. length bits ≡ width) }
     ensures value { IfOk result (λ bits. (nets : Nets) → number (values nets bits) ≡ value) }
     ensures below { IfOk result (λ bits. (n : ℕ) → AllBelow n bits) }
@@ -51,6 +54,7 @@ pub fn extended_bits(
     requires some { 1 ≤ length bits.now }
     requires wide { length bits.now ≤ width }
     requires narrow { width ≤ 128 }
+    ensures is { IfOk result (λ found. found ≡ widened bits.now is_signed width) }
     ensures long { IfOk result (λ found. length found ≡ width) }
     ensures value { IfOk result (λ found. (nets : Nets) → number (values nets found) ≡ extended (ShapeOfBits bits.now is_signed) width (number (values nets bits.now))) }
     ensures below { IfOk result (λ found. (n : ℕ) → AllBelow n bits.now → AllBelow n found) }
@@ -82,6 +86,7 @@ fn bit_at(bits: &[Bit], place: u128) -> Bit
 fn window_bit(bits: &[Bit], place: Bound, low: u32, k: u8) -> Bit
     requires short { length bits.now ≤ 128 }
     requires small { IsTrue place.is_negative → place.magnitude ≤ 2 ^ 127 }
+    ensures is { result ≡ bit_of bits.now (bound_integer place -ℤ pos low +ℤ pos k) }
     ensures value { (nets : Nets) → digit (bit_value nets result) ≡ window_digit (bound_integer place -ℤ pos low) k (number (values nets bits.now)) }
     ensures below { (n : ℕ) → AllBelow n bits.now → AllBelow n (result ∷ []) }
 {
@@ -113,6 +118,7 @@ pub fn window_bits(
 ) -> Result<BitList, AllocError>
     requires short { length bits.now ≤ 128 }
     requires small { IsTrue place.is_negative → place.magnitude ≤ 2 ^ 127 }
+    ensures is { IfOk result (λ found. found ≡ bits_from bits.now (bound_integer place -ℤ pos low) width) }
     ensures long { IfOk result (λ found. length found ≡ width) }
     ensures value { IfOk result (λ found. (nets : Nets) → number (values nets found) ≡ window (bound_integer place -ℤ pos low) width (number (values nets bits.now))) }
     ensures below { IfOk result (λ found. (n : ℕ) → AllBelow n bits.now → AllBelow n found) }
@@ -144,6 +150,7 @@ pub fn copied_bits(alloc: Global, bits: &[Bit]) -> Result<BitList, AllocError>
 
 /// So many times the same bits.
 pub fn repeated_bits(alloc: Global, bits: &[Bit], times: u8) -> Result<BitList, AllocError>
+    ensures is { IfOk result (λ found. found ≡ laid.times times bits.now) }
     ensures long { IfOk result (λ found. length found ≡ times * length bits.now) }
     ensures value { IfOk result (λ found. (nets : Nets) → number (values nets found) ≡ repeated times (length bits.now) (number (values nets bits.now))) }
     ensures below { IfOk result (λ found. (n : ℕ) → AllBelow n bits.now → AllBelow n found) }
@@ -165,6 +172,7 @@ pub(crate) fn repeated_at(
     requires some { 1 ≤ times * length bits.now }
     requires wide { times * length bits.now ≤ width }
     requires narrow { width ≤ 128 }
+    ensures is { IfOk result (λ found. found ≡ widened (laid.times times bits.now) false width) }
     ensures long { IfOk result (λ found. length found ≡ width) }
     ensures value { IfOk result (λ found. (nets : Nets) → number (values nets found) ≡ repeated times (length bits.now) (number (values nets bits.now))) }
     ensures below { IfOk result (λ found. (n : ℕ) → AllBelow n bits.now → AllBelow n found) }

@@ -1,4 +1,4 @@
-use Rattle.std.proofs.Common.{◌∙◌, ◌++◌, List, length, refl, sym, ap, arith, rules, add-one}
+use Rattle.std.proofs.Common.{◌≡◌, ◌∙◌, ◌++◌, List, length, refl, sym, ap, arith, rules, add-one}
 use Rattle.std.proofs.lemmas.Result.{IfOk-weaker, IfErr-weaker}
 use Rattle.netlist_core.specs.declared.bit.Bit.{Bit}
 use Rattle.std.proofs.lemmas.List.{take_all}
@@ -18,6 +18,9 @@ use Rattle.elab_expr.proofs.Operands.{sized_as, operand_is, left_is, right_is, r
 use Rattle.elab_expr.proofs.Parts.{below_later, grown_nets, grows_again}
 use Rattle.elab_expr.proofs.Arms.{same_short, unary_cells_are, unary_built, binary_cells_are, binary_built, condition_cells_are, condition_built, choice_adds, conditional_built, pick_cells_are, pick_built, joins_none, joins_more, joins_short, joined_extended, joined_fits, replicated_built}
 use Rattle.elab_expr.proofs.Facts as fact
+use Rattle.elab_expr.specs.Laid.{showing, layout, lay_arms, lay_condition}
+use Rattle.elab_expr.proofs.Netlists as net
+use Rattle.elab_expr.proofs.Netlists.{parts_more}
 use Rattle.elab_expr.proofs.build.+build.Goals as goal
 
 pub unary-returns-clause-built : goal.unary-returns-clause-built
@@ -154,7 +157,7 @@ select-picked-requires-clause-signals t c =
 
 pub select-returns-in_ok-placed-clause-built : goal.select-returns-in_ok-placed-clause-built
 select-returns-in_ok-placed-clause-built t c =
-    place_built (names_of c.args.scope.now) c.args.name.now.name c.args.index.now c.args.span c.args.size c.args.width (bound_integer c.index_of-place.result) c.args.builder.now c.in_ok-placed.field-0 (sym c.is_constant.ensures ∙ c.if-is_constant.true) c.index_of-place.ensures.value c.in_ok-placed.ensures
+    place_built (names_of c.args.scope.now) c.args.name.now.name c.args.index.now c.args.span c.args.size c.args.width (bound_integer c.index_of-place.result) c.args.builder.now c.in_ok-placed.field-0 (sym c.is_constant.ensures ∙ c.if-is_constant.true) c.index_of-place.ensures.value c.in_ok-placed.ensures.holds
 
 pub select-returns-in_ok-at-clause-built : goal.select-returns-in_ok-at-clause-built
 select-returns-in_ok-at-clause-built t c =
@@ -180,7 +183,7 @@ select-returns-in_ok-at-clause-short t c =
 pub concatenation-loop-part-init : goal.concatenation-loop-part-init
 concatenation-loop-part-init t c =
     let names = names_of c.args.scope.now in
-    joins_none names c.args.builder.now c.from_vec-all.result (search rules)
+    record { built = joins_none names c.args.builder.now c.from_vec-all.result (search rules); laid = ap (showing c.args.builder.now) (search rules) }
 
 pub concatenation-shape_of-requires-in-loop-part : goal.concatenation-shape_of-requires-in-loop-part
 concatenation-shape_of-requires-in-loop-part t c =
@@ -190,17 +193,20 @@ concatenation-shape_of-requires-in-loop-part t c =
 pub concatenation-build-requires : goal.concatenation-build-requires
 concatenation-build-requires t c =
     let names = names_of c.args.scope.now in
-    (search (rules, the_lemmas), (element_whole names c.args.parts.now c.loop-part.part-index c.part-item.result c.part-item.is (omega arith) c.requires.whole, (element_supported names c.args.parts.now c.loop-part.part-index c.part-item.result c.part-item.is (omega arith) c.requires.supported, (own_context (sense names c.part-item.result).shape c.shape_of.result c.shape_of.ensures.shape c.shape_of.ensures.sized, (c.shape_of.ensures.sized.some, signals_kept names c.args.builder.now c.loop-part.builder c.loop-part.invariant.grows c.requires.signals)))))
+    (search (rules, the_lemmas), (element_whole names c.args.parts.now c.loop-part.part-index c.part-item.result c.part-item.is (omega arith) c.requires.whole, (element_supported names c.args.parts.now c.loop-part.part-index c.part-item.result c.part-item.is (omega arith) c.requires.supported, (own_context (sense names c.part-item.result).shape c.shape_of.result c.shape_of.ensures.shape c.shape_of.ensures.sized, (c.shape_of.ensures.sized.some, signals_kept names c.args.builder.now c.loop-part.builder c.loop-part.invariant.built.grows c.requires.signals)))))
 
 pub concatenation-loop-part-preserved : goal.concatenation-loop-part-preserved
 concatenation-loop-part-preserved t c =
     let names = names_of c.args.scope.now in
-    rw add-one (joins_more names c.args.parts.now c.loop-part.part-index c.part-item.result c.shape_of.result c.args.builder.now c.loop-part.builder c.build.new.builder c.loop-part.all c.in_ok-bits.bits c.in_ok-all.all c.part-item.is (omega arith) c.shape_of.ensures.shape c.loop-part.invariant c.in_ok-bits.ensures.built (c.in_ok-all.ensures ∙ ap (λ (l : List Bit). c.in_ok-bits.bits ++ l) c.as_slice.ensures))
+    record {
+      built = rw add-one (joins_more names c.args.parts.now c.loop-part.part-index c.part-item.result c.shape_of.result c.args.builder.now c.loop-part.builder c.build.new.builder c.loop-part.all c.in_ok-bits.bits c.in_ok-all.all c.part-item.is (omega arith) c.shape_of.ensures.shape c.loop-part.invariant.built c.in_ok-bits.ensures.built (c.in_ok-all.ensures ∙ ap (λ (l : List Bit). c.in_ok-bits.bits ++ l) c.as_slice.ensures));
+      laid = rw add-one (parts_more names c.args.parts.now c.loop-part.part-index c.part-item.result c.shape_of.result c.args.builder.now c.loop-part.builder c.build.new.builder c.loop-part.all c.in_ok-bits.bits c.in_ok-all.all c.part-item.is (omega arith) c.shape_of.ensures.shape c.loop-part.invariant.laid c.in_ok-bits.ensures.laid (c.in_ok-all.ensures ∙ ap (λ (l : List Bit). c.in_ok-bits.bits ++ l) c.as_slice.ensures));
+    }
 
 pub concatenation-returns-in_err-bits-clause-short : goal.concatenation-returns-in_err-bits-clause-short
 concatenation-returns-in_err-bits-clause-short t c =
     let names = names_of c.args.scope.now in
-    same_err c.from_residual.result c.in_err-bits.field-0.0 _ c.from_residual.ensures.1 (joins_short names c.args.parts.now c.loop-part.part-index c.part-item.result c.shape_of.result c.args.builder.now c.loop-part.builder c.loop-part.all _ c.part-item.is (omega arith) c.shape_of.ensures.shape c.loop-part.invariant c.in_err-bits.ensures.short)
+    same_err c.from_residual.result c.in_err-bits.field-0.0 _ c.from_residual.ensures.1 (joins_short names c.args.parts.now c.loop-part.part-index c.part-item.result c.shape_of.result c.args.builder.now c.loop-part.builder c.loop-part.all _ c.part-item.is (omega arith) c.shape_of.ensures.shape c.loop-part.invariant.built c.in_err-bits.ensures.short)
 
 pub joined_at-returns-clause-built : goal.joined_at-returns-clause-built
 joined_at-returns-clause-built t c =
@@ -225,7 +231,7 @@ build-returns-in_ok-folded-clause-built t c =
 pub build_parts-returns-in_ok-named-in-Name-clause-built : goal.build_parts-returns-in_ok-named-in-Name-clause-built
 build_parts-returns-in_ok-named-in-Name-clause-built t c =
     let names = names_of c.args.scope.now in
-    fact.name_built names c.args.expr.now c.args.context c.in-Name.name c.in-Name.is c.args.builder.now c.args.builder.now c.in_ok-named-in-Name.field-0 c.requires.varies (held c.args.builder.now c.in_ok-named-in-Name.field-0 c.args.context.width _ c.in_ok-named-in-Name.ensures)
+    fact.name_built names c.args.expr.now c.args.context c.in-Name.name c.in-Name.is c.args.builder.now c.args.builder.now c.in_ok-named-in-Name.field-0 c.requires.varies (held c.args.builder.now c.in_ok-named-in-Name.field-0 c.args.context.width _ c.in_ok-named-in-Name.ensures.holds)
 
 pub build_parts-select-requires : goal.build_parts-select-requires
 build_parts-select-requires t c =
@@ -250,7 +256,7 @@ build_parts-bound_of-place-requires t c =
 pub build_parts-returns-in_ok-placed-in-PartSelect-clause-built : goal.build_parts-returns-in_ok-placed-in-PartSelect-clause-built
 build_parts-returns-in_ok-placed-in-PartSelect-clause-built t c =
     let names = names_of c.args.scope.now in
-    fact.part_built names c.args.expr.now c.args.context c.in-PartSelect.name c.in-PartSelect.field-1 c.in-PartSelect.field-2 c.in-PartSelect.lsb c.in-PartSelect.is c.args.builder.now c.args.builder.now c.in_ok-placed-in-PartSelect.field-0 (bound_integer c.bound_of-place.result) c.shape_of-size.result.width c.requires.varies (rw c.get-in-PartSelect.ensures at c.bound_of-place.ensures.value) (ap (λ (s : Shape). s.width) c.shape_of-size.ensures.shape) (held c.args.builder.now c.in_ok-placed-in-PartSelect.field-0 c.args.context.width _ c.in_ok-placed-in-PartSelect.ensures)
+    fact.part_built names c.args.expr.now c.args.context c.in-PartSelect.name c.in-PartSelect.field-1 c.in-PartSelect.field-2 c.in-PartSelect.lsb c.in-PartSelect.is c.args.builder.now c.args.builder.now c.in_ok-placed-in-PartSelect.field-0 (bound_integer c.bound_of-place.result) c.shape_of-size.result.width c.requires.varies (rw c.get-in-PartSelect.ensures at c.bound_of-place.ensures.value) (ap (λ (s : Shape). s.width) c.shape_of-size.ensures.shape) (held c.args.builder.now c.in_ok-placed-in-PartSelect.field-0 c.args.context.width _ c.in_ok-placed-in-PartSelect.ensures.holds)
 
 pub build_parts-count_of-size-requires-clause-whole : goal.build_parts-count_of-size-requires-clause-whole
 build_parts-count_of-size-requires-clause-whole t c =
@@ -368,4 +374,104 @@ build_parts-returns-in-SystemFunctionCall-clause-short t c =
     IfErr-weaker c.joined_at-in-SystemFunctionCall.result _ _ (λ e h. same_short (length c.args.builder.now.cells) _ _ e (fact.call_made names c.args.expr.now c.args.context c.in-SystemFunctionCall.name c.in-SystemFunctionCall.arguments c.in-SystemFunctionCall.is c.requires.whole c.requires.supported c.requires.varies) h) (rw c.as_slice-in-SystemFunctionCall.ensures at c.joined_at-in-SystemFunctionCall.ensures.short)
 
 pub concatenation-returns-clause-built : goal.concatenation-returns-clause-built
-concatenation-returns-clause-built t c = rw (take_all c.loop-part.part-index c.args.parts.now (omega arith)) at c.loop-part.invariant
+concatenation-returns-clause-built t c = rw (take_all c.loop-part.part-index c.args.parts.now (omega arith)) at c.loop-part.invariant.built
+
+pub unary-returns-clause-laid : goal.unary-returns-clause-laid
+unary-returns-clause-laid t c =
+    let names = names_of c.args.scope.now in
+    let i = c.args.operand.now in
+    let at = operand_is c.args.op c.shape_of.result (sense names i).shape c.args.context c.operand_context-at.result c.shape_of.ensures.shape c.operand_context-at.ensures in
+    IfOk-weaker c.unary_bits.result _ _ (λ y b. net.unary_laid names i c.args.op c.args.span c.args.context c.operand_context-at.result c.args.builder.now c.build.new.builder c.unary_bits.new.builder c.in_ok-a.a y at c.in_ok-a.ensures.laid b) c.unary_bits.ensures.laid
+
+pub binary-returns-clause-laid : goal.binary-returns-clause-laid
+binary-returns-clause-laid t c =
+    let names = names_of c.args.scope.now in
+    let i = c.args.left.now in
+    let j = c.args.right.now in
+    let r = sizing c.args.op in
+    let l = left_is c.sizing_of-sizing.result r c.shape_of-left_shape.result c.shape_of-right_shape.result (sense names i).shape (sense names j).shape c.args.context c.left_context-left_at.result c.sizing_of-sizing.ensures c.shape_of-left_shape.ensures.shape c.shape_of-right_shape.ensures.shape c.left_context-left_at.ensures in
+    let k = right_is c.sizing_of-sizing.result r c.shape_of-left_shape.result c.shape_of-right_shape.result (sense names i).shape (sense names j).shape c.args.context c.right_context-right_at.result c.sizing_of-sizing.ensures c.shape_of-left_shape.ensures.shape c.shape_of-right_shape.ensures.shape c.right_context-right_at.ensures in
+    IfOk-weaker c.binary_bits.result _ _ (λ y b. net.binary_laid names i j c.args.op c.args.span c.args.context c.left_context-left_at.result c.right_context-right_at.result c.args.builder.now c.build.new.builder c.build-2.new.builder c.binary_bits.new.builder c.in_ok-a.a c.in_ok-b.b y l k c.in_ok-a.ensures.laid c.in_ok-b.ensures.laid b) c.binary_bits.ensures.laid
+
+pub condition-returns-clause-laid : goal.condition-returns-clause-laid
+condition-returns-clause-laid t c =
+    let names = names_of c.args.scope.now in
+    let x = c.args.expr.now in
+    IfOk-weaker c.condition_bits.result _ _ (λ y b. net.condition_laid names x c.shape_of-own.result c.first_token.result c.args.builder.now c.build.new.builder c.condition_bits.new.builder c.in_ok-a.a y c.shape_of-own.ensures.shape c.first_token.ensures c.in_ok-a.ensures.laid b) c.condition_bits.ensures.laid
+
+pub choice-returns-clause-laid : goal.choice-returns-clause-laid
+choice-returns-clause-laid t c =
+    let names = names_of c.args.scope.now in
+    let i = c.args.yes.now in
+    let j = c.args.no.now in
+    IfOk-weaker c.choice_bits.result _ _ (λ y b. net.arms_laid names i j c.args.span c.args.context c.args.builder.now c.build.new.builder c.build-2.new.builder c.choice_bits.new.builder c.args.s c.in_ok-yes.yes c.in_ok-no.no y c.in_ok-yes.ensures.laid c.in_ok-no.ensures.laid b) c.choice_bits.ensures.laid
+
+pub conditional-returns-clause-laid : goal.conditional-returns-clause-laid
+conditional-returns-clause-laid t c =
+    let names = names_of c.args.scope.now in
+    IfOk-weaker c.choice.result _ _ (λ y b. net.conditional_laid names c.args.test.now c.args.yes.now c.args.no.now c.args.span c.args.context c.args.builder.now c.condition.new.builder c.choice.new.builder c.in_ok-s.s y c.in_ok-s.ensures.laid b) c.choice.ensures.laid
+
+pub select-returns-in_ok-placed-clause-laid : goal.select-returns-in_ok-placed-clause-laid
+select-returns-in_ok-placed-clause-laid t c =
+    let names = names_of c.args.scope.now in
+    net.place_laid names (names c.args.name.now.name) c.args.index.now c.args.span c.args.size c.args.width c.args.builder.now (bound_integer c.index_of-place.result) c.in_ok-placed.field-0 (sym c.is_constant.ensures ∙ c.if-is_constant.true) c.index_of-place.ensures.value c.in_ok-placed.ensures.is
+
+pub select-returns-in_ok-at-clause-laid : goal.select-returns-in_ok-at-clause-laid
+select-returns-in_ok-at-clause-laid t c =
+    let names = names_of c.args.scope.now in
+    IfOk-weaker c.picked.result _ _ (λ y b. net.pick_laid names (names c.args.name.now.name) c.args.index.now c.args.span c.args.size c.args.width c.args.builder.now c.shape_of.result c.build.new.builder c.picked.new.builder c.in_ok-at.at y (sym c.is_constant.ensures ∙ c.if-is_constant.false) c.shape_of.ensures.shape c.in_ok-at.ensures.laid b) c.picked.ensures.laid
+
+pub concatenation-returns-clause-laid : goal.concatenation-returns-clause-laid
+concatenation-returns-clause-laid t c = rw (take_all c.loop-part.part-index c.args.parts.now (omega arith)) at c.loop-part.invariant.laid
+
+pub joined_at-returns-clause-laid : goal.joined_at-returns-clause-laid
+joined_at-returns-clause-laid t c = net.joined_laid _ c.concatenation.new.builder c.in_ok-bits.bits c.in_ok-extended_bits.field-0 c.args.own.is_signed c.args.width c.in_ok-bits.ensures.laid (rw c.as_slice.ensures at c.in_ok-extended_bits.ensures.is)
+
+pub replicated-returns-clause-laid : goal.replicated-returns-clause-laid
+replicated-returns-clause-laid t c = net.replicated_laid _ c.concatenation.new.builder c.in_ok-bits.bits c.in_ok-repeated_at.field-0 c.args.times c.args.width c.in_ok-bits.ensures.laid (rw c.as_slice.ensures at c.in_ok-repeated_at.ensures.is)
+
+pub build-returns-in_ok-folded-clause-laid : goal.build-returns-in_ok-folded-clause-laid
+build-returns-in_ok-folded-clause-laid t c = net.constant_laid (names_of c.args.scope.now) c.args.expr.now c.args.context c.args.builder.now c.in_ok-folded.field-0 (sym c.is_constant.ensures ∙ c.if-is_constant.true) c.in_ok-folded.ensures.is
+
+pub build_parts-returns-in_ok-named-in-Name-clause-laid : goal.build_parts-returns-in_ok-named-in-Name-clause-laid
+build_parts-returns-in_ok-named-in-Name-clause-laid t c = net.name_whole (names_of c.args.scope.now) c.args.expr.now c.args.context c.args.builder.now c.requires.varies c.in-Name.name c.in_ok-named-in-Name.field-0 c.in-Name.is c.in_ok-named-in-Name.ensures.is
+
+pub build_parts-returns-in-BitSelect-clause-laid : goal.build_parts-returns-in-BitSelect-clause-laid
+build_parts-returns-in-BitSelect-clause-laid t c =
+    IfOk-weaker c.select.result _ _ (λ y h. net.bit_whole (names_of c.args.scope.now) c.args.expr.now c.args.context c.args.builder.now c.requires.varies c.in-BitSelect.name c.in-BitSelect.span c.in-BitSelect.index (showing c.select.new.builder y) c.in-BitSelect.is h) (rw c.get.ensures at c.select.ensures.laid)
+
+pub build_parts-returns-in_ok-placed-in-PartSelect-clause-laid : goal.build_parts-returns-in_ok-placed-in-PartSelect-clause-laid
+build_parts-returns-in_ok-placed-in-PartSelect-clause-laid t c = net.part_whole (names_of c.args.scope.now) c.args.expr.now c.args.context c.args.builder.now c.requires.varies c.in-PartSelect.name c.in-PartSelect.field-1 c.in-PartSelect.field-2 c.in-PartSelect.lsb (bound_integer c.bound_of-place.result) c.shape_of-size.result.width c.in_ok-placed-in-PartSelect.field-0 c.in-PartSelect.is (rw c.get-in-PartSelect.ensures at c.bound_of-place.ensures.value) (ap (λ (s : Shape). s.width) c.shape_of-size.ensures.shape) c.in_ok-placed-in-PartSelect.ensures.is
+
+pub build_parts-returns-in-IndexedPartSelect-clause-laid : goal.build_parts-returns-in-IndexedPartSelect-clause-laid
+build_parts-returns-in-IndexedPartSelect-clause-laid t c =
+    IfOk-weaker c.select-in-IndexedPartSelect.result _ _ (λ y h. net.indexed_whole (names_of c.args.scope.now) c.args.expr.now c.args.context c.args.builder.now c.requires.varies c.in-IndexedPartSelect.name c.in-IndexedPartSelect.span c.in-IndexedPartSelect.base c.in-IndexedPartSelect.width c.count_of-size.result (showing c.select-in-IndexedPartSelect.new.builder y) c.in-IndexedPartSelect.is (rw c.get-in-IndexedPartSelect.ensures at c.count_of-size.ensures) h) (rw c.get-in-IndexedPartSelect-2.ensures at c.select-in-IndexedPartSelect.ensures.laid)
+
+pub build_parts-returns-in-Parenthesized-clause-laid : goal.build_parts-returns-in-Parenthesized-clause-laid
+build_parts-returns-in-Parenthesized-clause-laid t c =
+    IfOk-weaker c.build.result _ _ (λ y h. net.inner_whole (names_of c.args.scope.now) c.args.expr.now c.args.context c.args.builder.now c.requires.varies c.in-Parenthesized.field-0 c.in-Parenthesized.inner (showing c.build.new.builder y) c.in-Parenthesized.is h) (rw c.get-in-Parenthesized.ensures at c.build.ensures.laid)
+
+pub build_parts-returns-in-Unary-clause-laid : goal.build_parts-returns-in-Unary-clause-laid
+build_parts-returns-in-Unary-clause-laid t c =
+    IfOk-weaker c.unary.result _ _ (λ y h. net.unary_whole (names_of c.args.scope.now) c.args.expr.now c.args.context c.args.builder.now c.requires.varies c.in-Unary.span c.in-Unary.op c.in-Unary.operand (showing c.unary.new.builder y) c.in-Unary.is h) (rw c.get-in-Unary.ensures at c.unary.ensures.laid)
+
+pub build_parts-returns-in-Binary-clause-laid : goal.build_parts-returns-in-Binary-clause-laid
+build_parts-returns-in-Binary-clause-laid t c =
+    IfOk-weaker c.binary.result _ _ (λ y h. net.binary_whole (names_of c.args.scope.now) c.args.expr.now c.args.context c.args.builder.now c.requires.varies c.in-Binary.span c.in-Binary.op c.in-Binary.left c.in-Binary.right (showing c.binary.new.builder y) c.in-Binary.is h) (rw (c.get-in-Binary.ensures, c.get-in-Binary-2.ensures) at c.binary.ensures.laid)
+
+pub build_parts-returns-in-Conditional-clause-laid : goal.build_parts-returns-in-Conditional-clause-laid
+build_parts-returns-in-Conditional-clause-laid t c =
+    let names = names_of c.args.scope.now in
+    IfOk-weaker c.conditional.result (λ y. showing c.conditional.new.builder y ≡ lay_arms c.in-Conditional.span (layout names c.in-Conditional.yes) (layout names c.in-Conditional.no) c.args.context (lay_condition (layout names c.in-Conditional.test) c.args.builder.now)) _ (λ y h. net.conditional_whole names c.args.expr.now c.args.context c.args.builder.now c.requires.varies c.in-Conditional.span c.in-Conditional.test c.in-Conditional.yes c.in-Conditional.no (showing c.conditional.new.builder y) c.in-Conditional.is h) (rw (c.get-in-Conditional.ensures, c.get-in-Conditional-2.ensures, c.get-in-Conditional-3.ensures) at c.conditional.ensures.laid)
+
+pub build_parts-returns-in-Concatenation-clause-laid : goal.build_parts-returns-in-Concatenation-clause-laid
+build_parts-returns-in-Concatenation-clause-laid t c =
+    IfOk-weaker c.joined_at.result _ _ (λ y h. net.concatenation_whole (names_of c.args.scope.now) c.args.expr.now c.args.context c.args.builder.now c.requires.varies c.in-Concatenation.field-0 c.in-Concatenation.parts c.shape_of-own.result (showing c.joined_at.new.builder y) c.in-Concatenation.is c.shape_of-own.ensures.shape h) (rw c.as_slice.ensures at c.joined_at.ensures.laid)
+
+pub build_parts-returns-in-MultipleConcatenation-clause-laid : goal.build_parts-returns-in-MultipleConcatenation-clause-laid
+build_parts-returns-in-MultipleConcatenation-clause-laid t c =
+    IfOk-weaker c.replicated.result _ _ (λ y h. net.multiple_whole (names_of c.args.scope.now) c.args.expr.now c.args.context c.args.builder.now c.requires.varies c.in-MultipleConcatenation.field-0 c.in-MultipleConcatenation.times c.in-MultipleConcatenation.parts c.count_of-times.result (showing c.replicated.new.builder y) c.in-MultipleConcatenation.is (rw c.get-in-MultipleConcatenation.ensures at c.count_of-times.ensures) h) (rw c.as_slice-in-MultipleConcatenation.ensures at c.replicated.ensures.laid)
+
+pub build_parts-returns-in-SystemFunctionCall-clause-laid : goal.build_parts-returns-in-SystemFunctionCall-clause-laid
+build_parts-returns-in-SystemFunctionCall-clause-laid t c =
+    IfOk-weaker c.joined_at-in-SystemFunctionCall.result _ _ (λ y h. net.call_whole (names_of c.args.scope.now) c.args.expr.now c.args.context c.args.builder.now c.requires.varies c.in-SystemFunctionCall.name c.in-SystemFunctionCall.arguments c.shape_of.result c.argument_shape-own.result (showing c.joined_at-in-SystemFunctionCall.new.builder y) c.in-SystemFunctionCall.is c.argument_shape-own.ensures h) (rw c.as_slice-in-SystemFunctionCall.ensures at c.joined_at-in-SystemFunctionCall.ensures.laid)

@@ -1,6 +1,7 @@
-use Rattle.std.proofs.Common.{◌+◌, ◌*◌, max, take}
+use Rattle.std.proofs.Common.{◌≡◌, ◌+◌, ◌*◌, [], max, take}
 use Rattle.vlog_syntax.specs.declared.expr.Expr.TheViews.{size-Expr}
 use Rattle.vlog_meaning.specs.Scopes.{names_of}
+use Rattle.elab_expr.specs.Laid.{lay_parts, layouts, showing}
 use Rattle.elab_expr.proofs.Arms.{Joins}
 use Rattle.elab_expr.proofs.build.+build.Given as goal
 
@@ -38,4 +39,7 @@ abbrev pub decreases-replicated : goal.decreases-replicated
 decreases-replicated l = 8 * goal.size-replicated l + 5
 
 abbrev pub invariant-concatenation-loop-part : goal.invariant-concatenation-loop-part
-invariant-concatenation-loop-part l = Joins (names_of l.scope) (take l.part-index l.parts) l.fn.builder l.builder l.all
+invariant-concatenation-loop-part l = record {
+  built : Joins (names_of l.scope) (take l.part-index l.parts) l.fn.builder l.builder l.all;
+  laid : showing l.builder l.all ≡ lay_parts (layouts (names_of l.scope) (take l.part-index l.parts)) l.fn.builder [];
+}

@@ -1,5 +1,8 @@
 use Rattle.std.proofs.Common.{◌∙◌, arith}
 use Rattle.elab_expr.proofs.Adding.{zeros_above}
+use Rattle.std.proofs.Common.{List, ap, false}
+use Rattle.netlist_core.specs.declared.bit.Bit.{Bit}
+use Rattle.elab_expr.specs.Laid.{widened}
 use Rattle.elab_expr.proofs.names.placed_bits.Goals as goal
 
 pub returns-clause-value : goal.returns-clause-value
@@ -7,3 +10,6 @@ returns-clause-value c = λ nets. zeros_above nets c.in_ok-part.part c.in_ok-ext
 
 pub returns-clause-below : goal.returns-clause-below
 returns-clause-below c = λ n h. (rw c.as_slice.ensures at (c.in_ok-extended_bits.ensures.below n)) (c.in_ok-part.ensures.below n h)
+
+pub returns-clause-is : goal.returns-clause-is
+returns-clause-is c = (rw c.as_slice.ensures at c.in_ok-extended_bits.ensures.is) ∙ ap (λ (l : List Bit). widened l false c.args.width) c.in_ok-part.ensures.is

@@ -1,11 +1,13 @@
-use Rattle.std.proofs.Common.{◌≡◌, ◌+◌, ◌-◌, ◌*◌, ◌<◌, ◌^◌, ℕ, length}
+use Rattle.std.proofs.Common.{◌≡◌, ◌+◌, ◌-◌, ◌*◌, ◌<◌, ◌^◌, ◌++◌, ℕ, length}
 use Rattle.netlist_core.specs.Numbers.{number}
 use Rattle.netlist_core.specs.Runs.{Nets, values}
 use Rattle.elab_expr.specs.Building.{AllBelow}
+use Rattle.elab_expr.specs.Laid.{number_bits}
 use Rattle.elab_expr.proofs.wiring.constant_bits.Given as goal
 
 abbrev pub invariant-loop : goal.invariant-loop
 invariant-loop l = record {
+  is : l.bits.items ++ number_bits (l.width - l.counter) l.rest ≡ number_bits l.width l.value;
   long : length l.bits.items ≡ l.counter;
   small : l.rest < 2 ^ (l.width - l.counter);
   same : (nets : Nets) → number (values nets l.bits.items) + l.rest * 2 ^ l.counter ≡ l.value;

@@ -4,6 +4,7 @@ use Rattle.netlist_core.specs.Numbers.{number}
 use Rattle.netlist_core.specs.Runs.{values}
 use Rattle.elab_expr.proofs.Extensions.{extended_is, fill_more}
 use Rattle.elab_expr.proofs.Selects.{below_filled}
+use Rattle.elab_expr.proofs.Wires.{widened_is}
 use Rattle.elab_expr.proofs.wiring.extended_bits.Goals as goal
 
 pub loop-fill-preserved : goal.loop-fill-preserved
@@ -18,3 +19,6 @@ returns-clause-value c = λ nets. ap (λ (l : List Bit). number (values nets l))
 
 pub returns-clause-below : goal.returns-clause-below
 returns-clause-below c = λ n h. below_filled n c.args.bits.now c.from_vec.result (length c.loop-fill.found.items - length c.args.bits.now) c.args.is_signed c.fill_bit-fill.result c.fill_bit-fill.ensures (c.from_vec.ensures ∙ c.loop-fill.invariant.same) h
+
+pub returns-clause-is : goal.returns-clause-is
+returns-clause-is c = c.from_vec.ensures ∙ widened_is c.args.bits.now c.loop-fill.found.items c.args.width c.args.is_signed c.fill_bit-fill.result c.fill_bit-fill.ensures (omega arith) c.loop-fill.invariant.same

@@ -1,4 +1,6 @@
-use Rattle.std.proofs.Common.{◌∙◌, arith}
+use Rattle.std.proofs.Common.{◌∙◌, List, ap, arith, false}
+use Rattle.netlist_core.specs.declared.bit.Bit.{Bit}
+use Rattle.elab_expr.specs.Laid.{widened}
 use Rattle.elab_expr.proofs.Adding.{zeros_above}
 use Rattle.elab_expr.proofs.wiring.repeated_at.Goals as goal
 
@@ -7,3 +9,6 @@ returns-clause-value c = λ nets. zeros_above nets c.in_ok-all.all c.in_ok-exten
 
 pub returns-clause-below : goal.returns-clause-below
 returns-clause-below c = λ n h. (rw c.as_slice.ensures at (c.in_ok-extended_bits.ensures.below n)) (c.in_ok-all.ensures.below n h)
+
+pub returns-clause-is : goal.returns-clause-is
+returns-clause-is c = (rw c.as_slice.ensures at c.in_ok-extended_bits.ensures.is) ∙ ap (λ (l : List Bit). widened l false c.args.width) c.in_ok-all.ensures.is

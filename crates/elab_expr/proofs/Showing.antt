@@ -1,0 +1,45 @@
+-- What an operator lays, from what the calls below it tell.
+use Rattle.std.proofs.Common.{◌≡◌, ℕ, ◌<◌, ◌≤◌, ◌&&◌, Bool, true, false, List, [], ◌∷◌, refl, sym, ap, ◌∙◌, arith}
+use Rattle.std.proofs.lemmas.Bool.Decides.{nat_tests}
+use Rattle.std.specs.Prelude.{Option, Some, None, nat_lt, if◌then◌else◌}
+use Rattle.mcy_base.specs.declared.span.Span.{Span}
+use Rattle.netlist_core.specs.declared.bit.Bit.{Bit}
+use Rattle.netlist_core.specs.declared.cell.CellKind.{CellKind}
+use Rattle.netlist_core.specs.declared.cell.CellKind.TheVariants.{Ror, Pick}
+use Rattle.vlog_syntax.specs.declared.operator.UnaryOperator.{UnaryOperator}
+use Rattle.vlog_syntax.specs.declared.operator.BinaryOperator.{BinaryOperator}
+use Rattle.vlog_meaning.specs.declared.scope.Decl.{Decl}
+use Rattle.vlog_meaning.specs.declared.shapes.Shape.{Shape}
+use Rattle.vlog_meaning.specs.Operators.{sizing, result_width, is_reduction}
+use Rattle.elab_expr.specs.Building.{Building, fresh_bits, with_cell}
+use Rattle.elab_expr.specs.Kinds.{unary_kind, binary_kind, is_order}
+use Rattle.elab_expr.specs.Laid.{Laid, showing, cell, at_width, widened, name_bits, unary_cell, binary_cell, reduced}
+
+pub both_shown : (n m : Building) (y z : List Bit) → n ≡ m → y ≡ z → showing n y ≡ showing m z
+both_shown n m y z is same = ap (λ (b : Building). showing b y) is ∙ ap (showing m) same
+
+-- the same at a width
+pub wide_shown : (n m : Building) (y z found : List Bit) (width : ℕ) → n ≡ m → y ≡ z → found ≡ widened y false width → showing n found ≡ at_width width (showing m z)
+wide_shown n m y z found width is same wide = both_shown n m found (widened z false width) is (wide ∙ ap (λ (l : List Bit). widened l false width) same)
+
+pub unary_shown : (b n : Building) (op : UnaryOperator) (kind : CellKind) (at : Shape) (a y found : List Bit) (width : ℕ) (span : Span) → unary_kind op ≡ Some kind → y ≡ fresh_bits b.nets (if is_reduction op then 1 else at.width) → n ≡ with_cell b kind false (a ∷ []) (if is_reduction op then 1 else at.width) span → found ≡ widened y false width → showing n found ≡ at_width width (unary_cell (unary_kind op) (if is_reduction op then 1 else at.width) span (showing b a))
+unary_shown b n op kind at a y found width span is fresh adds wide = wide_shown n _ y _ found width adds fresh wide ∙ sym (ap (λ (k : Option CellKind). at_width width (unary_cell k (if is_reduction op then 1 else at.width) span (showing b a))) is)
+
+pub plus_shown : (b : Building) (op : UnaryOperator) (at : Shape) (a found : List Bit) (width : ℕ) (span : Span) → unary_kind op ≡ None → found ≡ widened a false width → showing b found ≡ at_width width (unary_cell (unary_kind op) (if is_reduction op then 1 else at.width) span (showing b a))
+plus_shown b op at a found width span is wide = wide_shown b b a a found width refl refl wide ∙ sym (ap (λ (k : Option CellKind). at_width width (unary_cell k (if is_reduction op then 1 else at.width) span (showing b a))) is)
+
+pub binary_shown : (b n : Building) (op : BinaryOperator) (kind : CellKind) (left : Shape) (a c y found : List Bit) (width : ℕ) (span : Span) → binary_kind op left.is_signed ≡ Some kind → y ≡ fresh_bits b.nets (result_width (sizing op) left) → n ≡ with_cell b kind (is_order kind && left.is_signed) (a ∷ c ∷ []) (result_width (sizing op) left) span → found ≡ widened y false width → showing n found ≡ at_width width (binary_cell (binary_kind op left.is_signed) left (result_width (sizing op) left) span a (showing b c))
+binary_shown b n op kind left a c y found width span is fresh adds wide = wide_shown n _ y _ found width adds fresh wide ∙ sym (ap (λ (k : Option CellKind). at_width width (binary_cell k left (result_width (sizing op) left) span a (showing b c))) is)
+
+pub ror_shown : (b n : Building) (a y : List Bit) (width : ℕ) (span : Span) → 1 < width → y ≡ fresh_bits b.nets 1 → n ≡ with_cell b Ror false (a ∷ []) 1 span → showing n y ≡ reduced width span (showing b a)
+ror_shown b n a y width span wide fresh adds =
+    let test : nat_lt 1 width ≡ true = grind (arith, nat_tests) in
+    both_shown n _ y _ adds fresh ∙ sym (ap (λ (k : Bool). if k then cell Ror false (a ∷ []) 1 span b else showing b a) test)
+
+pub bit_shown : (b : Building) (a : List Bit) (width : ℕ) (span : Span) → width ≤ 1 → showing b a ≡ reduced width span (showing b a)
+bit_shown b a width span narrow =
+    let test : nat_lt 1 width ≡ false = grind (arith, nat_tests) in
+    sym (ap (λ (k : Bool). if k then cell Ror false (a ∷ []) 1 span b else showing b a) test)
+
+pub picked_shown : (b n : Building) (a index y : List Bit) (size width : ℕ) (span : Span) (d : Option Decl) → a ≡ name_bits b d → showing n y ≡ at_width width (cell Pick false (a ∷ index ∷ []) size span b) → showing n y ≡ at_width width (cell Pick false (name_bits b d ∷ index ∷ []) size span b)
+picked_shown b n a index y size width span d is laid = laid ∙ ap (λ (l : List Bit). at_width width (cell Pick false (l ∷ index ∷ []) size span b)) is
