@@ -1,0 +1,9 @@
+use Rattle.project_limits.proofs.Files.{files_few}
+use Rattle.project_limits.proofs.Sizes.{size_within}
+use Rattle.project_limits.proofs.laws.projects_are_small.Goals as goal
+
+pub returns-clause-files : goal.returns-clause-files
+returns-clause-files c = files_few
+
+pub returns-clause-size : goal.returns-clause-size
+returns-clause-size c = size_within

@@ -1,0 +1,12 @@
+-- Laws of projects: the limits of what is read of a project file hold of the project (docs/FORMATS.md).
+use Rattle.std.specs.Prelude.{ℕ, ◌≤◌, List, length}
+use Rattle.project_file.specs.declared.project.Project.{Project}
+use Rattle.project_file.specs.Projects.{design_files, IsProject}
+
+-- A project reads at most 64 files for its design,
+abbrev pub FilesAreFew : Type 0
+FilesAreFew = (bytes : List ℕ) (project : Project) → IsProject bytes project → length (design_files project) ≤ 64
+
+-- and asks for at most 10,000 mutations.
+abbrev pub SizesAreWithin : Type 0
+SizesAreWithin = (bytes : List ℕ) (project : Project) → IsProject bytes project → project.size ≤ 10000
