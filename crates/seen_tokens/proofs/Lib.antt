@@ -1,0 +1,7 @@
+pub mod BareTexts
+pub mod BareMoves
+pub mod BareUses
+pub mod BareFiles
+pub mod BareValues
+pub mod BareRules
+pub mod BareTrees

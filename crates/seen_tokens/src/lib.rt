@@ -1,0 +1,7 @@
+//! What is read of tokens depends on what is seen of them: their kinds, texts and places. It does not depend on where
+//! the texts lie in memory, so two readings of one file say the same.
+#![tactic(auto)]
+
+mod laws;
+
+pub use laws::{directives_go_by_what_is_seen, grammar_goes_by_what_is_seen};
