@@ -1,0 +1,10 @@
+pub mod Forms
+pub mod Firsts
+pub mod Sides
+pub mod Writing
+pub mod Steps
+pub mod Processes
+pub mod Refusing
+pub mod Meaning
+pub mod Building
+pub mod Stopping
