@@ -7,7 +7,7 @@
 ghost use Rattle.std.specs.Prelude.{◌≡◌, ℕ, ◌≤◌, ◌<◌, ◌↔◌, IsTrue, IfOk, Some, length, slice_index, slice_get};
 ghost use Rattle.netlist_core.specs.declared.port.Port.{Port as Output};
 ghost use Rattle.netlist_core.specs.declared.port.Register.{Register as Stored};
-ghost use Rattle.netlist_core.specs.Runs.{Nets, plain, bits_at, Holds, shown, taken};
+ghost use Rattle.netlist_core.specs.Runs.{Nets, plain, bits_at, q_bits, Holds, shown, taken};
 ghost use Rattle.netlist_core.specs.Drivers.{drivers};
 ghost use Rattle.cycle_sim.specs.Simulated.{HaveWidths, numbers_of, starts_of, settled_nets};
 
@@ -90,6 +90,16 @@ impl Sim {
         lay_words(&mut self.table, inputs);
         lay_numbers(&mut self.table, inputs.len(), self.registers.as_slice());
         settle_cells(&self.netlist, self.cells.as_slice(), &mut self.table);
+    }
+
+    /// Gives the registers these words, one for each, of its width. The nets stay as they were last settled.
+    pub fn load(&mut self, words: &[Word])
+        requires widths { HaveWidths (q_bits self.old.plan.raw.registers) words.now }
+        ensures registers { self.new.registers ≡ numbers_of words.now }
+        ensures plan { self.new.plan ≡ self.old.plan }
+        ensures table { self.new.table ≡ self.old.table }
+    {
+        lay_words(&mut self.registers, words);
     }
 
     /// Gives each register what stands at its D. The nets stay as they were last settled.
