@@ -9,3 +9,5 @@ pub mod Kept
 pub mod Leaves
 pub mod Widths
 pub mod Refusals
+pub mod Forms
+pub mod Listing

@@ -5,3 +5,5 @@ pub mod Assignments
 pub mod Built
 pub mod Parts
 pub mod Seen
+pub mod Forms
+pub mod Bits

@@ -4,11 +4,15 @@
 mod assign;
 mod connection;
 mod joining;
+mod laws;
 mod refusal;
 mod scan;
 mod second;
 mod slice;
+mod written;
 
 pub use assign::build_assign;
 pub use connection::{build_input, tie_input};
+pub use laws::forms_have_parts;
 pub use refusal::{AssignError, Refusal};
+pub use written::{WrittenBit, written_bits};
