@@ -120,7 +120,7 @@ tested_is w true false c e f g h j k = cc
 tested_is w false b c e f g h j k = cc
 
 -- a word of its own width and bits
-word_again : (w : Word) → word_of w.width w.bits ≡ Some w
+pub word_again : (w : Word) → word_of w.width w.bits ≡ Some w
 word_again w =
     let by_bits : ℕ → Option Word = λ n. tested_word w.width n (nat_le 1 w.width) (nat_le w.width 128) (nat_lt n (2 ^ w.width)) refl refl refl in
     ap by_bits (mod-eq_of_lt w.fits) ∙ tested_is w _ _ _ refl refl refl (le-leb 1 w.width w.some) (le-leb w.width 128 w.narrow) (lt-ltb w.bits (2 ^ w.width) w.fits)
