@@ -1,3 +1,4 @@
+pub mod Assigning
 pub mod Building
 pub mod Declaring
 pub mod Running

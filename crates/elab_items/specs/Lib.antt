@@ -3,6 +3,7 @@ pub mod Meanings
 pub mod Designs
 pub mod Signals
 pub mod Writers
+pub mod Assigned
 pub mod Items
 pub mod Starting
 pub mod Timed

@@ -9,7 +9,7 @@ use elab_expr::Builder;
 use flat_items::Flat;
 use proc_muxes::Variables;
 use process_cells::nothing_waits;
-use std::alloc::AllocError;
+use std::alloc::{AllocError, Global};
 use vlog_meaning::Scope;
 
 /// Copies of the scopes by their numbers, and bits that wait.
@@ -20,10 +20,10 @@ pub struct Desk {
 }
 
 /// A copy of each scope.
-fn copies(builder: &Builder, flat: &Flat) -> Result<Vec<Scope>, AllocError>
+pub fn copies(alloc: Global, flat: &Flat) -> Result<Vec<Scope>, AllocError>
     ensures { IfOk result (λ scopes. AreCopies (flat_of flat.now).places scopes.items) }
 {
-    let mut scopes = Vec::new(builder.alloc());
+    let mut scopes = Vec::new(alloc);
     for number in 0..u32::MAX {
         match scope_at(flat, number) {
             Some(scope) => scopes.push(scope.copy()?)?,
@@ -38,7 +38,7 @@ impl Desk {
     pub fn new(builder: &Builder, flat: &Flat) -> Result<Desk, AllocError>
         ensures { IfOk result (λ desk. Serves (flat_of flat.now).places builder.now desk) }
     {
-        let scopes = copies(builder, flat)?;
+        let scopes = copies(builder.alloc(), flat)?;
         let waiting = nothing_waits(builder)?;
         Ok(Desk { scopes, waiting })
     }

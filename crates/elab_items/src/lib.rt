@@ -2,6 +2,7 @@
 #![tactic(auto)]
 
 mod answer;
+mod assigned;
 mod connection;
 mod desk;
 mod error;
@@ -18,7 +19,8 @@ mod timed;
 mod writers;
 
 pub use answer::{ElabError, item_answer, reason_answer};
-pub use desk::Desk;
+pub use assigned::{assigned_bits, process_writes};
+pub use desk::{Desk, copies};
 pub use error::{BuildError, Reason};
 pub use full::listed_before;
 pub use item::build_item;

@@ -16,6 +16,6 @@ mod Clocking
 mod Firsts
 mod OneKind
 mod Bodies
-mod Fits
-mod Items
+pub mod Fits
+pub mod Items
 mod Starting
