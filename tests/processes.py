@@ -5,13 +5,15 @@ Usage: tests/processes.py FOLDER
 
 The rows at the head are worked out by hand. The others are drawn by a seeded generator from few names, so that latches, second
 writers and second kinds of assignments meet. What is refused is worked out here from the parts of which a process is put together,
-by the rules of IEEE 1364-2005, 9.2 to 9.9: a latch by going along each path through the statements, one after the other.
+by the rules of IEEE 1364-2005, 9.2 to 9.9: a latch by going along each path through the statements, one after the other. The last
+rows are `initial` processes.
 """
 
 import random
 import sys
 
 CASES = 75
+STARTS = 15
 MOST_PATHS = 400
 MOST_TURNS = 4096
 KINDS = ["Unknown", "NotConstant", "DivideByZero", "TooWide", "RangeForm", "IndexedBase", "feature", "TwoWriters", "Latch"]
@@ -185,6 +187,66 @@ always @(c) begin y = 0; $display("x"); end
 > SystemTask 26
 always @(posedge c) for (r = 0; r < 1; r = r + 1) for (r = 0; r < 1; r = r + 1) y <= 0;
 > Unknown 56
+end
+# start values: constants that are assigned to whole signals, in blocks
+reg a 4 0
+reg b 8 2
+written w 2 0
+constant P 5
+initial a = 3;
+> accepted
+initial begin a = P + 1; begin : named b = -1; w = 0; end a = 2'b1x; end
+> accepted
+initial begin end
+> accepted
+initial b = 4'd8 / (4'd8 + 4'd8);
+> accepted
+initial a = 4'd8 / (4'd8 + 4'd8);
+> DivideByZero 18
+initial a = P[0:1];
+> RangeForm 14
+initial a = {P, P, P, P, P};
+> TooWide 13
+initial a = q;
+> Unknown 13
+initial q = 0;
+> Unknown 9
+initial q = b;
+> Unknown 9
+initial P = 0;
+> Unknown 9
+initial a = b;
+> InitialForm 9
+initial a = $random;
+> InitialForm 9
+initial a = q + b;
+> InitialForm 9
+initial begin a = q; b = a; end
+> Unknown 19
+initial begin b = a; a = q; end
+> InitialForm 15
+initial begin a = 1; a[0] = 1; end
+> InitialForm 22
+initial {a, b} = 0;
+> InitialForm 9
+initial a <= 0;
+> InitialForm 9
+initial ;
+> InitialForm 9
+initial begin a = 0; if (P) b = q; end
+> InitialForm 22
+initial case (q) 5: a = 0; endcase
+> InitialForm 9
+initial for (a = 0; a < 3; a = a + 1) b = 0;
+> InitialForm 9
+initial begin a = 0; #1 b = 0; end
+> Delay 22
+initial @(a) b = 0;
+> Delay 9
+initial begin a = 0; forever #5 a = ~a; end
+> Delay 22
+initial begin a = 0; $display("x"); end
+> SystemTask 22
 end
 """
 
@@ -818,6 +880,64 @@ class Drawn:
         return answer(self.bench, is_combinational, events, Block(body))
 
 
+class Start:
+    """An `initial` that is drawn and written: what is refused in it, by the forms of its statements."""
+
+    def __init__(self, rng, bench):
+        self.rng, self.bench, self.source, self.refused = rng, bench, Source(), []
+        self.source.put("initial begin ")
+        for _ in range(rng.randint(2, 5)):
+            self.statement(1)
+            self.source.put(" ")
+        self.source.put("end")
+
+    def value(self):
+        """A value, and the columns of what it names that is not declared, or whether it reads a signal."""
+        unknown, reads = [], False
+        for k in range(self.rng.randint(1, 2)):
+            self.source.put(" + " if k else "")
+            name = self.rng.choices(["1", "7", "P", "a", "z", "q"], [6, 6, 6, 0.7, 0.5, 0.5])[0]
+            column = self.source.put(name)
+            if name == "q":
+                unknown.append((column, "Unknown"))
+            reads = reads or name in "az"
+        return unknown, reads
+
+    def assignment(self):
+        name = self.rng.choices(["y", "z", "w", "i", "P", "q"], [6, 6, 2, 2, 0.4, 0.4])[0]
+        first = self.source.put(name)
+        select = self.rng.choices(["", "[0]", "[1:0]"], [14, 0.5, 0.3])[0]
+        operator = self.rng.choices(["=", "<="], [14, 0.6])[0]
+        self.source.put(f"{select} {operator} ")
+        unknown, reads = self.value()
+        self.source.put(";")
+        if select or operator == "<=":
+            self.refused.append((first, "InitialForm"))
+        elif self.bench.names.get(name, ("none",))[0] != "signal":
+            self.refused.append((first, "Unknown"))
+        elif reads:
+            self.refused.append((first, "InitialForm"))
+        else:
+            self.refused += unknown
+
+    def statement(self, depth):
+        what = self.rng.choices(["assign", "block", "other"], [5, 0 if depth > 3 else 4, 0.4])[0]
+        if what == "assign":
+            self.assignment()
+        elif what == "block":
+            self.source.put("begin ")
+            for _ in range(self.rng.randint(0, 3)):
+                self.statement(depth + 1)
+                self.source.put(" ")
+            self.source.put("end")
+        else:
+            text, feature = self.rng.choice([("#1 y = 0;", "Delay"), ("@(a) y = 0;", "Delay"), ("while (a) y = 0;", "Delay"), ("$finish;", "SystemTask"), (";", "InitialForm"), ("if (P) y = 0;", "InitialForm"), ("case (a) 0: y = q; endcase", "InitialForm"), ("for (i = 0; i < 1; i = i + 1) y = 0;", "InitialForm")])
+            self.refused.append((self.source.put(text), feature))
+
+    def answer(self):
+        return told(*min(self.refused)) if self.refused else "accepted"
+
+
 def put_bench(rng, lines):
     bench = Bench()
     for name, width, low, is_written in [("a", rng.randint(1, 4), 0, False), ("b", 2, 0, False), ("c", 1, 0, False), ("y", rng.randint(1, 4), rng.choice([0, 0, 0, 1]), False), ("z", rng.randint(1, 4), 0, False), ("w", 2, 0, True), ("i", 32, 0, False), ("j", 8, 0, False)]:
@@ -842,6 +962,15 @@ def put_case(rng, lines, wanted):
     lines.append("end")
 
 
+def put_starts(rng, lines, wanted):
+    bench = put_bench(rng, lines)
+    for _ in range(4):
+        start = Start(rng, bench)
+        lines.append(start.source.text)
+        wanted.append(start.answer())
+    lines.append("end")
+
+
 def main():
     folder = sys.argv[1]
     lines, wanted = [], []
@@ -855,6 +984,8 @@ def main():
     rng = random.Random(15)
     for _ in range(CASES):
         put_case(rng, lines, wanted)
+    for _ in range(STARTS):
+        put_starts(rng, lines, wanted)
     with open(f"{folder}/stdin", "w") as out:
         out.write("\n".join(lines) + "\n")
     with open(f"{folder}/stdout", "w") as out:

@@ -8,6 +8,7 @@
 //! | `written NAME WIDTH LOW` | The same, and it has a writer outside the processes. |
 //! | `constant NAME NUMBER` | Declares a constant of 32 bits. |
 //! | `always STATEMENT` | Prints the first refusal of the process with its column, or that it is accepted. |
+//! | `initial STATEMENT` | The same. |
 //! | `end` | Forgets what is declared. |
 //!
 //! A line that begins with `#` is printed, and an empty one is left out.
@@ -36,7 +37,7 @@ fn carry_out<R: Print + AllocGlobal>(rt: &R, bench: &mut Bench, line: &str) -> R
         "reg" => bench.declare(rest, false),
         "written" => bench.declare(rest, true),
         "constant" => bench.constant(rest),
-        "always" => look_at(rt, bench, line),
+        "always" | "initial" => look_at(rt, bench, line),
         "end" => {
             *bench = Bench::new(rt.alloc());
             Ok(())

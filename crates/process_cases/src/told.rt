@@ -27,6 +27,7 @@ fn feature_name(feature: Feature) -> &'static str {
         Feature::NonblockingInComb => "NonblockingInComb",
         Feature::Delay => "Delay",
         Feature::SystemTask => "SystemTask",
+        Feature::InitialForm => "InitialForm",
         _ => "another feature",
     }
 }
