@@ -21,4 +21,4 @@ pub use mutant::mutate;
 pub use place::span_at;
 pub use site::{Place, Site};
 pub use site_list::sites;
-pub use text::site_text;
+pub use text::{kind_text, site_text};

@@ -104,8 +104,8 @@ fn mode_text(mode: Mode) -> &'static str
     }
 }
 
-/// The name of a kind of cells.
-fn kind_text(kind: CellKind) -> &'static str
+/// The name of a kind of cells, as a cell's text has it: in small letters, `rand` and `lnot` for reductions and logical operators.
+pub fn kind_text(kind: CellKind) -> &'static str
     ensures { result.now ≡ texts.kind_text kind }
 {
     match kind {

@@ -1,0 +1,74 @@
+//! What is printed of refusals: the kind, the place, and the name of the signal.
+use crate::page::Page;
+use elab_hier::ElabError;
+use mcy_base::{Kind, Span};
+use vlog_syntax::Feature;
+
+fn put_at(page: &mut Page, word: &str, place: Span) {
+    page.put(word);
+    page.put(" ");
+    page.put_place(place);
+}
+
+fn put_named(page: &mut Page, word: &str, place: Span, name: &str) {
+    put_at(page, word, place);
+    page.put(" ");
+    page.put(name);
+}
+
+/// The name of what is not supported in a design.
+fn feature_name(feature: Feature) -> &'static str {
+    match feature {
+        Feature::RangeForm => "RangeForm",
+        Feature::DivideOrPower => "DivideOrPower",
+        Feature::ClockList => "ClockList",
+        Feature::FallingClock => "FallingClock",
+        Feature::GatedClock => "GatedClock",
+        Feature::ClockAsData => "ClockAsData",
+        Feature::MixedAssign => "MixedAssign",
+        Feature::NonblockingInComb => "NonblockingInComb",
+        Feature::IndexedBase => "IndexedBase",
+        Feature::Delay => "Delay",
+        Feature::SystemTask => "SystemTask",
+        Feature::SystemFunction => "SystemFunction",
+        Feature::InitialForm => "InitialForm",
+        _ => "another feature",
+    }
+}
+
+/// The name of what there is too much of.
+fn kind_of(kind: Kind) -> &'static str {
+    match kind {
+        Kind::LoopTurns => "LoopTurns",
+        Kind::Cells => "Cells",
+        Kind::NetBits => "NetBits",
+        Kind::RegisterBits => "RegisterBits",
+        _ => "another kind",
+    }
+}
+
+pub fn put_error(page: &mut Page, error: &ElabError) {
+    match error {
+        ElabError::NoTop => page.put("NoTop"),
+        ElabError::Twice(place) => put_at(page, "Twice", *place),
+        ElabError::Unknown(place) => put_at(page, "Unknown", *place),
+        ElabError::Recursive(place) => put_at(page, "Recursive", *place),
+        ElabError::PortMismatch(place) => put_at(page, "PortMismatch", *place),
+        ElabError::NotConstant(place) => put_at(page, "NotConstant", *place),
+        ElabError::DivideByZero(place) => put_at(page, "DivideByZero", *place),
+        ElabError::TooWide(place) => put_at(page, "TooWide", *place),
+        ElabError::Unsupported(place, feature) => {
+            page.put("Unsupported ");
+            put_at(page, feature_name(*feature), *place);
+        }
+        ElabError::TwoWriters(place, name) => put_named(page, "TwoWriters", *place, name.as_str()),
+        ElabError::Latch(place, name) => put_named(page, "Latch", *place, name.as_str()),
+        ElabError::TooMany(kind) => {
+            page.put("TooMany ");
+            page.put(kind_of(*kind));
+        }
+        ElabError::Loop(place) => put_at(page, "Loop", *place),
+        ElabError::Memory => page.put("no memory"),
+    }
+    page.put("\n");
+}

@@ -1,0 +1,41 @@
+"""The outputs of designs over some cycles, by Icarus Verilog."""
+
+import os
+import subprocess
+import tempfile
+
+
+class Unknown(Exception):
+    """An output has a value that is not known, or the design is refused."""
+
+
+def bench(inputs, outputs, cycles, has_clock):
+    """A test bench: in each cycle the inputs change, the outputs are printed, and the clock rises."""
+    lines = ["module bench;", "  reg clk;"]
+    lines += [f"  reg [{s.width - 1}:0] {s.name};" for s in inputs]
+    lines += [f"  wire [{s.width - 1}:0] {s.name};" for s in outputs]
+    names = (["clk"] if has_clock else []) + [s.name for s in inputs + outputs]
+    lines.append(f"  top dut({', '.join(f'.{name}({name})' for name in names)});")
+    lines += ["  initial begin", "    clk = 0;", "    #1;"]
+    shown = ", ".join(s.name for s in outputs)
+    formats = " ".join("%0d" for _ in outputs)
+    for values in cycles:
+        lines += [f"    {s.name} = {s.width}'d{value};" for s, value in zip(inputs, values)]
+        lines += [f'    #1 $display("{formats}", {shown});', "    clk = 1;", "    #1 clk = 0;"]
+    return lines + ["  end", "endmodule"]
+
+
+def outputs_of(lines, inputs, outputs, cycles, has_clock=True):
+    """What is printed of the outputs in each cycle."""
+    with tempfile.TemporaryDirectory() as folder:
+        source, program = os.path.join(folder, "t.v"), os.path.join(folder, "t")
+        with open(source, "w", encoding="utf-8") as file:
+            file.write("\n".join(lines + bench(inputs, outputs, cycles, has_clock)) + "\n")
+        made = subprocess.run(["iverilog", "-g2005", "-s", "bench", "-o", program, source], capture_output=True, text=True, check=False)
+        if made.returncode:
+            raise Unknown(made.stderr)
+        run = subprocess.run(["vvp", program], capture_output=True, text=True, check=True)
+    rows = run.stdout.splitlines()
+    if len(rows) != len(cycles) or any(not row.replace(" ", "").isdigit() for row in rows):
+        raise Unknown(run.stdout)
+    return rows

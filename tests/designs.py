@@ -1,0 +1,103 @@
+#!/usr/bin/env python3
+"""Makes stdin and stdout of crates/design_cases: designs, their netlists or what is refused in them, and their outputs.
+
+usage: tests/designs.py FOLDER      needs iverilog and vvp
+
+What design_told.py says is worked out by hand. The outputs of the other designs over 20 cycles are those of Icarus Verilog: the
+designs of design_hand.py are written by hand, those of design_draw.py drawn by a seeded generator.
+"""
+
+import itertools
+import random
+import re
+import sys
+
+sys.dont_write_bytecode = True
+
+from design_draw import Draw, Signal
+from design_hand import DESIGNS, PROCESSES
+from design_runs import Unknown, outputs_of
+from design_told import told
+
+CYCLES = 20
+
+# drawn designs of one module, and of several
+ONE_MODULE = 40
+SEVERAL = 100
+
+# the most lines of a drawn design
+LONGEST = 80
+
+
+def ports_of(lines):
+    """The inputs without the clock and the outputs in the head of the module top."""
+    head = next(line for line in lines if line.startswith("module top("))
+    ports = re.findall(r"(input|output) (?:reg )?(?:signed )?(?:\[(\d+):(\d+)\] )?(\w+)", head)
+    signals = [(way, Signal(name, int(top) - int(low) + 1 if top else 1)) for way, top, low, name in ports]
+    inputs = [s for way, s in signals if way == "input" and s.name != "clk"]
+    return inputs, [s for way, s in signals if way == "output"], any(s.name == "clk" for _, s in signals)
+
+
+def hand(text):
+    """The designs of a text: the name and the lines of each."""
+    for part in text.strip().split("\n\n"):
+        lines = part.splitlines()
+        yield lines[0], lines[1:]
+
+
+def inputs_for(inputs, seed):
+    """The inputs of each cycle. They are 0 or all ones now and then."""
+    rng = random.Random(seed)
+
+    def value(width):
+        return rng.choice([0, (1 << width) - 1]) if rng.random() < 0.2 else rng.randrange(1 << width)
+
+    return [[value(s.width) for s in inputs] for _ in range(CYCLES)]
+
+
+def case(name, lines, seed):
+    """The lines of a design and its cycles, and what is printed."""
+    inputs, outputs, has_clock = ports_of(lines)
+    cycles = inputs_for(inputs, seed)
+    rows = outputs_of(lines, inputs, outputs, cycles, has_clock)
+    given = [name] + lines + ["elaborate top"] + ["step " + " ".join(map(str, values)) for values in cycles]
+    return given, [name] + [f"outputs {row}" for row in rows], rows
+
+
+def is_lively(rows):
+    """Whether most of the outputs change."""
+    columns = list(zip(*[row.split() for row in rows]))
+    return 3 * sum(len(set(column)) > 1 for column in columns) >= 2 * len(columns)
+
+
+def drawn(word, make):
+    """Drawn designs that have outputs in each cycle, most of which change."""
+    for seed in itertools.count():
+        lines, _, _ = make(Draw(seed))
+        if len(lines) > LONGEST:
+            continue
+        try:
+            given, wanted, rows = case(f"# {word} {seed}", lines, seed)
+        except Unknown:
+            continue
+        if is_lively(rows):
+            yield given, wanted
+
+
+def main():
+    folder = sys.argv[1]
+    lines, wanted = told()
+    by_hand = [case(name, source, seed)[:2] for seed, (name, source) in enumerate(itertools.chain(hand(PROCESSES), hand(DESIGNS)))]
+    one = itertools.islice(drawn("a drawn module", Draw.process_design), ONE_MODULE)
+    several = itertools.islice(drawn("drawn modules", Draw.whole_design), SEVERAL)
+    for given, shown in itertools.chain(by_hand, one, several):
+        lines += given
+        wanted += shown
+    with open(f"{folder}/stdin", "w", encoding="utf-8") as file:
+        file.write("\n".join(lines) + "\n")
+    with open(f"{folder}/stdout", "w", encoding="utf-8") as file:
+        file.write("\n".join(wanted) + "\n")
+
+
+if __name__ == "__main__":
+    main()
