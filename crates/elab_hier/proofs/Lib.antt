@@ -1,0 +1,5 @@
+pub mod Once
+pub mod Begun
+pub mod Netlists
+pub mod Sources
+pub mod Told

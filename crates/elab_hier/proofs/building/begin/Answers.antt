@@ -1,0 +1,27 @@
+use Rattle.std.proofs.Common.{◌≤◌, ◌∙◌, List, ap, subst}
+use Rattle.vlog_meaning.specs.Scopes.{Store}
+use Rattle.flat_scopes.specs.declared.signal.Signal.{Signal}
+use Rattle.flat_instances.specs.declared.item.FlatItem.{FlatItem}
+use Rattle.flat_items.specs.Views.{flat_of}
+use Rattle.elab_expr.specs.Building.{empty}
+use Rattle.process_cells.specs.Items.{widths_in}
+use Rattle.process_cells.specs.Starts.{StartsWith}
+use Rattle.elab_items.specs.Signals.{bits_of, declared, max_bits}
+use Rattle.elab_items.specs.Starting.{AllStart}
+use Rattle.elab_items.specs.Starts.{starts_from}
+use Rattle.elab_hier.proofs.Begun.{begun, declared_ready}
+use Rattle.elab_hier.proofs.building.begin.Goals as goal
+
+pub set_starts-requires : goal.set_starts-requires
+set_starts-requires c =
+    declared_ready (flat_of c.args.flat.now) c.in-Ok.builder c.requires (c.in-Ok.ensures.declared ∙ ap (λ (ss : List Signal). declared ss empty) c.signals.ensures)
+
+pub returns-in-Ok-set_starts-clause-begun : goal.returns-in-Ok-set_starts-clause-begun
+returns-in-Ok-set_starts-clause-begun c =
+    let flat = flat_of c.args.flat.now in
+    let old = c.in-Ok.builder in
+    let new = c.set_starts.new.builder in
+    let is = c.in-Ok.ensures.declared ∙ ap (λ (ss : List Signal). declared ss empty) c.signals.ensures in
+    let fits = subst (λ (ss : List Signal). bits_of ss ≤ max_bits) c.signals.ensures c.in-Ok.ensures.fits in
+    let starts = subst (λ (items : List FlatItem). (store : Store) → AllStart (widths_in old) flat.places items → StartsWith old store → StartsWith new (starts_from (widths_in old) flat.places items store)) c.items.ensures c.in-Ok-set_starts.ensures.starts in
+    begun flat old new c.requires is fits c.in-Ok-set_starts.ensures.others starts

@@ -1,0 +1,10 @@
+use Rattle.std.proofs.Common.{◌≡◌, ◌++◌, drop}
+use Rattle.std.specs.Prelude.{slice_get}
+use Rattle.flat_items.specs.Tops.{own_in}
+use Rattle.flat_items.specs.Views.{flat_of}
+use Rattle.elab_items.specs.Designs.{port_numbers}
+use Rattle.elab_hier.proofs.ports.port_numbers.Given as goal
+
+abbrev pub invariant-loop-port : goal.invariant-loop-port
+invariant-loop-port l =
+    l.numbers.items ++ port_numbers l.direction (flat_of l.flat).signals (own_in (slice_get (flat_of l.flat).places 0)) (drop l.port-index l.ports) ≡ port_numbers l.direction (flat_of l.flat).signals (own_in (slice_get (flat_of l.flat).places 0)) l.ports

@@ -1,0 +1,4 @@
+pub mod Tops
+pub mod Elaborations
+pub mod Refusals
+pub mod Parts
