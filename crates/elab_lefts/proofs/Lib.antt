@@ -1,2 +1,4 @@
+pub mod Processes
+pub mod Scopes
 pub mod Found
 pub mod Covering

@@ -1,0 +1,7 @@
+use Rattle.std.proofs.Common.{◌≡◌, ◌++◌, map, take}
+use Rattle.flat_assigns.specs.Bits.{targets_of}
+use Rattle.elab_lefts.specs.Lefts.{bit_left}
+use Rattle.elab_lefts.proofs.lists.list_bits.Given as goal
+
+abbrev pub invariant-loop-bit : goal.invariant-loop-bit
+invariant-loop-bit l = l.lefts.items ≡ l.fn.lefts.items ++ map bit_left (targets_of (take l.bit-index l.bits))
