@@ -24,7 +24,7 @@ use Rattle.proc_muxes.specs.declared.change.Change.{Change}
 use Rattle.proc_muxes.specs.declared.piece.Piece.{Piece}
 use Rattle.proc_muxes.specs.declared.piece.Place.{Place}
 use Rattle.proc_muxes.specs.declared.piece.Place.TheVariants.{From, At}
-use Rattle.proc_muxes.specs.Builds.{Work, held, with_held, Index, variable_index, PutsPart, PutsParts, BuildsIndices, distinct}
+use Rattle.proc_muxes.specs.Builds.{Work, held, with_held, IsLaid, Index, variable_index, PutsPart, PutsParts, BuildsIndices, distinct}
 use Rattle.proc_muxes.specs.Clear.{AreHeld}
 use Rattle.proc_muxes.specs.Counts.{put_cells, puts_cells, place_cells, pieces_cells, assign_cells}
 use Rattle.proc_muxes.specs.Pieces.{vector_at, IsPlace, index_bits, indices_of, IsPiece, ArePieces, IsHeldPiece, AreHeldPieces, sizes, piece_target, piece_targets, MakesPieces}
@@ -149,8 +149,8 @@ changes-pieces names kind a (p ∷ ps) (x ∷ xs) f =
 
 -- An assignment.
 
-pub assignment-built : (s : Assigning) (a b : Work) (mid last : Building) (right : List Bit) (xs : List Piece) (cs : List Change) → Evaluates s.names s.right (assigned (sense s.names s.right) (parts_width s.names (parts_of s.left))) a.building mid right → MakesPieces s.names (parts_of s.left) mid last [] xs → ((names : Names) (ps : List Part) → ArePieces names ps xs → PutsParts s.is_blocking names ps (take (parts_width s.names (parts_of s.left)) right) (indices_of xs) (record a { building = last }) b) → cs ≡ joined [] (changes_of (record a { building = last }) (piece_targets s.is_blocking xs)) → Built (Assign s Done) a b cs
-assignment-built s a b mid last right xs cs ev makes puts is =
+pub assignment-built : (s : Assigning) (a b : Work) (mid last : Building) (right : List Bit) (xs : List Piece) (cs : List Change) → Evaluates s.names s.right (assigned (sense s.names s.right) (parts_width s.names (parts_of s.left))) a.building mid right → IsLaid s.names s.right (assigned (sense s.names s.right) (parts_width s.names (parts_of s.left))) a.building mid right → MakesPieces s.names (parts_of s.left) mid last [] xs → ((names : Names) (ps : List Part) → ArePieces names ps xs → PutsParts s.is_blocking names ps (take (parts_width s.names (parts_of s.left)) right) (indices_of xs) (record a { building = last }) b) → cs ≡ joined [] (changes_of (record a { building = last }) (piece_targets s.is_blocking xs)) → Built (Assign s Done) a b cs
+assignment-built s a b mid last right xs cs ev laid makes puts is =
     let ps : List Part = parts_of s.left in
     let ts : List Target = parts_targets s.is_blocking s.names ps in
     let c : Work = record a { building = last } in
@@ -158,7 +158,7 @@ assignment-built s a b mid last right xs cs ev makes puts is =
     let built : BuildsIndices s.names ps mid last (indices_of xs) = subst (λ (l : List Piece). BuildsIndices s.names ps mid last (indices_of l)) (sym makes.joined) makes.built in
     let grows : Grows a.building last = grows_again a.building mid last ev.grows (grows-indices s.names ps mid last (indices_of xs) built) in
     record {
-      builds = (b, (mid, last, right, indices_of xs, ev, built, puts s.names ps are), refl);
+      builds = (b, (mid, last, right, indices_of xs, ev, built, puts s.names ps are, laid), refl);
       changes_are =
           is
           ∙ ap (λ (l : List Change). joined [] l) (changes-pieces s.names s.is_blocking c ps xs are ∙ changes-same a c ts (λ kind n. held-grown a last kind n grows))
@@ -241,6 +241,11 @@ pub right-is : (s : Assigning) (a mid : Building) (right : List Bit) (x : Expr) 
 right-is s a mid right x w is long f =
     subst (λ (n : ℕ). Evaluates s.names s.right (assigned (sense s.names s.right) n) a mid right) long
     (subst (λ (y : Expr). Evaluates s.names y (assigned (sense s.names y) w) a mid right) is f)
+
+pub right-laid : (s : Assigning) (a mid : Building) (right : List Bit) (x : Expr) (w : ℕ) → x ≡ s.right → w ≡ parts_width s.names (parts_of s.left) → IsLaid s.names x (assigned (sense s.names x) w) a mid right → IsLaid s.names s.right (assigned (sense s.names s.right) (parts_width s.names (parts_of s.left))) a mid right
+right-laid s a mid right x w is long f =
+    subst (λ (n : ℕ). IsLaid s.names s.right (assigned (sense s.names s.right) n) a mid right) long
+    (subst (λ (y : Expr). IsLaid s.names y (assigned (sense s.names y) w) a mid right) is f)
 
 pub taken-as : (w v : ℕ) (r right : List Bit) (ys xs : List Piece) → w ≡ v → r ≡ right → ys ≡ xs → length (take v right) ≡ sizes xs → length (take w r) ≡ sizes ys
 taken-as w v r right ys xs e f g h =

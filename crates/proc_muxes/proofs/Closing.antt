@@ -33,7 +33,7 @@ use Rattle.case_arms.specs.Naming.{IsOf}
 use Rattle.proc_muxes.specs.declared.change.Change.{Change}
 use Rattle.proc_muxes.specs.declared.choice.Choice.{Choice}
 use Rattle.proc_muxes.specs.declared.open_arms.OpenArm.{OpenArm}
-use Rattle.proc_muxes.specs.Builds.{Work, restored, distinct, choices, ChoosesAll, case_shape, BuildsArms}
+use Rattle.proc_muxes.specs.Builds.{Work, IsLaid, restored, distinct, choices, ChoosesAll, case_shape, BuildsArms}
 use Rattle.proc_muxes.specs.Cases.{AreReadyItems, Opens, Opened}
 use Rattle.proc_muxes.specs.Clear.{AreClear, AreHeld, IsReady}
 use Rattle.proc_muxes.specs.Counts.{cells_of, arms_cells, items_cells}
@@ -268,13 +268,13 @@ module _ (names : Names) (kind : CaseKind) (selector : Expr) (items : List CaseI
         case-last-ready b k = ready-later names last [] a b k (last-ready names kind size case-of case-sized last a h.signals h.stands h.sized xs arms-clear these-held)
 
     -- the selector, and then the arms
-    pub case-built : (a b : Work) (mid : Building) (bits : List Bit) (cs : List Change) → Evaluates names selector size a.building mid bits → BuiltArms case-of bits case-arms (record a { building = mid }) b cs → Built (case_steps kind selector (map item_steps items) names) a b cs
-    case-built a b mid bits cs ev f =
+    pub case-built : (a b : Work) (mid : Building) (bits : List Bit) (cs : List Change) → Evaluates names selector size a.building mid bits → IsLaid names selector size a.building mid bits → BuiltArms case-of bits case-arms (record a { building = mid }) b cs → Built (case_steps kind selector (map item_steps items) names) a b cs
+    case-built a b mid bits cs ev laid f =
         let m : Work = record a { building = mid } in
         let ts : List Target = arms_targets case-arms in
         let k : Keeps [] a m = keeps-grown a mid ev.grows in
         record {
-          builds = (mid, b, bits, subst (λ (s : Shape). Evaluates names selector s a.building mid bits) (sym shape-is) ev, f.builds, refl);
+          builds = (mid, b, bits, subst (λ (s : Shape). Evaluates names selector s a.building mid bits) (sym shape-is) ev, f.builds, refl, subst (λ (s : Shape). IsLaid names selector s a.building mid bits) (sym shape-is) laid);
           changes_are = f.changes_are ∙ changes-same a m (distinct ts) (λ kind n. keeps-still [] a m k kind n refl) ∙ ap (λ (l : List Target). changes_of a (distinct l)) (sym (append-nil ts));
         }
 

@@ -22,7 +22,7 @@ pub builds-followed : (p q : Steps) (a m b : Work) → Builds p a m → Builds q
 builds-followed Done q a m b f g = subst (λ (w : Work). Builds q w b) f g
 builds-followed (Assign x more) q a m b f g = (f.0, f.1, builds-followed more q f.0 m b f.2 g)
 builds-followed (Choose at c then_part else_part more) q a m b f g = (f.0, f.1, f.2, f.3, f.4, f.5, f.6, f.7, f.8, builds-followed more q f.3 m b f.9 g)
-builds-followed (Case c arms more) q a m b f g = (f.0, f.1, f.2, f.3, f.4, builds-followed more q f.1 m b f.5 g)
+builds-followed (Case c arms more) q a m b f g = (f.0, f.1, f.2, f.3, f.4, builds-followed more q f.1 m b f.5 g, f.6)
 builds-followed (Refuse x more) q a m b f g = absurd f
 
 pub targets-followed : (p q : Steps) → targets (followed p q) ≡ targets p ++ targets q

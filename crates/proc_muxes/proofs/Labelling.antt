@@ -22,7 +22,7 @@ use Rattle.elab_expr.specs.declared.error.ElabError.{ElabError}
 use Rattle.elab_expr.proofs.Growing.{count, more_short}
 use Rattle.elab_expr.proofs.Parts.{grows_again, length_fresh}
 use Rattle.case_arms.specs.Naming.{IsOf}
-use Rattle.proc_muxes.specs.Builds.{AddsCell, kept, mattering, case_shape, BuildsEqual, BuildsLabel, BuildsMore, BuildsMatch}
+use Rattle.proc_muxes.specs.Builds.{IsLaid, AddsCell, kept, mattering, case_shape, BuildsEqual, BuildsLabel, BuildsMore, BuildsMatch}
 use Rattle.proc_muxes.specs.Clear.{IsClearLabel, AreClearLabels}
 use Rattle.proc_muxes.specs.Counts.{equal_cells, labels_cells, match_cells}
 use Rattle.proc_muxes.proofs.Counting.{label-counted, cell-counted}
@@ -96,8 +96,8 @@ equal-again : (n m : ℕ) (xs ys zs ws : List Bit) (at : Span) (a b : Building) 
 equal-again n m xs ys zs ws at a b test e f g h =
     subst (λ (k : ℕ). BuildsEqual k zs ws at a b test) e (subst (λ (l : List Bit). BuildsEqual n l ws at a b test) f (subst (λ (l : List Bit). BuildsEqual n xs l at a b test) g h))
 
-pub label-built : (names : Names) (kind : CaseKind) (size : Shape) (selector : List Bit) (x : Expr) (old mid new : Building) (bits left right test : List Bit) → IsClearLabel names size x → length selector ≡ size.width → Evaluates names x size old mid bits → left ≡ kept (bits_of (length selector) (dont_care kind x)) selector → right ≡ kept (bits_of (length bits) (dont_care kind x)) bits → BuildsEqual (length left) left right (first_token x) mid new test → (c : Selection) → IsOf c names kind size → BuildsLabel c selector x old new test
-label-built names kind size selector x old mid new bits left right test clear long ev is_left is_right f c of =
+pub label-built : (names : Names) (kind : CaseKind) (size : Shape) (selector : List Bit) (x : Expr) (old mid new : Building) (bits left right test : List Bit) → IsClearLabel names size x → length selector ≡ size.width → Evaluates names x size old mid bits → IsLaid names x size old mid bits → left ≡ kept (bits_of (length selector) (dont_care kind x)) selector → right ≡ kept (bits_of (length bits) (dont_care kind x)) bits → BuildsEqual (length left) left right (first_token x) mid new test → (c : Selection) → IsOf c names kind size → BuildsLabel c selector x old new test
+label-built names kind size selector x old mid new bits left right test clear long ev laid is_left is_right f c of =
     let shape_is : case_shape c ≡ size = λ j. record { width = of.width_is j; is_signed = of.sign_is j } in
     let same : bits_of size.width (dont_care kind x) ≡ bits_of c.width (dont_care c.kind x) = λ j. bits_of (sym of.width_is j) (dont_care (sym of.kind_is j) x) in
     let of_left : length left ≡ mattering (bits_of size.width (dont_care kind x)) = (kept-long names kind size x selector left clear long is_left).0 in (
@@ -109,6 +109,7 @@ label-built names kind size selector x old mid new bits left right test clear lo
           (is_left ∙ ap (λ (w : ℕ). kept (bits_of w (dont_care kind x)) selector) long ∙ ap (λ (i : List Bool). kept i selector) same)
           (is_right ∙ ap (λ (w : ℕ). kept (bits_of w (dont_care kind x)) bits) ev.long ∙ ap (λ (i : List Bool). kept i bits) same)
           f,
+      subst (λ (n : Names). IsLaid n x (case_shape c) old mid bits) (sym of.names_are) (subst (λ (s : Shape). IsLaid names x s old mid bits) (sym shape_is) laid),
     )
 
 pub equal-short : (names : Names) (kind : CaseKind) (size : Shape) (selector : List Bit) (x : Expr) (old mid : Building) (bits left : List Bit) (e : ElabError) → IsClearLabel names size x → length selector ≡ size.width → Evaluates names x size old mid bits → left ≡ kept (bits_of (length selector) (dont_care kind x)) selector → IsShort (length mid.cells + equal_cells (length left)) e → IsShort (length old.cells + (length (made names x size) + equal_cells (mattering (bits_of size.width (dont_care kind x))))) e

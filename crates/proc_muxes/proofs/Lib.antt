@@ -21,3 +21,5 @@ pub mod Labelling
 pub mod Opening
 pub mod Closing
 pub mod Turning
+pub mod Laying
+pub mod Alike

@@ -21,7 +21,7 @@ use Rattle.elab_expr.proofs.Parts.{below_later, grown_nets}
 use Rattle.proc_muxes.specs.declared.piece.Piece.{Piece}
 use Rattle.proc_muxes.specs.declared.piece.Place.{Place}
 use Rattle.proc_muxes.specs.declared.piece.Place.TheVariants.{From, At}
-use Rattle.proc_muxes.specs.Builds.{Index, variable_index, BuildsIndex, BuildsIndices}
+use Rattle.proc_muxes.specs.Builds.{Index, variable_index, IsLaid, BuildsIndex, BuildsIndices}
 use Rattle.proc_muxes.specs.Clear.{CanWrite, CanWriteAll}
 use Rattle.proc_muxes.specs.Counts.{index_cells, indices_cells}
 use Rattle.proc_muxes.specs.Pieces.{vector_at, IsPlace, index_bits, indices_of, ArePieces, CanBePlaced, IsFitPiece, AreFitPieces, index_at, IsPlaced, MakesPiece, MakesPieces}
@@ -32,19 +32,19 @@ use Rattle.proc_muxes.proofs.Keeping.{grows-indices}
 index-some : (names : Names) (span : Span) (i : Expr) → is_constant names i ≡ false → index_at names span i ≡ Some (record { place = span; expr = i })
 index-some names span i e = rw e refl
 
-pub placed-variable : (names : Names) (span : Span) (i : Expr) (a b : Building) (bits : List Bit) → is_constant names i ≡ false → 1 ≤ (sense names i).shape.width → (sense names i).shape.width ≤ 128 → Evaluates names i (sense names i).shape a b bits → IsPlaced names span i a b (At bits span)
-placed-variable names span i a b bits e some narrow f =
+pub placed-variable : (names : Names) (span : Span) (i : Expr) (a b : Building) (bits : List Bit) → is_constant names i ≡ false → 1 ≤ (sense names i).shape.width → (sense names i).shape.width ≤ 128 → Evaluates names i (sense names i).shape a b bits → IsLaid names i (sense names i).shape a b bits → IsPlaced names span i a b (At bits span)
+placed-variable names span i a b bits e some narrow f laid =
     let j : Index = record { place = span; expr = i } in
     let is : Some j ≡ index_at names span i = sym (index-some names span i e) in
     record {
       is = subst (λ (o : Option Index). IsPlace o (pos (own nothing (sense names i))) (At bits span)) is refl;
       fit = λ low h. (h j (sym is), (subst (λ (n : ℕ). 1 ≤ n) (sym f.long) some, subst (λ (n : ℕ). n ≤ 128) (sym f.long) narrow, f.below));
-      built = subst (λ (o : Option Index). BuildsIndex names o a b bits) is f;
+      built = subst (λ (o : Option Index). BuildsIndex names o a b bits) is (f, laid);
     }
 
 pub index-counted : (names : Names) (i : Option Index) (a b : Building) (bits : List Bit) → BuildsIndex names i a b bits → length b.cells ≡ length a.cells + index_cells names i
 index-counted names None a b bits f = ap (λ (m : Building). length m.cells) f.0 ∙ omega arith
-index-counted names (Some i) a b bits f = count a b bits _ _ (made names i.expr (sense names i.expr).shape) f
+index-counted names (Some i) a b bits f = count a b bits _ _ (made names i.expr (sense names i.expr).shape) f.0
 
 -- One part.
 

@@ -89,7 +89,7 @@ IndicesAre nets names vals (p ∷ ps) (index ∷ indices) = IndexIs nets names v
 
 index-is : (nets : Nets) (names : Names) (i : Option Index) (a b : Building) (index : List Bit) (vals : Values) → BuildsIndex names i a b index → RunsIn b nets → store a nets ≡ numbers vals → IndexIs nets names vals i index
 index-is nets names None a b index vals f runs same = tt
-index-is nets names (Some i) a b index vals f runs same = evaluated nets names i.expr (sense names i.expr).shape a b index vals f runs same
+index-is nets names (Some i) a b index vals f runs same = evaluated nets names i.expr (sense names i.expr).shape a b index vals f.0 runs same
 
 indices-are : (nets : Nets) (names : Names) (ps : List Part) (a b : Building) (indices : List (List Bit)) (vals : Values) → BuildsIndices names ps a b indices → RunsIn b nets → store a nets ≡ numbers vals → IndicesAre nets names vals ps indices
 indices-are nets names [] a b indices vals f runs same = tt

@@ -17,6 +17,7 @@ use Rattle.vlog_effects.specs.Effects.{bit_same}
 use Rattle.vlog_effects.specs.Latches.{Target, targets, arms_targets}
 use Rattle.elab_expr.specs.Building.{Building, Grows, fresh_bits, signal, with_signal, with_cell}
 use Rattle.elab_expr.specs.Evaluates.{Evaluates}
+use Rattle.elab_expr.specs.Laid.{lay, showing}
 use Rattle.proc_muxes.specs.declared.choice.Choice.{Choice}
 
 -- A builder with the bits that variables with nonblocking assignments will have at the end. The builder's own signals
@@ -38,6 +39,10 @@ with_held false n bits a = record a { pending = λ m. if nat_eq m n then bits el
 abbrev pub AddsCell : CellKind → List (List Bit) → ℕ → Span → Building → Building → Type 0
 AddsCell kind inputs width at a b = Grows a b × (b ≡ with_cell a kind false inputs width at)
 
+-- an expression's cells are wired as its tree says, and so are its bits
+abbrev pub IsLaid : Names → Expr → Shape → Building → Building → List Bit → Type 0
+IsLaid names x c a b bits = showing b bits ≡ lay names x c a
+
 -- Assignments.
 
 -- the index of a select, and the place of its `[`
@@ -55,7 +60,7 @@ variable_index names (Indexed at base count) = if is_constant names base then No
 -- the cells of an index, which is evaluated at its own width and sign
 abbrev pub BuildsIndex : Names → Option Index → Building → Building → List Bit → Type 0
 BuildsIndex names None a b index = (b ≡ a) × (index ≡ [])
-BuildsIndex names (Some i) a b index = Evaluates names i.expr (sense names i.expr).shape a b index
+BuildsIndex names (Some i) a b index = Evaluates names i.expr (sense names i.expr).shape a b index × IsLaid names i.expr (sense names i.expr).shape a b index
 
 -- the cells of the indices of a left side, from the left; for a part without a variable index there are no bits
 abbrev pub BuildsIndices : Names → List Part → Building → Building → List (List Bit) → Type 0
@@ -93,7 +98,8 @@ PutsParts is_blocking names (p ∷ ps) bits (index ∷ indices) a b =
 abbrev pub AssignsBits : Assigning → List Part → ℕ → Work → Work → Type 0
 AssignsBits s ps width a b =
     (mid : Building) × (last : Building) × (right : List Bit) × (indices : List (List Bit)) × Evaluates s.names s.right (assigned (sense s.names s.right) width) a.building mid right ×
-    BuildsIndices s.names ps mid last indices × PutsParts s.is_blocking s.names ps (take width right) indices (record a { building = last }) b
+    BuildsIndices s.names ps mid last indices × PutsParts s.is_blocking s.names ps (take width right) indices (record a { building = last }) b ×
+    IsLaid s.names s.right (assigned (sense s.names s.right) width) a.building mid right
 
 abbrev pub BuildsAssign : Assigning → Work → Work → Type 0
 BuildsAssign s a b = let ps = parts_of s.left in AssignsBits s ps (parts_width s.names ps) a b
@@ -107,7 +113,8 @@ BuildsBit at bits a b test = ((length bits ≡ 1) × (b ≡ a) × (test ≡ bits
 abbrev pub BuildsTest : Test → Work → Work → List Bit → Type 0
 BuildsTest c a b test =
     (mid : Building) × (last : Building) × (bits : List Bit) × Evaluates c.names c.condition (sense c.names c.condition).shape a.building mid bits ×
-    BuildsBit (first_token c.condition) bits mid last test × (b ≡ record a { building = last })
+    BuildsBit (first_token c.condition) bits mid last test × (b ≡ record a { building = last }) ×
+    IsLaid c.names c.condition (sense c.names c.condition).shape a.building mid bits
 
 -- the signal is a target with assignments of this kind
 abbrev pub stands : Bool → List Target → ℕ → Bool
@@ -174,7 +181,7 @@ abbrev pub BuildsLabel : Selection → List Bit → Expr → Building → Buildi
 BuildsLabel c selector x a b test =
     let ignored = bits_of c.width (dont_care c.kind x) in
     (mid : Building) × (bits : List Bit) × Evaluates c.names x (case_shape c) a mid bits ×
-    BuildsEqual (mattering ignored) (kept ignored selector) (kept ignored bits) (first_token x) mid b test
+    BuildsEqual (mattering ignored) (kept ignored selector) (kept ignored bits) (first_token x) mid b test × IsLaid c.names x (case_shape c) a mid bits
 
 -- from the second label on joined to the ones before by `lor`
 abbrev pub BuildsMore : Selection → List Bit → List Expr → List Bit → Building → Building → List Bit → Type 0
@@ -198,7 +205,7 @@ abbrev mutual
       ChoosesAll at test (choices y (distinct (targets then_part ++ targets else_part))) n m × Builds more m b
   Builds (Case c arms more) a b =
       (mid : Building) × (m : Work) × (selector : List Bit) × Evaluates c.names c.selector (case_shape c) a.building mid selector ×
-      BuildsArms c selector arms (record a { building = mid }) m × Builds more m b
+      BuildsArms c selector arms (record a { building = mid }) m × Builds more m b × IsLaid c.names c.selector (case_shape c) a.building mid selector
   Builds (Refuse x more) a b = ⊥
 
   pub BuildsArms : Selection → List Bit → Arms → Work → Work → Type 0

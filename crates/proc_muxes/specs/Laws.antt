@@ -1,14 +1,15 @@
 -- Laws of what statements build: what it keeps, and that it has the effect of the statements in every run.
-use Rattle.std.specs.Prelude.{◌≡◌, ℕ, Bool, false, List, ◌++◌}
+use Rattle.std.specs.Prelude.{◌≡◌, ℕ, Bool, false, List, [], ◌∷◌, ◌++◌}
 use Rattle.mcy_base.specs.declared.span.Span.{Span}
 use Rattle.netlist_core.specs.declared.bit.Bit.{Bit}
 use Rattle.netlist_core.specs.Runs.{Nets, values}
 use Rattle.vlog_effects.specs.Steps.{Steps, Test, Done, Choose, followed}
 use Rattle.vlog_effects.specs.Effects.{State, effect, left_by}
-use Rattle.vlog_effects.specs.Latches.{targets}
+use Rattle.vlog_effects.specs.Latches.{Target, targets}
 use Rattle.elab_expr.specs.Building.{RunsIn, signal}
 use Rattle.proc_muxes.specs.declared.change.Change.{Change}
 use Rattle.proc_muxes.specs.Builds.{Work, Builds, BuildsTest, ChoosesAll}
+use Rattle.proc_muxes.specs.Laid.{lay_steps}
 use Rattle.proc_muxes.specs.Shows.{Shows, Conforms, Keeps, StandsBelow, last_held}
 use Rattle.proc_muxes.specs.Working.{Built, AreWide, AllFit, AllChoicesFit, all_have, given_back, joined, chosen}
 
@@ -24,6 +25,19 @@ BuildsTheEffect = (nets : Nets) (kinds : ℕ → Bool) (steps : Steps) (a b : Wo
 -- variable with nonblocking assignments waits with these values.
 abbrev pub LeavesTheEffect : Type 0
 LeavesTheEffect = (nets : Nets) (kinds : ℕ → Bool) (steps : Steps) (a b : Work) → Builds steps a b → Conforms kinds (targets steps) → RunsIn b.building nets → ((n : ℕ) → kinds n ≡ false → a.pending n ≡ signal a.building n) → (n : ℕ) → values nets (last_held kinds b n) ≡ left_by steps (λ k. values nets (signal a.building k)) n
+
+-- What is built of statements is what they lay. So they have one netlist from what the builder and the variables have before.
+abbrev pub StatementsAreLaid : Type 0
+StatementsAreLaid = (steps : Steps) (a b : Work) → Builds steps a b → b ≡ lay_steps steps a
+
+-- the same bits wait for each of these variables that has nonblocking assignments
+abbrev pub WaitAlike : Work → Work → List Target → Type 0
+WaitAlike a b [] = Unit {0}
+WaitAlike a b (x ∷ more) = (x.is_blocking ≡ false → a.pending x.number ≡ b.pending x.number) × WaitAlike a b more
+
+-- What statements lay goes by the builder and by the bits that wait for their own variables.
+abbrev pub LaidByWhatWaits : Type 0
+LaidByWhatWaits = (steps : Steps) (a b : Work) → a.building ≡ b.building → WaitAlike a b (targets steps) → ((lay_steps steps a).building ≡ (lay_steps steps b).building) × WaitAlike (lay_steps steps a) (lay_steps steps b) (targets steps)
 
 -- How statements are built from what the calls of their parts have done.
 

@@ -1,4 +1,5 @@
 pub mod Builds
+pub mod Laid
 pub mod Shows
 pub mod Working
 pub mod Pieces

@@ -11,9 +11,10 @@ ghost use Rattle.elab_expr.specs.Evaluates.{Evaluates};
 ghost use Rattle.elab_expr.specs.Expressions.{refusals};
 ghost use Rattle.elab_expr.specs.Made.{made};
 ghost use Rattle.elab_expr.specs.Refusals.{IsShort};
-ghost use Rattle.proc_muxes.specs.Builds.{PutsPart, PutsParts};
+ghost use Rattle.proc_muxes.specs.Builds.{IsLaid, PutsPart, PutsParts};
 ghost use Rattle.proc_muxes.specs.Clear.{CanAssign, AreHeld};
 ghost use Rattle.proc_muxes.specs.Counts.{assign_cells, place_cells, pieces_cells};
+ghost use Rattle.proc_muxes.specs.Laid.{lay_assign};
 ghost use Rattle.proc_muxes.specs.Pieces.{index_bits, indices_of, sizes, IsPiece, ArePieces, IsFitPiece, AreFitPieces, IsHeldPiece, AreHeldPieces, piece_target, piece_targets};
 ghost use Rattle.proc_muxes.specs.Shows.{Keeps, StandsBelow};
 ghost use Rattle.proc_muxes.specs.Working.{work, change_of, changes_of, joined, Built};
@@ -39,6 +40,7 @@ fn build_right(
     requires clear { refusals (names_of scope.now) right.now (assigned (sense (names_of scope.now) right.now) width) ≡ [] }
     requires signals { HasSignals (names_of scope.now) builder.old }
     ensures built { IfOk result (λ bits. Evaluates (names_of scope.now) right.now (assigned (sense (names_of scope.now) right.now) width) builder.old builder.new bits) }
+    ensures laid { IfOk result (λ bits. IsLaid (names_of scope.now) right.now (assigned (sense (names_of scope.now) right.now) width) builder.old builder.new bits) }
     ensures short { IfErr result (λ e. IsShort (length builder.old.cells + length (made (names_of scope.now) right.now (assigned (sense (names_of scope.now) right.now) width))) e) }
 {
     let own = shape_of(right, scope);
@@ -181,6 +183,7 @@ pub fn build_assignment(
     requires stands { StandsBelow (work builder.old variables.old) }
     requires places { length variables.old ≡ length builder.old.signals }
     ensures built { IfOk result (λ changes. Built (Assign (assigning is_blocking assignment.now (names_of scope.now)) Done) (work builder.old variables.old) (work builder.new variables.new) changes) }
+    ensures laid { IfOk result (λ changes. work builder.new variables.new ≡ lay_assign (assigning is_blocking assignment.now (names_of scope.now)) (work builder.old variables.old)) }
     ensures places { IfOk result (λ changes. length variables.new ≡ length builder.new.signals) }
     ensures short { IfErr result (λ e. IsShort (length builder.old.cells + assign_cells (assigning is_blocking assignment.now (names_of scope.now))) e) }
 {

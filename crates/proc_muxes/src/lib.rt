@@ -18,6 +18,6 @@ pub use assignment::build_assignment;
 pub use change::{Change, Changes};
 pub use choice::{Choice, choose, set_aside};
 pub use condition::build_test;
-pub use laws::{parts_are_built, statements_build_their_effect};
+pub use laws::{parts_are_built, statements_are_laid, statements_build_their_effect};
 pub use statement::build_statement;
 pub use variables::Variables;

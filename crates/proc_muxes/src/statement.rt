@@ -20,6 +20,7 @@ ghost use Rattle.case_arms.specs.Naming.{IsOf};
 ghost use Rattle.proc_muxes.specs.Cases.{AreReadyItems, Opened};
 ghost use Rattle.proc_muxes.specs.Clear.{IsReady};
 ghost use Rattle.proc_muxes.specs.Counts.{cells_of, items_cells};
+ghost use Rattle.proc_muxes.specs.Laid.{lay_steps};
 ghost use Rattle.proc_muxes.specs.Shows.{StandsBelow};
 ghost use Rattle.proc_muxes.specs.Turns.{AsksTurn, IsBuiltTurn};
 ghost use Rattle.proc_muxes.specs.Working.{work, Built};
@@ -50,6 +51,7 @@ pub fn build_statement(
     requires ready { IsReady (names_of scope.old) (steps_of stmt.now (names_of scope.old)) (work builder.old variables.old) }
     requires places { length variables.old ≡ length builder.old.signals }
     ensures built { IfOk result (λ changes. Built (steps_of stmt.now (names_of scope.old)) (work builder.old variables.old) (work builder.new variables.new) changes) }
+    ensures laid { IfOk result (λ changes. work builder.new variables.new ≡ lay_steps (steps_of stmt.now (names_of scope.old)) (work builder.old variables.old)) }
     ensures places { IfOk result (λ changes. length variables.new ≡ length builder.new.signals) }
     ensures kept { IfOk result (λ changes. names_of scope.new ≡ names_of scope.old) }
     ensures short { IfErr result (λ e. IsShort (length builder.old.cells + cells_of (steps_of stmt.now (names_of scope.old))) e) }

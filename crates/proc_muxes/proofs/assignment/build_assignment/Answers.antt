@@ -3,7 +3,7 @@ use Rattle.netlist_core.specs.declared.bit.Bit.{Bit}
 use Rattle.vlog_meaning.specs.Scopes.{names_of}
 use Rattle.vlog_meaning.specs.Senses.{sense}
 use Rattle.vlog_effects.specs.LeftSides.{parts_of, parts_width}
-use Rattle.vlog_effects.specs.Steps.{assigning}
+use Rattle.vlog_effects.specs.Steps.{Assign, Done, assigning}
 use Rattle.elab_expr.specs.Building.{AllBelow}
 use Rattle.elab_expr.specs.Refusals.{IsShort}
 use Rattle.elab_expr.proofs.Growing.{signals_kept}
@@ -12,7 +12,8 @@ use Rattle.proc_muxes.specs.declared.piece.Piece.{Piece}
 use Rattle.proc_muxes.specs.Counts.{pieces_cells}
 use Rattle.proc_muxes.specs.Pieces.{AreHeldPieces, MakesPieces, piece_targets}
 use Rattle.proc_muxes.specs.Working.{work, changes_of, joined}
-use Rattle.proc_muxes.proofs.Assigning.{right-is, grown-work, made-held, taken-long, taken-as, right-below, short-puts, puts-as, assignment-built}
+use Rattle.proc_muxes.proofs.Assigning.{right-is, right-laid, grown-work, made-held, taken-long, taken-as, right-below, short-puts, puts-as, assignment-built}
+use Rattle.proc_muxes.proofs.Laying.{steps-laid}
 use Rattle.proc_muxes.proofs.assignment.build_assignment.Goals as goal
 
 pub push_pieces-requires-clause-signals : goal.push_pieces-requires-clause-signals
@@ -80,6 +81,11 @@ returns-clause-built c =
     let s = assigning c.args.is_blocking c.args.assignment.now (names_of c.args.scope.now) in
     let right = right-is s c.args.builder.now c.build_right.new.builder c.in_ok-right.right c.get.result.now c.left_width-width.result c.get.ensures c.left_width-width.ensures c.in_ok-right.ensures.built in
     let makes = subst (λ (l : List Piece). MakesPieces s.names (parts_of s.left) c.build_right.new.builder c.push_pieces.new.builder l c.push_pieces.new.pieces.items) c.new-pieces.ensures.items c.in_ok-push_pieces.ensures.makes in
-    assignment-built s (work c.args.builder.now c.args.variables.now) (work c.put_pieces.new.builder c.put_pieces.new.variables) c.build_right.new.builder c.push_pieces.new.builder c.in_ok-right.right c.push_pieces.new.pieces.items c.in_ok-changes.changes right makes
+    assignment-built s (work c.args.builder.now c.args.variables.now) (work c.put_pieces.new.builder c.put_pieces.new.variables) c.build_right.new.builder c.push_pieces.new.builder c.in_ok-right.right c.push_pieces.new.pieces.items c.in_ok-changes.changes right
+    (right-laid s c.args.builder.now c.build_right.new.builder c.in_ok-right.right c.get.result.now c.left_width-width.result c.get.ensures c.left_width-width.ensures c.in_ok-right.ensures.laid)
+    makes
     (puts-as c.args.is_blocking c.from.result (parts_width s.names (parts_of s.left)) c.as_slice-2.result.now c.in_ok-right.right c.as_slice-3.result.now c.push_pieces.new.pieces.items (work c.push_pieces.new.builder c.args.variables.now) (work c.put_pieces.new.builder c.put_pieces.new.variables) (c.from.ensures ∙ c.left_width-width.ensures) c.as_slice-2.ensures c.as_slice-3.ensures.value c.in_ok-put_pieces.ensures.puts)
     (c.in_ok-changes.ensures ∙ ap (λ (l : List Piece). joined [] (changes_of (work c.push_pieces.new.builder c.args.variables.now) (piece_targets c.args.is_blocking l))) c.as_slice.ensures.value)
+
+pub returns-clause-laid : goal.returns-clause-laid
+returns-clause-laid c = steps-laid (Assign (assigning c.args.is_blocking c.args.assignment.now (names_of c.args.scope.now)) Done) (work c.args.builder.now c.args.variables.now) (work c.put_pieces.new.builder c.put_pieces.new.variables) (returns-clause-built c).builds

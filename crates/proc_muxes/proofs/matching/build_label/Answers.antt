@@ -21,7 +21,7 @@ pub build_equal-requires-clause-below_b : goal.build_equal-requires-clause-below
 build_equal-requires-clause-below_b c = kept-stands c.build_expr.new.builder.nets _ _ c.in_ok-bits.bits c.in_ok-right.right c.in_ok-right.ensures c.in_ok-bits.ensures.built.below
 
 pub returns-clause-built : goal.returns-clause-built
-returns-clause-built c = label-built (names_of c.args.scope.now) c.args.selector.now.kind c.args.selector.now.size c.args.selector.now.bits c.args.label.now c.args.builder.now c.build_expr.new.builder c.build_equal.new.builder c.in_ok-bits.bits c.in_ok-left.left c.in_ok-right.right c.in_ok-build_equal.field-0 c.requires.clear c.requires.long c.in_ok-bits.ensures.built (rw c.dont_care-ignored.ensures at c.in_ok-left.ensures) (rw c.dont_care-ignored.ensures at c.in_ok-right.ensures) (rw c.first_token.ensures at c.in_ok-build_equal.ensures.built)
+returns-clause-built c = label-built (names_of c.args.scope.now) c.args.selector.now.kind c.args.selector.now.size c.args.selector.now.bits c.args.label.now c.args.builder.now c.build_expr.new.builder c.build_equal.new.builder c.in_ok-bits.bits c.in_ok-left.left c.in_ok-right.right c.in_ok-build_equal.field-0 c.requires.clear c.requires.long c.in_ok-bits.ensures.built c.in_ok-bits.ensures.laid (rw c.dont_care-ignored.ensures at c.in_ok-left.ensures) (rw c.dont_care-ignored.ensures at c.in_ok-right.ensures) (rw c.first_token.ensures at c.in_ok-build_equal.ensures.built)
 
 pub returns-in_err-build_equal-clause-short : goal.returns-in_err-build_equal-clause-short
 returns-in_err-build_equal-clause-short c = same_err c.from_residual-in_err-build_equal.result c.in_err-build_equal.field-0.0 _ c.from_residual-in_err-build_equal.ensures.1 (equal-short (names_of c.args.scope.now) c.args.selector.now.kind c.args.selector.now.size c.args.selector.now.bits c.args.label.now c.args.builder.now c.build_expr.new.builder c.in_ok-bits.bits c.in_ok-left.left c.in_err-build_equal.field-0.0 c.requires.clear c.requires.long c.in_ok-bits.ensures.built (rw c.dont_care-ignored.ensures at c.in_ok-left.ensures) c.in_err-build_equal.ensures.short)

@@ -2,6 +2,7 @@ use Rattle.std.proofs.Common.{◌≤◌, sym, ◌∙◌, subst}
 use Rattle.vlog_meaning.specs.declared.shapes.Shape.{Shape}
 use Rattle.vlog_meaning.specs.Scopes.{names_of}
 use Rattle.elab_expr.specs.Evaluates.{Evaluates}
+use Rattle.proc_muxes.specs.Builds.{IsLaid}
 use Rattle.proc_muxes.proofs.Piecing.{placed-variable}
 use Rattle.proc_muxes.proofs.piece.place_at.Goals as goal
 
@@ -12,3 +13,4 @@ returns-clause-placed c =
     (subst (λ (s : Shape). 1 ≤ s.width) c.shape_of-shape.ensures.shape c.shape_of-shape.ensures.sized.some)
     (subst (λ (s : Shape). s.width ≤ 128) c.shape_of-shape.ensures.shape c.shape_of-shape.ensures.sized.narrow)
     (subst (λ (s : Shape). Evaluates (names_of c.args.scope.now) c.args.index.now s c.args.builder.now c.build_expr.new.builder c.in_ok-bits.bits) c.shape_of-shape.ensures.shape c.in_ok-bits.ensures.built)
+    (subst (λ (s : Shape). IsLaid (names_of c.args.scope.now) c.args.index.now s c.args.builder.now c.build_expr.new.builder c.in_ok-bits.bits) c.shape_of-shape.ensures.shape c.in_ok-bits.ensures.laid)

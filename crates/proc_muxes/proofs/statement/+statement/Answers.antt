@@ -30,6 +30,7 @@ use Rattle.proc_muxes.specs.Working.{work, Built}
 use Rattle.proc_muxes.proofs.Branching.{else-as, block-as, choice-as, choice-clear, first-ready, test-places, first-fit, backs, haves, second-ready, choices-ready, test-below, both-stand, choice-built, test-short, first-short, second-short, muxes-short}
 use Rattle.proc_muxes.proofs.Closing.{case-is, case-of, case-arms, case-wrong, case-sized, case-keeps, case-held, case-stands, case-items-ready, case-last-ready, case-built, selector-allowed, selector-short, arms-short, items-short, last-short, close-start, closing-on, close-fit, close-one, close-below, close-stands, close-next, close-short, close-end}
 use Rattle.proc_muxes.proofs.Frames.{keeps-again, nets-added}
+use Rattle.proc_muxes.proofs.Laying.{steps-laid, result-laid}
 use Rattle.proc_muxes.proofs.Opening.{ready-item, open-skip, open-more, open-one, arm-keeps, body-ready, grown-places, match-short, body-short, opened-keeps, last-is, within-some}
 use Rattle.proc_muxes.proofs.Refusing.{no-other}
 use Rattle.proc_muxes.proofs.Turning.{turns-are, turns-ready, turned-start, turn-ready, turned-more, turned-end, turn-room, turned-all, turn-fails, turn-over, body-asked, turn-stops, turn-built, turn-short, start-named, start-none, start-constant, start-fails, start-goes, loop-is}
@@ -89,7 +90,7 @@ build_case-returns-in_err-changes-clause-short t c = same_err c.from_residual-in
 
 pub build_case-loop-arm-init : goal.build_case-loop-arm-init
 build_case-loop-arm-init t c = record {
-  closing = (c.build_expr.new.builder, c.in_ok-bits.ensures.built, close-start (case-of (names_of c.args.scope.now) c.args.kind c.args.selector.now c.args.items.now) c.in_ok-bits.bits (case-arms (names_of c.args.scope.now) c.args.kind c.args.selector.now c.args.items.now) (labelled (map item_steps (take c.in_ok-chosen.chosen.before c.args.items.now))) (done_by (option_map (item_body c.args.items.now) c.in_ok-chosen.chosen.last) (names_of c.args.scope.now)) (work c.build_expr.new.builder c.args.variables.now) (work c.build_arms.new.builder c.build_arms.new.variables) (work c.build_last.new.builder c.build_last.new.variables) c.in_ok-arms.arms c.in_ok-changes.changes (sym c.in_ok-chosen.ensures.arms) (c.in_ok-arms.ensures.opened (case-of (names_of c.args.scope.now) c.args.kind c.args.selector.now c.args.items.now) (case-sized (names_of c.args.scope.now) c.args.kind c.args.selector.now c.args.items.now c.case_size-size.result c.case_size-size.ensures.size c.case_size-size.ensures.sized)) (subst (λ (n : Names). Built (done_by (option_map (item_body c.args.items.now) c.in_ok-chosen.chosen.last) n) (work c.build_arms.new.builder c.build_arms.new.variables) (work c.build_last.new.builder c.build_last.new.variables) c.in_ok-changes.changes) c.in_ok-arms.ensures.kept c.in_ok-changes.ensures.built));
+  closing = (c.build_expr.new.builder, c.in_ok-bits.ensures.built, close-start (case-of (names_of c.args.scope.now) c.args.kind c.args.selector.now c.args.items.now) c.in_ok-bits.bits (case-arms (names_of c.args.scope.now) c.args.kind c.args.selector.now c.args.items.now) (labelled (map item_steps (take c.in_ok-chosen.chosen.before c.args.items.now))) (done_by (option_map (item_body c.args.items.now) c.in_ok-chosen.chosen.last) (names_of c.args.scope.now)) (work c.build_expr.new.builder c.args.variables.now) (work c.build_arms.new.builder c.build_arms.new.variables) (work c.build_last.new.builder c.build_last.new.variables) c.in_ok-arms.arms c.in_ok-changes.changes (sym c.in_ok-chosen.ensures.arms) (c.in_ok-arms.ensures.opened (case-of (names_of c.args.scope.now) c.args.kind c.args.selector.now c.args.items.now) (case-sized (names_of c.args.scope.now) c.args.kind c.args.selector.now c.args.items.now c.case_size-size.result c.case_size-size.ensures.size c.case_size-size.ensures.sized)) (subst (λ (n : Names). Built (done_by (option_map (item_body c.args.items.now) c.in_ok-chosen.chosen.last) n) (work c.build_arms.new.builder c.build_arms.new.variables) (work c.build_last.new.builder c.build_last.new.variables) c.in_ok-changes.changes) c.in_ok-arms.ensures.kept c.in_ok-changes.ensures.built), c.in_ok-bits.ensures.laid);
   places = c.in_ok-changes.ensures.places;
   kept = c.in_ok-changes.ensures.kept ∙ c.in_ok-arms.ensures.kept;
 }
@@ -114,13 +115,13 @@ build_case-returns-in_err-changes-2-clause-short t c = same_err c.from_residual-
 
 pub build_case-loop-arm-preserved : goal.build_case-loop-arm-preserved
 build_case-loop-arm-preserved t c = record {
-  closing = (c.loop-arm.invariant.closing.0, c.loop-arm.invariant.closing.1, close-next (case-of (names_of c.args.scope.now) c.args.kind c.args.selector.now c.args.items.now) c.in_ok-bits.bits (case-arms (names_of c.args.scope.now) c.args.kind c.args.selector.now c.args.items.now) (work c.loop-arm.invariant.closing.0 c.args.variables.now) (work c.loop-arm.builder c.loop-arm.variables) c.in-Some.arm c.pop.new.self c.loop-arm.changes (closing-on (case-of (names_of c.args.scope.now) c.args.kind c.args.selector.now c.args.items.now) c.in_ok-bits.bits (case-arms (names_of c.args.scope.now) c.args.kind c.args.selector.now c.args.items.now) (work c.loop-arm.invariant.closing.0 c.args.variables.now) (work c.loop-arm.builder c.loop-arm.variables) c.loop-arm.arms c.pop.new.self c.in-Some.arm c.loop-arm.changes c.in-Some.ensures c.loop-arm.invariant.closing.2) (work c.choose.new.builder c.choose.new.variables) c.in-Some.arm.first.items c.in_ok-changes-2.changes refl c.in_ok-changes-2.ensures.chooses c.in_ok-changes-2.ensures.joined);
+  closing = (c.loop-arm.invariant.closing.0, c.loop-arm.invariant.closing.1, close-next (case-of (names_of c.args.scope.now) c.args.kind c.args.selector.now c.args.items.now) c.in_ok-bits.bits (case-arms (names_of c.args.scope.now) c.args.kind c.args.selector.now c.args.items.now) (work c.loop-arm.invariant.closing.0 c.args.variables.now) (work c.loop-arm.builder c.loop-arm.variables) c.in-Some.arm c.pop.new.self c.loop-arm.changes (closing-on (case-of (names_of c.args.scope.now) c.args.kind c.args.selector.now c.args.items.now) c.in_ok-bits.bits (case-arms (names_of c.args.scope.now) c.args.kind c.args.selector.now c.args.items.now) (work c.loop-arm.invariant.closing.0 c.args.variables.now) (work c.loop-arm.builder c.loop-arm.variables) c.loop-arm.arms c.pop.new.self c.in-Some.arm c.loop-arm.changes c.in-Some.ensures c.loop-arm.invariant.closing.2) (work c.choose.new.builder c.choose.new.variables) c.in-Some.arm.first.items c.in_ok-changes-2.changes refl c.in_ok-changes-2.ensures.chooses c.in_ok-changes-2.ensures.joined, c.loop-arm.invariant.closing.3);
   places = c.in_ok-changes-2.ensures.places;
   kept = c.loop-arm.invariant.kept;
 }
 
 pub build_case-returns-clause-built : goal.build_case-returns-clause-built
-build_case-returns-clause-built t c = case-built (names_of c.args.scope.now) c.args.kind c.args.selector.now c.args.items.now c.case_size-size.result c.case_size-size.ensures.size c.case_size-size.ensures.sized (work c.args.builder.now c.args.variables.now) (work c.loop-arm.builder c.loop-arm.variables) c.loop-arm.invariant.closing.0 c.in_ok-bits.bits c.loop-arm.changes c.loop-arm.invariant.closing.1 (close-end (case-of (names_of c.args.scope.now) c.args.kind c.args.selector.now c.args.items.now) c.in_ok-bits.bits (case-arms (names_of c.args.scope.now) c.args.kind c.args.selector.now c.args.items.now) (work c.loop-arm.invariant.closing.0 c.args.variables.now) (work c.loop-arm.builder c.loop-arm.variables) c.loop-arm.arms c.loop-arm.changes c.in_default.ensures.0 c.loop-arm.invariant.closing.2)
+build_case-returns-clause-built t c = case-built (names_of c.args.scope.now) c.args.kind c.args.selector.now c.args.items.now c.case_size-size.result c.case_size-size.ensures.size c.case_size-size.ensures.sized (work c.args.builder.now c.args.variables.now) (work c.loop-arm.builder c.loop-arm.variables) c.loop-arm.invariant.closing.0 c.in_ok-bits.bits c.loop-arm.changes c.loop-arm.invariant.closing.1 c.loop-arm.invariant.closing.3 (close-end (case-of (names_of c.args.scope.now) c.args.kind c.args.selector.now c.args.items.now) c.in_ok-bits.bits (case-arms (names_of c.args.scope.now) c.args.kind c.args.selector.now c.args.items.now) (work c.loop-arm.invariant.closing.0 c.args.variables.now) (work c.loop-arm.builder c.loop-arm.variables) c.loop-arm.arms c.loop-arm.changes c.in_default.ensures.0 c.loop-arm.invariant.closing.2)
 
 pub build_case-returns-clause-places : goal.build_case-returns-clause-places
 build_case-returns-clause-places t c = c.loop-arm.invariant.places
@@ -396,3 +397,24 @@ build_block-loop-stmt-preserved t c = record {
 
 pub build_block-returns-in_err-more-clause-short : goal.build_block-returns-in_err-more-clause-short
 build_block-returns-in_err-more-clause-short t c = same_err c.from_residual.result c.in_err-more.field-0.0 _ c.from_residual.ensures.1 (block-short (names_of c.args.scope.now) c.args.body.now c.loop-stmt.stmt-index c.stmt-item.result (work c.args.builder.now c.args.variables.now) (work c.loop-stmt.builder c.loop-stmt.variables) c.loop-stmt.changes c.in_err-more.field-0.0 c.stmt-item.is (omega arith) c.loop-stmt.invariant.built (subst (λ (n : Names). IsShort (length c.loop-stmt.builder.cells + cells_of (steps_of c.stmt-item.result n)) c.in_err-more.field-0.0) c.loop-stmt.invariant.kept c.in_err-more.ensures.short))
+
+pub build_statement-returns-in-Case-clause-laid : goal.build_statement-returns-in-Case-clause-laid
+build_statement-returns-in-Case-clause-laid t c = result-laid (steps_of c.args.stmt.now (names_of c.args.scope.now)) (work c.args.builder.now c.args.variables.now) (work c.build_case.new.builder c.build_case.new.variables) c.build_case.result (build_statement-returns-in-Case-clause-built t c)
+
+pub build_statement-returns-in-For-clause-laid : goal.build_statement-returns-in-For-clause-laid
+build_statement-returns-in-For-clause-laid t c = result-laid (steps_of c.args.stmt.now (names_of c.args.scope.now)) (work c.args.builder.now c.args.variables.now) (work c.build_loop.new.builder c.build_loop.new.variables) c.build_loop.result (build_statement-returns-in-For-clause-built t c)
+
+pub build_statement-returns-in-SeqBlock-clause-laid : goal.build_statement-returns-in-SeqBlock-clause-laid
+build_statement-returns-in-SeqBlock-clause-laid t c = result-laid (steps_of c.args.stmt.now (names_of c.args.scope.now)) (work c.args.builder.now c.args.variables.now) (work c.build_block.new.builder c.build_block.new.variables) c.build_block.result (build_statement-returns-in-SeqBlock-clause-built t c)
+
+pub build_statement-returns-in-BlockingAssignment-clause-laid : goal.build_statement-returns-in-BlockingAssignment-clause-laid
+build_statement-returns-in-BlockingAssignment-clause-laid t c = result-laid (steps_of c.args.stmt.now (names_of c.args.scope.now)) (work c.args.builder.now c.args.variables.now) (work c.build_assignment.new.builder c.build_assignment.new.variables) c.build_assignment.result (build_statement-returns-in-BlockingAssignment-clause-built t c)
+
+pub build_statement-returns-in-NonblockingAssignment-clause-laid : goal.build_statement-returns-in-NonblockingAssignment-clause-laid
+build_statement-returns-in-NonblockingAssignment-clause-laid t c = result-laid (steps_of c.args.stmt.now (names_of c.args.scope.now)) (work c.args.builder.now c.args.variables.now) (work c.build_assignment-in-NonblockingAssignment.new.builder c.build_assignment-in-NonblockingAssignment.new.variables) c.build_assignment-in-NonblockingAssignment.result (build_statement-returns-in-NonblockingAssignment-clause-built t c)
+
+pub build_statement-returns-in-Null-clause-laid : goal.build_statement-returns-in-Null-clause-laid
+build_statement-returns-in-Null-clause-laid t c = steps-laid (steps_of c.args.stmt.now (names_of c.args.scope.now)) (work c.args.builder.now c.args.variables.now) (work c.args.builder.now c.args.variables.now) (build_statement-returns-in-Null-clause-built t c).builds
+
+pub build_statement-returns-in_ok-choose-in-Conditional-clause-laid : goal.build_statement-returns-in_ok-choose-in-Conditional-clause-laid
+build_statement-returns-in_ok-choose-in-Conditional-clause-laid t c = steps-laid (steps_of c.args.stmt.now (names_of c.args.scope.now)) (work c.args.builder.now c.args.variables.now) (work c.choose.new.builder c.choose.new.variables) (build_statement-returns-in_ok-choose-in-Conditional-clause-built t c).builds

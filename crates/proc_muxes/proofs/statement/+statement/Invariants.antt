@@ -8,6 +8,7 @@ use Rattle.elab_expr.specs.Building.{Building}
 use Rattle.elab_expr.specs.Evaluates.{Evaluates}
 use Rattle.case_arms.specs.Naming.{IsOf}
 use Rattle.elab_proc.specs.Turns.{loop_of, AlikeBut}
+use Rattle.proc_muxes.specs.Builds.{IsLaid}
 use Rattle.proc_muxes.specs.Cases.{Opened}
 use Rattle.proc_muxes.specs.Shows.{Keeps}
 use Rattle.proc_muxes.specs.Working.{work, Built}
@@ -62,7 +63,7 @@ invariant-build_arms-loop-place l = record {
 
 abbrev pub invariant-build_case-loop-arm : goal.invariant-build_case-loop-arm
 invariant-build_case-loop-arm l = record {
-  closing : (mid : Building) × Evaluates (names_of l.fn.scope) l.selector l.selected.size l.fn.builder mid l.selected.bits × Closing (case-of (names_of l.fn.scope) l.fn.kind l.selector l.items) l.selected.bits (case-arms (names_of l.fn.scope) l.fn.kind l.selector l.items) (record (work l.fn.builder l.fn.variables) { building = mid }) (work l.builder l.variables) l.arms l.changes;
+  closing : (mid : Building) × Evaluates (names_of l.fn.scope) l.selector l.selected.size l.fn.builder mid l.selected.bits × Closing (case-of (names_of l.fn.scope) l.fn.kind l.selector l.items) l.selected.bits (case-arms (names_of l.fn.scope) l.fn.kind l.selector l.items) (record (work l.fn.builder l.fn.variables) { building = mid }) (work l.builder l.variables) l.arms l.changes × IsLaid (names_of l.fn.scope) l.selector l.selected.size l.fn.builder mid l.selected.bits;
   places : length l.variables ≡ length l.builder.signals;
   kept : names_of l.scope ≡ names_of l.fn.scope;
 }
