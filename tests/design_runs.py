@@ -1,6 +1,12 @@
-"""The outputs of designs over some cycles, by Icarus Verilog."""
+"""The outputs of designs over some cycles, by Icarus Verilog.
+
+Icarus Verilog fills a connected input that is wider than its expression with 0 behind some signed expressions, as `$signed(a && b)`.
+By 12.3.9.2 a connection is an assignment, which extends a signed expression with its sign. So a drawn design that may have such a
+connection is left out.
+"""
 
 import os
+import re
 import subprocess
 import tempfile
 
@@ -25,14 +31,25 @@ def bench(inputs, outputs, cycles, has_clock):
     return lines + ["  end", "endmodule"]
 
 
-def outputs_of(lines, inputs, outputs, cycles, has_clock=True):
+def is_filled_against_its_sign(lines, warnings):
+    """Whether a signed expression may be connected to a wider input: a line with a signed name, number or `$signed` is told to be filled."""
+    text = "\n".join(lines)
+    names = set(re.findall(r"signed (?:\[[^]]*\] )?(\w+)", text))
+    for number in re.findall(r":(\d+): warning: Port .*\n.*: Padding \d+ high bits of the port", warnings):
+        line = lines[int(number) - 1]
+        if "$signed" in line or re.search(r"'s|(?<![\w'])\d", line) or names & set(re.findall(r"\w+", line)):
+            return True
+    return False
+
+
+def outputs_of(lines, inputs, outputs, cycles, has_clock=True, is_drawn=True):
     """What is printed of the outputs in each cycle."""
     with tempfile.TemporaryDirectory() as folder:
         source, program = os.path.join(folder, "t.v"), os.path.join(folder, "t")
         with open(source, "w", encoding="utf-8") as file:
             file.write("\n".join(lines + bench(inputs, outputs, cycles, has_clock)) + "\n")
         made = subprocess.run(["iverilog", "-g2005", "-s", "bench", "-o", program, source], capture_output=True, text=True, check=False)
-        if made.returncode:
+        if made.returncode or is_drawn and is_filled_against_its_sign(lines, made.stderr):
             raise Unknown(made.stderr)
         run = subprocess.run(["vvp", program], capture_output=True, text=True, check=True)
     rows = run.stdout.splitlines()

@@ -55,11 +55,11 @@ def inputs_for(inputs, seed):
     return [[value(s.width) for s in inputs] for _ in range(CYCLES)]
 
 
-def case(name, lines, seed):
+def case(name, lines, seed, is_drawn=True):
     """The lines of a design and its cycles, and what is printed."""
     inputs, outputs, has_clock = ports_of(lines)
     cycles = inputs_for(inputs, seed)
-    rows = outputs_of(lines, inputs, outputs, cycles, has_clock)
+    rows = outputs_of(lines, inputs, outputs, cycles, has_clock, is_drawn)
     given = [name] + lines + ["elaborate top"] + ["step " + " ".join(map(str, values)) for values in cycles]
     return given, [name] + [f"outputs {row}" for row in rows], rows
 
@@ -87,7 +87,7 @@ def drawn(word, make):
 def main():
     folder = sys.argv[1]
     lines, wanted = told()
-    by_hand = [case(name, source, seed)[:2] for seed, (name, source) in enumerate(itertools.chain(hand(PROCESSES), hand(DESIGNS)))]
+    by_hand = [case(name, source, seed, False)[:2] for seed, (name, source) in enumerate(itertools.chain(hand(PROCESSES), hand(DESIGNS)))]
     one = itertools.islice(drawn("a drawn module", Draw.process_design), ONE_MODULE)
     several = itertools.islice(drawn("drawn modules", Draw.whole_design), SEVERAL)
     for given, shown in itertools.chain(by_hand, one, several):
