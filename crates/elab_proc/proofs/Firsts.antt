@@ -1,18 +1,14 @@
 -- The first of joined lists, and the first of what is wrong in expressions.
-use Rattle.std.proofs.Common.{◌≡◌, inl, inr, ℕ, Bool, true, false, ◌==◌, nat_lt, List, [], ◌∷◌, ◌++◌, map, refl, arith}
+use Rattle.std.proofs.Common.{◌≡◌, inl, inr, ℕ, Bool, true, false, ◌==◌, nat_lt, List, [], ◌∷◌, ◌++◌, map, refl, ap, subst, arith}
 use Rattle.std.specs.Prelude.{Option, None, Some, if◌then◌else◌}
 use Rattle.std.specs.Option.{option_map}
 use Rattle.std.proofs.lemmas.Bool.Decides.{nat_tests}
 use Rattle.std.proofs.lemmas.List.{append-nil}
-use Rattle.mcy_base.specs.declared.span.Span.{Span}
-use Rattle.vlog_meaning.specs.declared.fault.Cause.{Cause}
-use Rattle.vlog_meaning.specs.declared.fault.Cause.TheVariants as c
 use Rattle.vlog_meaning.specs.declared.fault.Fault.{Fault}
-use Rattle.vlog_meaning.specs.Answers.{least, earlier as earlier_fault, precedes as fault_precedes, const_error, const_error_of}
+use Rattle.vlog_meaning.specs.Answers.{least, earlier as earlier_fault, precedes as fault_precedes}
 use Rattle.elab_proc.specs.declared.refusal.Refusal.{Refusal}
 use Rattle.elab_proc.specs.declared.refusal.Refusal.TheVariants.{Wrong}
-use Rattle.elab_proc.specs.Order.{limit, place, rank, precedes, earlier, IsAmong, NoneBefore, IsFirst}
-use Rattle.elab_proc.specs.Refusals.{const_refusal}
+use Rattle.elab_proc.specs.Order.{limit, place, rank, detail, precedes, earlier, IsAmong, NoneBefore, IsFirst}
 
 lex_later : (a b c : ℕ) (p q r : Bool) → (p ≡ false → q ≡ false → r ≡ false) → (if b == a then p else nat_lt b a) ≡ false → (if c == b then q else nat_lt c b) ≡ false → (if c == a then r else nat_lt c a) ≡ false
 lex_later a b c p q r inner e f = grind (arith, nat_tests)
@@ -28,10 +24,19 @@ number_sooner a b c e f = grind (arith, nat_tests)
 
 -- what does not come before does not come before what comes after
 later : (f g h : Refusal) → precedes g f ≡ false → precedes h g ≡ false → precedes h f ≡ false
-later f g h = lex_later (limit f) (limit g) (limit h) _ _ _ (lex_later (place f).file (place g).file (place h).file _ _ _ (lex_later (place f).line (place g).line (place h).line _ _ _ (lex_later (place f).col (place g).col (place h).col _ _ _ (number_later (rank f) (rank g) (rank h)))))
+later f g h = lex_later (limit f) (limit g) (limit h) _ _ _ (lex_later (place f).file (place g).file (place h).file _ _ _ (lex_later (place f).line (place g).line (place h).line _ _ _ (lex_later (place f).col (place g).col (place h).col _ _ _ (lex_later (rank f) (rank g) (rank h) _ _ _ (number_later (detail f) (detail g) (detail h))))))
 
 sooner : (f g h : Refusal) → precedes g f ≡ true → precedes h g ≡ true → precedes h f ≡ true
-sooner f g h = lex_sooner (limit f) (limit g) (limit h) _ _ _ (lex_sooner (place f).file (place g).file (place h).file _ _ _ (lex_sooner (place f).line (place g).line (place h).line _ _ _ (lex_sooner (place f).col (place g).col (place h).col _ _ _ (number_sooner (rank f) (rank g) (rank h)))))
+sooner f g h = lex_sooner (limit f) (limit g) (limit h) _ _ _ (lex_sooner (place f).file (place g).file (place h).file _ _ _ (lex_sooner (place f).line (place g).line (place h).line _ _ _ (lex_sooner (place f).col (place g).col (place h).col _ _ _ (lex_sooner (rank f) (rank g) (rank h) _ _ _ (number_sooner (detail f) (detail g) (detail h))))))
+
+number_self : (a : ℕ) → nat_lt a a ≡ false
+number_self a = grind (arith, nat_tests)
+
+lex_self : (a : ℕ) (p : Bool) → p ≡ false → (if a == a then p else nat_lt a a) ≡ false
+lex_self a p e = grind (arith, nat_tests)
+
+none_itself : (f : Refusal) → precedes f f ≡ false
+none_itself f = lex_self (limit f) _ (lex_self (place f).file _ (lex_self (place f).line _ (lex_self (place f).col _ (lex_self (rank f) _ (number_self (detail f))))))
 
 -- what comes before neither one nor, so, what comes before that
 nor : (f g h : Refusal) (b : Bool) → precedes h g ≡ b → precedes g f ≡ true → precedes h f ≡ false → precedes h g ≡ false
@@ -72,88 +77,27 @@ first_both None g xs ys i j = rw i j
 first_both (Some f) None xs ys i j = rw (j, append-nil xs) i
 first_both (Some f) (Some g) xs ys i j = both f g xs ys (precedes g f) refl i j
 
+-- the first of one
+pub first_alone : (f : Refusal) → IsFirst (f ∷ []) (Some f)
+first_alone f = (inl refl, (none_itself f, tt))
+
 -- What is wrong in expressions.
 
-number_self : (a : ℕ) → nat_lt a a ≡ false
-number_self a = grind (arith, nat_tests)
+chosen : (f g : Fault) (b : Bool) → (if b then Wrong g else Wrong f) ≡ Wrong (if b then g else f)
+chosen f g true = refl
+chosen f g false = refl
 
-lex_self : (a : ℕ) (p : Bool) → p ≡ false → (if a == a then p else nat_lt a a) ≡ false
-lex_self a p e = grind (arith, nat_tests)
+-- faults stand in the order of what is refused for them
+same_order : (f : Fault) (o : Option Fault) → earlier (Some (Wrong f)) (option_map Wrong o) ≡ option_map Wrong (earlier_fault (Some f) o)
+unfolding earlier earlier_fault
+same_order f None = refl
+same_order f (Some g) = ap Some (chosen f g (fault_precedes g f))
 
-none_itself : (f : Refusal) → precedes f f ≡ false
-none_itself f = lex_self (limit f) _ (lex_self (place f).file _ (lex_self (place f).line _ (lex_self (place f).col _ (number_self (rank f)))))
-
-lex_same : (a b : ℕ) (p q : Bool) → (p ≡ false → q ≡ false) → (if a == b then p else nat_lt a b) ≡ false → (if a == b then q else nat_lt a b) ≡ false
-lex_same a b p q inner e = grind (arith, nat_tests)
-
-lex_turned : (a b : ℕ) (p q : Bool) → (p ≡ true → q ≡ false) → (if a == b then p else nat_lt a b) ≡ true → (if b == a then q else nat_lt b a) ≡ false
-lex_turned a b p q inner e = grind (arith, nat_tests)
-
--- refusals that stand for faults, at their places
-pub record Stands (h : Fault → Refusal) : Type 0 where
-  pub limit_is : (f : Fault) → limit (h f) ≡ 0
-  pub place_is : (f : Fault) → place (h f) ≡ f.span
-  pub rank_is : (f : Fault) → rank (h f) ≡ 0
-
-module _ (h : Fault → Refusal) (s : Stands h) where
-  as_placed : (f g : Fault) → (if f.span.file == g.span.file then (if f.span.line == g.span.line then (if f.span.col == g.span.col then nat_lt 0 0 else nat_lt f.span.col g.span.col) else nat_lt f.span.line g.span.line) else nat_lt f.span.file g.span.file) ≡ false → precedes (h f) (h g) ≡ false
-  as_placed f g e = rw (s.limit_is f, s.limit_is g, s.place_is f, s.place_is g, s.rank_is f, s.rank_is g) e
-
-  same_order : (f g : Fault) → fault_precedes f g ≡ false → precedes (h f) (h g) ≡ false
-  same_order f g e = as_placed f g (lex_same f.span.file g.span.file _ _ (lex_same f.span.line g.span.line _ _ (lex_same f.span.col g.span.col _ _ (λ k. refl))) e)
-
-  turned_order : (f g : Fault) → fault_precedes g f ≡ true → precedes (h f) (h g) ≡ false
-  turned_order f g e = as_placed f g (lex_turned g.span.file f.span.file _ _ (lex_turned g.span.line f.span.line _ _ (lex_turned g.span.col f.span.col _ _ (λ k. refl))) e)
-
-  one_more : (f g : Fault) (more : List Refusal) (b : Bool) → fault_precedes g f ≡ b → IsFirst more (Some (h g)) → IsFirst (h f ∷ more) (Some (h (if b then g else f)))
-  one_more f g more true e i = (inr i.0, (turned_order f g e, i.1))
-  one_more f g more false e i = (inl refl, (none_itself (h f), none_later (h f) (h g) more (same_order g f e) i.1))
-
-  pub first_standing : (fs : List Fault) → IsFirst (map h fs) (option_map h (least fs))
-  unfolding least earlier_fault
-  first_standing [] = refl
-  first_standing (f ∷ more) = go (least more) (first_standing more)
-    where
-      go : (o : Option Fault) → IsFirst (map h more) (option_map h o) → IsFirst (h f ∷ map h more) (option_map h (earlier_fault (Some f) o))
-      go None i = rw i (inl refl, (none_itself (h f), tt))
-      go (Some g) i = one_more f g (map h more) (fault_precedes g f) refl i
-
-pub wrong_stands : Stands Wrong
-wrong_stands = record { limit_is = λ f. refl; place_is = λ f. refl; rank_is = λ f. refl }
-
-const_limit : (x : Cause) (s : Span) → limit (const_refusal (const_error_of x s)) ≡ 0
-const_limit c.Unknown s = refl
-const_limit c.NotConstant s = refl
-const_limit c.DivideByZero s = refl
-const_limit c.TooWide s = refl
-const_limit c.RangeForm s = refl
-const_limit c.SystemFunction s = refl
-const_limit c.DivideOrPower s = refl
-const_limit c.IndexedBase s = refl
-
-const_place : (x : Cause) (s : Span) → place (const_refusal (const_error_of x s)) ≡ s
-const_place c.Unknown s = refl
-const_place c.NotConstant s = refl
-const_place c.DivideByZero s = refl
-const_place c.TooWide s = refl
-const_place c.RangeForm s = refl
-const_place c.SystemFunction s = refl
-const_place c.DivideOrPower s = refl
-const_place c.IndexedBase s = refl
-
-const_rank : (x : Cause) (s : Span) → rank (const_refusal (const_error_of x s)) ≡ 0
-const_rank c.Unknown s = refl
-const_rank c.NotConstant s = refl
-const_rank c.DivideByZero s = refl
-const_rank c.TooWide s = refl
-const_rank c.RangeForm s = refl
-const_rank c.SystemFunction s = refl
-const_rank c.DivideOrPower s = refl
-const_rank c.IndexedBase s = refl
-
-pub const_stands : Stands (λ f. const_refusal (const_error f))
-const_stands = record { limit_is = λ f. const_limit f.cause f.span; place_is = λ f. const_place f.cause f.span; rank_is = λ f. const_rank f.cause f.span }
+pub wrong_first : (fs : List Fault) → IsFirst (map Wrong fs) (option_map Wrong (least fs))
+unfolding least
+wrong_first [] = refl
+wrong_first (f ∷ more) = subst (IsFirst (map Wrong (f ∷ more))) (same_order f (least more)) (first_both (Some (Wrong f)) (option_map Wrong (least more)) (Wrong f ∷ []) (map Wrong more) (first_alone (Wrong f)) (wrong_first more))
 
 -- the first fault, as a refusal
 pub first_wrong : (fs : List Fault) (o : Option Fault) → o ≡ least fs → IsFirst (map Wrong fs) (option_map Wrong o)
-first_wrong fs o is = rw is (first_standing Wrong wrong_stands fs)
+first_wrong fs o is = rw is (wrong_first fs)

@@ -15,13 +15,13 @@ use Rattle.vlog_meaning.specs.declared.shapes.Shape.{Shape}
 use Rattle.vlog_meaning.specs.Scopes.{Names}
 use Rattle.vlog_meaning.specs.Senses.{is_empty}
 use Rattle.vlog_effects.specs.Laws.{item_steps}
-use Rattle.vlog_effects.specs.Steps.{Steps, Done, Assign, Choose, Case, Refuse, Otherwise, Arm, InNames, Item, Selection, Flaw, followed, in_turn, refused, always, default_of, labelled, labels_of, greatest, front, last_body, names_all, arms_of, chosen_arms, selection_of, case_steps, step_of, item_of, steps_of}
+use Rattle.vlog_effects.specs.Steps.{Steps, Done, Assign, Choose, Case, Refuse, Otherwise, Arm, InNames, Item, Selection, followed, in_turn, always, default_of, labelled, labels_of, greatest, front, last_body, names_all, arms_of, chosen_arms, selection_of, case_steps, step_of, item_of, steps_of}
 use Rattle.elab_proc.specs.declared.refusal.Refusal.{Refusal}
 use Rattle.elab_proc.specs.declared.refusal.Refusal.TheVariants.{Wrong}
 use Rattle.elab_proc.specs.Order.{IsFirst}
 use Rattle.elab_proc.specs.Refusals.{assign_refusals, own_faults, case_faults, common_size, flaw_refusal, labels_in, step_refusals, arm_refusals, unless}
 use Rattle.elab_proc.specs.Turns.{Splits}
-use Rattle.elab_proc.proofs.Firsts.{first_standing, wrong_stands}
+use Rattle.elab_proc.proofs.Firsts.{wrong_first}
 use Rattle.elab_proc.proofs.Lists.{flat_take}
 use Rattle.vlog_meaning.proofs.Firsts.{least_none}
 
@@ -54,10 +54,6 @@ module _ (comb : Bool) (w : List Bool) where
   pub block_refusals : (body : List Stmt) (names : Names) → step_refusals comb w (in_turn (map steps_of body) names) ≡ flat_map (λ (s : Stmt). step_refusals comb w (steps_of s names)) body
   block_refusals [] names = refl
   block_refusals (s ∷ more) names = followed_refusals (steps_of s names) (in_turn (map steps_of more) names) ∙ ap (λ (l : List Refusal). step_refusals comb w (steps_of s names) ++ l) (block_refusals more names)
-
-  pub refused_refusals : (xs : List Flaw) → step_refusals comb w (refused xs) ≡ map flaw_refusal xs
-  refused_refusals [] = refl
-  refused_refusals (x ∷ more) = ap (λ (l : List Refusal). flaw_refusal x ∷ l) (refused_refusals more)
 
   -- Cases.
 
@@ -157,7 +153,7 @@ module _ (comb : Bool) (w : List Bool) where
   unless_some : (fs : List Fault) (those : List Refusal) (f : Fault) → Some f ≡ least fs → IsFirst (unless fs those) (Some (Wrong f))
   unfolding least
   unless_some [] those f is = cc
-  unless_some (g ∷ more) those f is = go (least (g ∷ more)) is (first_standing Wrong wrong_stands (g ∷ more)) where
+  unless_some (g ∷ more) those f is = go (least (g ∷ more)) is (wrong_first (g ∷ more)) where
     go : (o : Option Fault) → Some f ≡ o → IsFirst (map Wrong (g ∷ more)) (option_map Wrong o) → IsFirst (map Wrong (g ∷ more)) (Some (Wrong f))
     go None e i = cc
     go (Some h) e i = let same : f ≡ h = cc in subst (λ (x : Fault). IsFirst (map Wrong (g ∷ more)) (Some (Wrong x))) (sym same) i

@@ -1,5 +1,5 @@
 -- The turns of a loop, one at a time.
-use Rattle.std.proofs.Common.{◌≡◌, inl, zero, suc, ℕ, ◌<◌, ◌≤◌, ◌+◌, ◌-◌, ◌%◌, ◌^◌, Bool, true, false, nat_eq, nat_le, nat_lt, List, [], ◌∷◌, ◌++◌, map, refl, sym, ap, ◌∙◌, subst, arith}
+use Rattle.std.proofs.Common.{◌≡◌, zero, suc, ℕ, ◌<◌, ◌≤◌, ◌+◌, ◌-◌, ◌%◌, ◌^◌, Bool, true, false, nat_eq, nat_le, nat_lt, List, [], ◌∷◌, ◌++◌, refl, sym, ap, ◌∙◌, subst, arith}
 use Rattle.std.specs.Prelude.{Option, None, Some, IsSome, not, if◌then◌else◌}
 use Rattle.std.specs.Option.{option_map}
 use Rattle.std.specs.Str.{bytes_eq}
@@ -22,54 +22,52 @@ use Rattle.vlog_meaning.specs.Answers.{least, const_error}
 use Rattle.vlog_meaning.specs.Operators.{IsSized}
 use Rattle.vlog_meaning.specs.Scopes.{Names, nothing, with_name, decl_shape}
 use Rattle.vlog_meaning.specs.Senses.{sense, assigned, constant_faults_at}
-use Rattle.vlog_meaning.proofs.Firsts.{least_none}
 use Rattle.vlog_meaning.proofs.Redeclared.{last_counts, restores}
-use Rattle.vlog_effects.specs.Expressions.{where_faultless, constant_of, constant_faults}
-use Rattle.vlog_effects.specs.Steps.{Steps, Done, Refuse, Turns, Flaw, InNames, Loop, followed, refused, tested_word, word_of, with_word, turn_names, flaws_of, tested, stepped, turns, max_turns, looped, loop_steps, name_alone, step_flaws}
+use Rattle.vlog_effects.specs.Expressions.{told, where_faultless, constant_of, constant_faults}
+use Rattle.vlog_effects.specs.Steps.{Steps, Done, Refuse, Turns, Const, Flaw, InNames, Loop, followed, refused, tested_word, word_of, with_word, turn_names, flaws_of, tested, stepped, turns, max_turns, looped, loop_steps, name_alone, step_flaws}
 use Rattle.vlog_effects.proofs.Folds.{out-name}
 use Rattle.elab_proc.specs.declared.refusal.Refusal.{Refusal}
 use Rattle.elab_proc.specs.declared.refusal.Refusal.TheVariants.{LoopTurns}
 use Rattle.elab_proc.specs.Order.{IsFirst}
-use Rattle.elab_proc.specs.Refusals.{const_refusal, flaw_refusal, step_refusals, AreSized}
+use Rattle.elab_proc.specs.Refusals.{const_refusal, step_refusals, AreSized}
 use Rattle.elab_proc.specs.Turns.{next_steps, turn_steps, next_value, Stops, AlikeBut, flaw_among}
-use Rattle.elab_proc.proofs.Firsts.{first_standing, const_stands}
-use Rattle.elab_proc.proofs.StepLemmas.{followed_refusals, refused_refusals}
+use Rattle.elab_proc.proofs.Firsts.{first_alone}
+use Rattle.elab_proc.proofs.StepLemmas.{followed_refusals}
 
 -- Constants.
-
-no_faults : (fs : List Fault) (o : Option Fault) → o ≡ least fs → None ≡ option_map const_error o → fs ≡ []
-no_faults fs None is e = least_none fs (sym is)
-no_faults fs (Some f) is e = cc
 
 abbrev pub faults_at : Names → ℕ → Expr → List Fault
 faults_at names width x = constant_faults_at (sense names x) (assigned (sense names x) width)
 
 pub constant_stands : (names : Names) (width : ℕ) (x : Expr) → None ≡ option_map const_error (least (faults_at names width x)) → constant_of names width x ≡ Some ((sense names x).value nothing (assigned (sense names x) width))
-constant_stands names width x e = ap (λ (fs : List Fault). where_faultless (map const_error fs) ((sense names x).value nothing (assigned (sense names x) width))) (no_faults (faults_at names width x) (least (faults_at names width x)) refl e)
+constant_stands names width x e = go (least (faults_at names width x)) e where
+  v : ℕ
+  v = (sense names x).value nothing (assigned (sense names x) width)
 
-const_none : (fs : List Fault) (v : ℕ) (e : ConstError) → Some e ≡ option_map const_error (least fs) → where_faultless (map const_error fs) v ≡ None
-unfolding least
-const_none [] v e is = cc
-const_none (f ∷ more) v e is = refl
+  go : (o : Option Fault) → None ≡ option_map const_error o → where_faultless (told o) v ≡ Some v
+  go None e = refl
+  go (Some f) e = cc
+
+const_none : (o : Option Fault) (v : ℕ) (e : ConstError) → Some e ≡ option_map const_error o → where_faultless (told o) v ≡ None
+const_none None v e is = cc
+const_none (Some f) v e is = refl
 
 pub constant_fails : (names : Names) (width : ℕ) (x : Expr) (e : ConstError) → Some e ≡ option_map const_error (least (faults_at names width x)) → constant_of names width x ≡ None
-constant_fails names width x e is = const_none (faults_at names width x) ((sense names x).value nothing (assigned (sense names x) width)) e is
+constant_fails names width x e is = const_none (least (faults_at names width x)) ((sense names x).value nothing (assigned (sense names x) width)) e is
+
+-- the flaw of a constant that has no value
+pub flaw_told : (o : Option Fault) (e : ConstError) → Some e ≡ option_map const_error o → refused (flaws_of (told o)) ≡ Refuse (Const e) Done
+flaw_told None e is = cc
+flaw_told (Some f) e is = let same : e ≡ const_error f = cc in ap (λ (x : ConstError). Refuse (Const x) Done) (sym same)
 
 module _ (comb : Bool) (w : List Bool) where
-  flaws_are : (fs : List Fault) → map flaw_refusal (flaws_of (map const_error fs)) ≡ map (λ (f : Fault). const_refusal (const_error f)) fs
-  flaws_are [] = refl
-  flaws_are (f ∷ more) = ap (λ (l : List Refusal). const_refusal (const_error f) ∷ l) (flaws_are more)
-
-  flaws_first : (fs : List Fault) (e : ConstError) → Some e ≡ option_map const_error (least fs) → IsFirst (step_refusals comb w (refused (flaws_of (map const_error fs)))) (Some (const_refusal e))
-  flaws_first fs e is = rw (refused_refusals comb w (flaws_of (map const_error fs)), flaws_are fs) (go (least fs) is (first_standing (λ (f : Fault). const_refusal (const_error f)) const_stands fs)) where
-    go : (o : Option Fault) → Some e ≡ option_map const_error o → IsFirst (map (λ (f : Fault). const_refusal (const_error f)) fs) (option_map (λ (f : Fault). const_refusal (const_error f)) o) → IsFirst (map (λ (f : Fault). const_refusal (const_error f)) fs) (Some (const_refusal e))
-    go None e2 i = cc
-    go (Some f) e2 i = let same : e ≡ const_error f = cc in rw same i
+  flaws_first : (o : Option Fault) (e : ConstError) → Some e ≡ option_map const_error o → IsFirst (step_refusals comb w (refused (flaws_of (told o)))) (Some (const_refusal e))
+  flaws_first o e is = subst (λ (s : Steps). IsFirst (step_refusals comb w s) (Some (const_refusal e))) (sym (flaw_told o e is)) (first_alone (const_refusal e))
 
   -- steps that a constant begins, where it has no value
   pub failing : (names : Names) (width : ℕ) (x : Expr) (e : ConstError) (k : Option ℕ → Steps) → k None ≡ refused (flaws_of (constant_faults names width x)) → Some e ≡ option_map const_error (least (faults_at names width x)) → IsFirst (step_refusals comb w (k (constant_of names width x))) (Some (const_refusal e))
   failing names width x e k is fails =
-      subst (λ (s : Steps). IsFirst (step_refusals comb w s) (Some (const_refusal e))) (sym (ap k (constant_fails names width x e fails) ∙ is)) (flaws_first (faults_at names width x) e fails)
+      subst (λ (s : Steps). IsFirst (step_refusals comb w s) (Some (const_refusal e))) (sym (ap k (constant_fails names width x e fails) ∙ is)) (flaws_first (least (faults_at names width x)) e fails)
 
 -- Tests.
 
@@ -102,7 +100,7 @@ next_goes loop here later o is none stands =
 
 -- what comes after the last turn
 pub limit_first : (comb : Bool) (w : List Bool) → IsFirst (step_refusals comb w (Refuse Turns Done)) (Some LoopTurns)
-limit_first comb w = (inl refl, (refl, tt))
+limit_first comb w = first_alone LoopTurns
 
 -- Words.
 

@@ -1,3 +1,5 @@
+pub mod Features
+pub mod Laws
 pub mod Order
 pub mod Refusals
 pub mod Sizes

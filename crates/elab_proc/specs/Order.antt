@@ -1,8 +1,10 @@
--- Which of several refusals is answered: one that stands first.
+-- Which of several refusals is answered: the one that stands first. Of two that differ one comes before the other, so it is one.
 use Rattle.std.specs.Prelude.{◌≡◌, ◌⊎◌, ℕ, Bool, false, ◌==◌, nat_lt, List, [], ◌∷◌, Option, None, Some, if◌then◌else◌}
 use Rattle.mcy_base.specs.declared.span.Span.{Span}
+use Rattle.vlog_meaning.specs.Answers.{rank as cause_rank}
 use Rattle.elab_proc.specs.declared.refusal.Refusal.{Refusal}
 use Rattle.elab_proc.specs.declared.refusal.Refusal.TheVariants as r
+use Rattle.elab_proc.specs.Features.{feature_rank}
 
 -- a limit has no place, and comes after all that has one
 abbrev pub limit : Refusal → ℕ
@@ -24,13 +26,23 @@ rank (r.TwoWriters span number) = 2
 rank (r.Latch span number) = 3
 rank r.LoopTurns = 4
 
--- f comes before g: a place before a limit, then by file, line, column and kind
+-- the order of those of one kind at one place: by cause, feature or signal
+abbrev pub detail : Refusal → ℕ
+detail (r.Wrong f) = cause_rank f.cause
+detail (r.Unsupported span feature) = feature_rank feature
+detail (r.TwoWriters span number) = number
+detail (r.Latch span number) = number
+detail r.LoopTurns = 0
+
+-- f comes before g: a place before a limit, then by file, line, column, kind and what is told of it
 abbrev pub precedes : Refusal → Refusal → Bool
 precedes f g =
     if limit f == limit g
     then (if (place f).file == (place g).file
     then (if (place f).line == (place g).line
-    then (if (place f).col == (place g).col then nat_lt (rank f) (rank g) else nat_lt (place f).col (place g).col)
+    then (if (place f).col == (place g).col
+    then (if rank f == rank g then nat_lt (detail f) (detail g) else nat_lt (rank f) (rank g))
+    else nat_lt (place f).col (place g).col)
     else nat_lt (place f).line (place g).line)
     else nat_lt (place f).file (place g).file)
     else nat_lt (limit f) (limit g)

@@ -1,8 +1,9 @@
 //! Why a process is refused, and which of several reasons is answered.
 ghost use Rattle.std.specs.Prelude.{◌≡◌, ◌++◌, List};
 ghost use Rattle.elab_proc.specs.declared.refusal.Refusal.{Refusal as Reason};
-ghost use Rattle.elab_proc.specs.Order.{limit, place, rank, precedes, earlier, IsFirst};
+ghost use Rattle.elab_proc.specs.Order.{limit, place, rank, detail, precedes, earlier, IsFirst};
 
+use crate::detail::{cause_rank, feature_rank};
 use mcy_base::Span;
 use vlog_meaning::Fault;
 use vlog_syntax::Feature;
@@ -66,7 +67,19 @@ impl Refusal {
         }
     }
 
-    /// Whether it comes before another: a place before a limit, then by file, line, column and kind.
+    /// The place in the order of those of one kind at one place: by cause, feature or signal.
+    fn detail(self) -> u32
+        ensures { result ≡ detail self }
+    {
+        match self {
+            Refusal::Wrong(fault) => cause_rank(fault.cause),
+            Refusal::Unsupported(_, feature) => feature_rank(feature),
+            Refusal::TwoWriters(_, number) | Refusal::Latch(_, number) => number,
+            Refusal::LoopTurns => 0,
+        }
+    }
+
+    /// Whether it comes before another: a place before a limit, then by file, line, column, kind and what is told of it.
     fn precedes(self, other: Refusal) -> bool
         ensures { result ≡ precedes self other }
     {
@@ -80,8 +93,10 @@ impl Refusal {
             this.line < that.line
         } else if this.col != that.col {
             this.col < that.col
-        } else {
+        } else if self.rank() != other.rank() {
             self.rank() < other.rank()
+        } else {
+            self.detail() < other.detail()
         }
     }
 }

@@ -21,7 +21,7 @@ use Rattle.vlog_meaning.specs.Scopes.{Names, nothing, with_name}
 use Rattle.vlog_meaning.specs.Senses.{sense, assigned}
 use Rattle.std.proofs.Math.Nat.{mod-lt}
 use Rattle.vlog_meaning.proofs.Powers.{power_le}
-use Rattle.vlog_effects.specs.Expressions.{constant_of, constant_faults}
+use Rattle.vlog_effects.specs.Expressions.{told, constant_of, constant_faults}
 use Rattle.vlog_effects.specs.Steps.{Steps, Done, Refuse, Turns, Flaw, InNames, Loop, followed, refused, flaws_of, tested, stepped, step_flaws, turns, max_turns, all_turns, looped, loop_steps, name_alone, steps_of}
 use Rattle.vlog_effects.proofs.Variants.{steps-loop}
 use Rattle.elab_expr.specs.Building.{IsSignal, Building}
@@ -32,7 +32,7 @@ use Rattle.elab_proc.specs.declared.refusal.Refusal.{Refusal}
 use Rattle.elab_proc.specs.Order.{IsFirst}
 use Rattle.elab_proc.specs.Refusals.{step_refusals}
 use Rattle.elab_proc.specs.Turns.{turn_steps, next_steps, next_value, AlikeBut, Stops}
-use Rattle.elab_proc.proofs.TurnLemmas.{faults_at, constant_stands, constant_fails, loop_by_name, turns_first, turns_none, turns_next, turn_by_turn, test_ends, turn_goes, sized_with, alike_after}
+use Rattle.elab_proc.proofs.TurnLemmas.{faults_at, flaw_told, constant_stands, constant_fails, loop_by_name, turns_first, turns_none, turns_next, turn_by_turn, test_ends, turn_goes, sized_with, alike_after}
 use Rattle.proc_muxes.specs.declared.change.Change.{Change}
 use Rattle.proc_muxes.specs.declared.statement.Turn.{Turn}
 use Rattle.proc_muxes.specs.Builds.{Work}
@@ -47,15 +47,13 @@ use Rattle.proc_muxes.proofs.Walking.{clear-next, cells-followed, ready-first, r
 
 -- Where nothing is refused, constants have values.
 
-unclear : (fs : List Fault) (e : ConstError) → Some e ≡ option_map const_error (least fs) → IsClear (refused (flaws_of (map const_error fs))) → ⊥
-unfolding least
-unclear [] e is clear = cc
-unclear (f ∷ more) e is clear = clear
+unclear : (o : Option Fault) (e : ConstError) → Some e ≡ option_map const_error o → IsClear (refused (flaws_of (told o))) → ⊥
+unclear o e is clear = subst IsClear (flaw_told o e is) clear
 
 -- steps that a constant begins, where it has no value
 pub fails-not : (names : Names) (width : ℕ) (x : Expr) (e : ConstError) (k : Option ℕ → Steps) → k None ≡ refused (flaws_of (constant_faults names width x)) → Some e ≡ option_map const_error (least (faults_at names width x)) → IsClear (k (constant_of names width x)) → ⊥
 fails-not names width x e k none is clear =
-    unclear (faults_at names width x) e is (subst IsClear (ap k (constant_fails names width x e is) ∙ none) clear)
+    unclear (least (faults_at names width x)) e is (subst IsClear (ap k (constant_fails names width x e is) ∙ none) clear)
 
 stops-at : (r : Refusal) (xs : List Flaw) (o : Option ℕ) (flaws : List Flaw) (later : ℕ → Steps) → IsFirst (step_refusals false [] (stepped xs o flaws (λ v. Done))) (Some r) → IsClear (stepped xs o flaws later) → ⊥
 stops-at r (x ∷ more) o flaws later s clear = clear

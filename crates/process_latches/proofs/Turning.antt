@@ -15,14 +15,14 @@ use Rattle.vlog_meaning.specs.declared.scope.Decl.TheVariants.{Signal, Constant}
 use Rattle.vlog_meaning.specs.Answers.{least, const_error}
 use Rattle.vlog_meaning.specs.Scopes.{Names, nothing, with_name}
 use Rattle.vlog_meaning.specs.Senses.{no_bits, sense, assigned}
-use Rattle.vlog_effects.specs.Expressions.{where_faultless, constant_of, constant_faults}
+use Rattle.vlog_effects.specs.Expressions.{told, where_faultless, constant_of, constant_faults}
 use Rattle.vlog_effects.specs.Latches.{covered, early}
 use Rattle.vlog_effects.specs.Steps.{Steps, Done, Refuse, Turns, Const, Flaw, InNames, Loop, followed, refused, flaws_of, name_flaw, step_flaws, name_alone, tested, stepped, turns, max_turns}
 use Rattle.elab_proc.specs.declared.refusal.Refusal.{Refusal}
 use Rattle.elab_proc.specs.Order.{IsFirst}
 use Rattle.elab_proc.specs.Refusals.{step_refusals}
 use Rattle.elab_proc.specs.Turns.{next_steps, turn_steps, next_value, Stops}
-use Rattle.elab_proc.proofs.TurnLemmas.{faults_at, constant_fails, constant_stands, test_ends, test_goes, turn_by_turn, turns_next, turns_none}
+use Rattle.elab_proc.proofs.TurnLemmas.{faults_at, flaw_told, constant_fails, constant_stands, test_ends, test_goes, turn_by_turn, turns_next, turns_none}
 use Rattle.process_latches.specs.declared.marks.Marks.{Marks}
 use Rattle.process_latches.specs.Marking.{Added, Marked}
 use Rattle.process_latches.specs.Sound.{sound, has_stop, is_stop}
@@ -56,14 +56,12 @@ refused_writes (x ∷ more) = refused_writes more
 pub refused_halts : (x : Flaw) (more : List Flaw) → is_stop x ≡ true → Halts (refused (x ∷ more))
 refused_halts x more e = record { covers = refused_covers more; reads_none = refused_reads more; writes_none = refused_writes more; stops = ap (λ (b : Bool). b || has_stop (sound (refused more))) e }
 
-faults_halt : (fs : List Fault) (e : ConstError) → Some e ≡ option_map const_error (least fs) → Halts (refused (flaws_of (map const_error fs)))
-unfolding least
-faults_halt [] e is = cc
-faults_halt (f ∷ more) e is = refused_halts (Const (const_error f)) (flaws_of (map const_error more)) refl
+faults_halt : (o : Option Fault) (e : ConstError) → Some e ≡ option_map const_error o → Halts (refused (flaws_of (told o)))
+faults_halt o e is = subst Halts (sym (flaw_told o e is)) (refused_halts (Const e) [] refl)
 
 -- steps that a constant begins, where it has no value
 pub const_halts : (names : Names) (width : ℕ) (x : Expr) (e : ConstError) (k : Option ℕ → Steps) → k None ≡ refused (flaws_of (constant_faults names width x)) → Some e ≡ option_map const_error (least (faults_at names width x)) → Halts (k (constant_of names width x))
-const_halts names width x e k is fails = subst Halts (sym (ap k (constant_fails names width x e fails) ∙ is)) (faults_halt (faults_at names width x) e fails)
+const_halts names width x e k is fails = subst Halts (sym (ap k (constant_fails names width x e fails) ∙ is)) (faults_halt (least (faults_at names width x)) e fails)
 
 name_stops : (d : Option Decl) (place : Span) → is_stop (name_flaw d place) ≡ true
 name_stops (Some (Signal width low is_signed number)) place = refl

@@ -4,6 +4,7 @@ use Rattle.vlog_syntax.specs.declared.left_side.LeftSide.{out-LeftSide}
 use Rattle.vlog_meaning.specs.Scopes.{Names}
 use Rattle.vlog_meaning.proofs.Steps.{sense_name, sense_number, sense_bit_select, sense_binary}
 use Rattle.vlog_meaning.specs.Senses.{own}
+use Rattle.vlog_meaning.specs.Answers.{least}
 use Rattle.vlog_effects.specs.Expressions.{value, width_of, is_signed_of, constant_of, constant_faults}
 use Rattle.vlog_effects.specs.LeftSides.{select_base}
 use Rattle.vlog_effects.specs.Steps.{Done, Loop, followed, turn_names, name_alone, step_flaws, turns, loop_steps, steps_of}
@@ -23,33 +24,43 @@ same-name : (v : ℕ) → step_flaws loop (here v) (name_alone (out-LeftSide ste
 same-name v = ap (λ x. step_flaws loop (here v) (name_alone x)) (out-name (named k 1))
 
 begun : loop_steps start condition step (steps_of turn) names (name_alone (out-LeftSide start.left)) ≡ turns 4096 loop (steps_of turn) names 0
+unfolding least
 begun = ap (λ x. loop_steps start condition step (steps_of turn) names (name_alone x)) (out-name (named k 1)) ∙ simp (sense_number names, constant_of, constant_faults)
 
 holds-0 : constant_of (here 0) 1 condition ≡ Some 1
+unfolding least
 holds-0 = simp (sense_binary (here 0), sense_name (here 0) (named k 1), sense_number (here 0), constant_of, constant_faults)
 
 holds-1 : constant_of (here 1) 1 condition ≡ Some 1
+unfolding least
 holds-1 = simp (sense_binary (here 1), sense_name (here 1) (named k 1), sense_number (here 1), constant_of, constant_faults)
 
 holds-2 : constant_of (here 2) 1 condition ≡ Some 1
+unfolding least
 holds-2 = simp (sense_binary (here 2), sense_name (here 2) (named k 1), sense_number (here 2), constant_of, constant_faults)
 
 holds-3 : constant_of (here 3) 1 condition ≡ Some 1
+unfolding least
 holds-3 = simp (sense_binary (here 3), sense_name (here 3) (named k 1), sense_number (here 3), constant_of, constant_faults)
 
 holds-4 : constant_of (here 4) 1 condition ≡ Some 0
+unfolding least
 holds-4 = simp (sense_binary (here 4), sense_name (here 4) (named k 1), sense_number (here 4), constant_of, constant_faults)
 
 next-0 : constant_of (here 0) 32 step.value ≡ Some 1
+unfolding least
 next-0 = simp (sense_binary (here 0), sense_name (here 0) (named k 1), sense_number (here 0), constant_of, constant_faults)
 
 next-1 : constant_of (here 1) 32 step.value ≡ Some 2
+unfolding least
 next-1 = simp (sense_binary (here 1), sense_name (here 1) (named k 1), sense_number (here 1), constant_of, constant_faults)
 
 next-2 : constant_of (here 2) 32 step.value ≡ Some 3
+unfolding least
 next-2 = simp (sense_binary (here 2), sense_name (here 2) (named k 1), sense_number (here 2), constant_of, constant_faults)
 
 next-3 : constant_of (here 3) 32 step.value ≡ Some 4
+unfolding least
 next-3 = simp (sense_binary (here 3), sense_name (here 3) (named k 1), sense_number (here 3), constant_of, constant_faults)
 
 from-4 : turns 4092 loop (steps_of turn) names 4 ≡ Done

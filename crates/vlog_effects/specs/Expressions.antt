@@ -1,8 +1,9 @@
 -- What statements take from expressions (IEEE 1364-2005, 5): the words of `Senses` at one width and sign, and bits.
-use Rattle.std.specs.Prelude.{ℕ, zero, suc, ◌+◌, ◌*◌, ◌/◌, ◌%◌, ℤ, Bool, true, false, List, [], ◌∷◌, map, Option, None, Some, ◌==◌}
+use Rattle.std.specs.Prelude.{ℕ, zero, suc, ◌+◌, ◌*◌, ◌/◌, ◌%◌, ℤ, Bool, true, false, List, [], ◌∷◌, Option, None, Some, ◌==◌}
 use Rattle.vlog_syntax.specs.declared.expr.Expr.{Expr}
 use Rattle.vlog_meaning.specs.declared.fault.ConstError.{ConstError}
-use Rattle.vlog_meaning.specs.Answers.{const_error}
+use Rattle.vlog_meaning.specs.declared.fault.Fault.{Fault}
+use Rattle.vlog_meaning.specs.Answers.{const_error, least}
 use Rattle.vlog_meaning.specs.Scopes.{Names, Store, nothing}
 use Rattle.vlog_meaning.specs.Senses.{sense, assigned, constant_integer, constant_faults_at, is_empty}
 
@@ -28,9 +29,14 @@ reads names e k i = (sense names e).reads k i
 abbrev pub bound_of : Names → Expr → ℤ
 bound_of names e = constant_integer (sense names e)
 
--- why an expression is no constant where it is assigned to so many bits
+-- a fault as `constant` names it, if there is one
+abbrev pub told : Option Fault → List ConstError
+told None = []
+told (Some f) = const_error f ∷ []
+
+-- why an expression is no constant where it is assigned to so many bits: its first fault alone
 abbrev pub constant_faults : Names → ℕ → Expr → List ConstError
-constant_faults names width e = map const_error (constant_faults_at (sense names e) (assigned (sense names e) width))
+constant_faults names width e = told (least (constant_faults_at (sense names e) (assigned (sense names e) width)))
 
 abbrev pub where_faultless : List ConstError → ℕ → Option ℕ
 where_faultless [] v = Some v
