@@ -11,3 +11,4 @@ pub mod Widths
 pub mod Refusals
 pub mod Forms
 pub mod Listing
+pub mod Laying

@@ -3,6 +3,7 @@ pub mod Sides
 pub mod Writers
 pub mod Assignments
 pub mod Built
+pub mod Laid
 pub mod Parts
 pub mod Seen
 pub mod Forms

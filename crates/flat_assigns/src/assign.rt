@@ -13,6 +13,7 @@ ghost use Rattle.flat_assigns.specs.declared.refusal.Refusal.{Refusal as Reason}
 ghost use Rattle.flat_assigns.specs.declared.refusal.AssignError.TheVariants.{Refused, TooMany};
 ghost use Rattle.flat_assigns.specs.Assignments.{IsRefusal, assignment};
 ghost use Rattle.flat_assigns.specs.Built.{IsBuilt, IsLimit, IsReady};
+ghost use Rattle.flat_assigns.specs.Laid.{lay_assignment, lay_value};
 ghost use Rattle.flat_assigns.specs.Parts.{AllInside, slices_of};
 ghost use Rattle.flat_assigns.specs.Sides.{all_places, left_width};
 ghost use Rattle.flat_assigns.specs.Values.{right_cells, right_refusals, right_shape, right_value};
@@ -72,6 +73,7 @@ fn build_parts(
     requires enough { length (all_places (slices_of slices.now)) ≤ width }
     requires accepted { right_refusals (names_of scope.now) right.now width ≡ [] }
     ensures built { OnOk result (IsBuilt builder.old builder.new (Assign (all_places (slices_of slices.now)) (right_value (names_of scope.now) right.now width)) (right_cells (names_of scope.now) right.now width)) }
+    ensures laid { OnOk result (builder.new ≡ lay_value (all_places (slices_of slices.now)) width (names_of scope.now) right.now builder.old) }
     ensures limit { IfErr result (λ e. IsLimit (length builder.old.cells + length (right_cells (names_of scope.now) right.now width)) e) }
 {
     let context = right_shape(right, scope, width);
@@ -102,6 +104,7 @@ pub fn build_assign(
     requires lefts { HasSignals (names_of left_scope.now) builder.old }
     requires rights { HasSignals (names_of right_scope.now) builder.old }
     ensures built { OnOk result (IsBuilt builder.old builder.new (assignment (names_of left_scope.now) left.now (names_of right_scope.now) right.now) (right_cells (names_of right_scope.now) right.now (left_width (names_of left_scope.now) left.now))) }
+    ensures laid { OnOk result (builder.new ≡ lay_assignment (names_of left_scope.now) left.now (names_of right_scope.now) right.now builder.old) }
     ensures accepted { OnOk result (IsRefusal builder.old inputs.now (names_of left_scope.now) left.now (names_of right_scope.now) right.now None) }
     ensures refused { (reason : Reason) → result ≡ Err (Refused reason) → IsRefusal builder.old inputs.now (names_of left_scope.now) left.now (names_of right_scope.now) right.now (Some reason) × (builder.new ≡ builder.old) }
     ensures limit { (kind : Limit) → result ≡ Err (TooMany kind) → IsRefusal builder.old inputs.now (names_of left_scope.now) left.now (names_of right_scope.now) right.now None × IsLimit (length builder.old.cells + length (right_cells (names_of right_scope.now) right.now (left_width (names_of left_scope.now) left.now))) (TooMany kind) }

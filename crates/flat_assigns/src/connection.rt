@@ -10,6 +10,7 @@ ghost use Rattle.elab_expr.specs.Refusals.{IsShort};
 ghost use Rattle.flat_runs.specs.Meanings.{Assign};
 ghost use Rattle.flat_runs.specs.Parts.{whole};
 ghost use Rattle.flat_assigns.specs.Built.{IsBuilt, IsReady};
+ghost use Rattle.flat_assigns.specs.Laid.{lay_input, lay_open};
 ghost use Rattle.flat_assigns.specs.Values.{right_cells, right_refusals, right_shape, right_value};
 
 use crate::joining::join_port;
@@ -68,6 +69,7 @@ pub fn build_input(
     requires some { 1 ≤ length (signal builder.old port) }
     requires narrow { length (signal builder.old port) ≤ 128 }
     ensures built { OnOk result (IsBuilt builder.old builder.new (Assign (whole builder.old port) (right_value (names_of scope.now) right.now (length (signal builder.old port)))) (right_cells (names_of scope.now) right.now (length (signal builder.old port)))) }
+    ensures laid { OnOk result (builder.new ≡ lay_input (names_of scope.now) right.now port builder.old) }
     ensures refused { (f : Wrong) → least (right_refusals (names_of scope.now) right.now (length (signal builder.old port))) ≡ Some f → (result ≡ Err (elab_error f)) × (builder.new ≡ builder.old) }
     ensures short { right_refusals (names_of scope.now) right.now (length (signal builder.old port)) ≡ [] → IfErr result (λ e. IsShort (length builder.old.cells + length (right_cells (names_of scope.now) right.now (length (signal builder.old port)))) e) }
 {
@@ -85,7 +87,8 @@ pub fn tie_input(builder: &mut Builder, port: u32) -> Result<(), AllocError>
     requires ready { IsReady builder.old }
     requires port { port < length builder.old.signals }
     requires narrow { length (signal builder.old port) ≤ 128 }
-    ensures { OnOk result (IsBuilt builder.old builder.new (Assign (whole builder.old port) (λ store. 0)) []) }
+    ensures built { OnOk result (IsBuilt builder.old builder.new (Assign (whole builder.old port) (λ store. 0)) []) }
+    ensures laid { OnOk result (builder.new ≡ lay_open port builder.old) }
 {
     let width = builder.bits(port).len() as u8;
     let zeros = constant_bits(builder.alloc(), 0, width)?;

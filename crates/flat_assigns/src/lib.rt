@@ -13,6 +13,6 @@ mod written;
 
 pub use assign::build_assign;
 pub use connection::{build_input, tie_input};
-pub use laws::forms_have_parts;
+pub use laws::{forms_have_parts, outputs_are_laid};
 pub use refusal::{AssignError, Refusal};
 pub use written::{WrittenBit, written_bits};

@@ -8,6 +8,7 @@ use Rattle.flat_assigns.specs.Parts.{slices_of}
 use Rattle.flat_assigns.specs.Sides.{all_places}
 use Rattle.flat_assigns.specs.Values.{right_cells, right_shape}
 use Rattle.flat_assigns.proofs.Adding.{own_between, parts_built, signals_between}
+use Rattle.flat_assigns.proofs.Laying.{value_laid}
 use Rattle.flat_assigns.proofs.Scans.{all_same}
 use Rattle.flat_assigns.proofs.Shapes.{whole_from}
 use Rattle.flat_assigns.proofs.assign.build_parts.Goals as goal
@@ -32,3 +33,7 @@ returns-in-Err-clause-limit c =
     let none = subst (λ (s : Shape). refusals names c.args.right.now s ≡ []) (sym shape) c.requires.accepted in
     let short = subst (λ (s : Shape). IsShort (length c.args.builder.now.cells + length (made names c.args.right.now s)) c.in-Err.error) shape (c.in-Err.ensures.short none) in
     c.of.ensures (length c.args.builder.now.cells + length (right_cells names c.args.right.now c.args.width)) short
+
+pub returns-in_ok-join_parts-in-Ok-clause-laid : goal.returns-in_ok-join_parts-in-Ok-clause-laid
+returns-in_ok-join_parts-in-Ok-clause-laid c =
+    value_laid (names_of c.args.scope.now) c.args.right.now c.args.builder.now c.build_expr.new.builder c.join_parts.new.builder (all_places (slices_of c.args.slices.now)) c.in-Ok.bits c.as_slice.result.now c.right_shape-context.result c.args.width c.in-Ok.ensures.laid c.right_shape-context.ensures.shape c.as_slice.ensures c.in_ok-join_parts-in-Ok.ensures

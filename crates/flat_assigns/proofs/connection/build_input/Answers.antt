@@ -11,6 +11,7 @@ use Rattle.elab_expr.specs.Made.{made}
 use Rattle.elab_expr.specs.Refusals.{IsShort}
 use Rattle.flat_assigns.specs.Values.{right_shape}
 use Rattle.flat_assigns.proofs.Adding.{own_between, signals_between, input_built}
+use Rattle.flat_assigns.proofs.Laying.{input_laid}
 use Rattle.flat_assigns.proofs.Shapes.{same_refusals, whole_built, whole_from}
 use Rattle.flat_assigns.proofs.connection.build_input.Goals as goal
 
@@ -65,3 +66,10 @@ returns-in_ok-join_port-in-Ok-clause-built c =
     let whole = whole_built names c.args.right.now c.context_of-context.result (λ f h. let told = (c.in-Ok.ensures.refused f h).0 in cc) in
     let shape = c.context_of-context.ensures.shape whole ∙ ap (right_shape names c.args.right.now) (ap length c.bits.ensures) in
     input_built names c.args.right.now c.args.builder.now c.build_expr.new.builder c.join_port.new.builder _ c.as_slice.result.now c.context_of-context.result c.args.port _ c.requires.ready c.in-Ok.ensures.built shape c.as_slice.ensures (ap length c.bits.ensures) c.in_ok-join_port-in-Ok.ensures
+
+pub returns-in_ok-join_port-in-Ok-clause-laid : goal.returns-in_ok-join_port-in-Ok-clause-laid
+returns-in_ok-join_port-in-Ok-clause-laid c =
+    let names = names_of c.args.scope.now in
+    let whole = whole_built names c.args.right.now c.context_of-context.result (λ f h. let told = (c.in-Ok.ensures.refused f h).0 in cc) in
+    let shape = c.context_of-context.ensures.shape whole ∙ ap (right_shape names c.args.right.now) (ap length c.bits.ensures) in
+    input_laid names c.args.right.now c.args.builder.now c.build_expr.new.builder c.join_port.new.builder _ c.as_slice.result.now c.context_of-context.result c.args.port _ c.in-Ok.ensures.laid shape c.as_slice.ensures (ap length c.bits.ensures) c.in_ok-join_port-in-Ok.ensures
