@@ -125,15 +125,16 @@ stored_of old done (k ∷ ks) [] rs h = absurd h
 stored_of old done (k ∷ ks) (x ∷ bits) [] h = absurd h
 stored_of old done (k ∷ ks) (x ∷ bits) (r ∷ rs) h = (h.0, h.1, stored_of old done ks bits rs h.2)
 
-named_of : (mid old : Building) (ks : List ℕ) (rs : List Register) → mid.declared ≡ old.declared → mid.starts ≡ old.starts → AreNamed mid ks rs → AreNamed old ks rs
-named_of mid old [] [] e f h = tt
-named_of mid old [] (r ∷ rs) e f h = absurd h
-named_of mid old (k ∷ ks) [] e f h = absurd h
-named_of mid old (k ∷ ks) (r ∷ rs) e f h = (
+named_of : (mid old : Building) (ks : List ℕ) (rs : List Register) → mid.declared ≡ old.declared → mid.starts ≡ old.starts → mid.signals ≡ old.signals → AreNamed mid ks rs → AreNamed old ks rs
+named_of mid old [] [] e f g h = tt
+named_of mid old [] (r ∷ rs) e f g h = absurd h
+named_of mid old (k ∷ ks) [] e f g h = absurd h
+named_of mid old (k ∷ ks) (r ∷ rs) e f g h = (
   h.0 ∙ ap (λ (l : List Declared). (declared_at (record mid { declared = l }) k).name) e,
   h.1 ∙ ap (λ (l : List Declared). (declared_at (record mid { declared = l }) k).span) e,
   h.2 ∙ ap (λ (l : List ℕ). start_bits (record mid { starts = l }) k) f,
-  named_of mid old ks rs e f h.3,
+  h.3 ∙ ap (λ (l : List (List Bit)). length (signal (record mid { signals = l }) k)) g,
+  named_of mid old ks rs e f g h.4,
 )
 
 module _ (names : Names) (s : Stmt) (old : Building) (before waiting : List (List Bit)) (g : Given false names s old before) (is : waiting ≡ all_waiting old (variables (steps_of s names)) before) where
@@ -205,7 +206,7 @@ module _ (names : Names) (s : Stmt) (old : Building) (before waiting : List (Lis
               waits = waits;
               built = built.builds;
               stored = stored_of old y (variables (steps_of s names)) (last_bits (steps_of s names) y (variables (steps_of s names))) rs stored;
-              named = named_of (given_own old y) old (variables (steps_of s names)) rs kept.adds.declared kept.adds.starts named;
+              named = named_of (given_own old y) old (variables (steps_of s names)) rs kept.adds.declared kept.adds.starts refl named;
               is = new_is;
             }
 

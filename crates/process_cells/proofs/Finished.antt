@@ -26,6 +26,7 @@ use Rattle.proc_muxes.proofs.Keeping.{keeps}
 use Rattle.process_cells.specs.declared.kept.Kept.{Kept}
 use Rattle.process_cells.specs.Processes.{AllKnown, variables, given_own, blank, last_seen, all_kept, all_rejoined, AllReturn, Combines}
 use Rattle.process_cells.specs.Ready.{HasPlaces}
+use Rattle.process_cells.proofs.Accepted.{accepted_blocking}
 use Rattle.process_cells.proofs.Adding.{grown}
 use Rattle.process_cells.proofs.Begun.{Given, known_variables, blank_stands}
 use Rattle.process_cells.proofs.Blanking.{blank_count, blank_is, blank_wide, blank_other}
@@ -118,7 +119,7 @@ module _ (names : Names) (s : Stmt) (old begun done : Building) (before after : 
     join = subst (λ (l : List (List Bit)). AllJoin old (variables (steps_of s names)) l back.joints) (lasts_are done (variables (steps_of s names))) back.join
 
     pub combines : Combines (steps_of s names) old new
-    combines = record { begun = work begun before; done = work done after; joints = back.joints; blank_is = is; built = built.builds; joined = join; is = new_is }
+    combines = record { begun = work begun before; done = work done after; joints = back.joints; blocking = accepted_blocking g.accepted.0 (steps_of s names) g.accepted.1; blank_is = is; built = built.builds; joined = join; is = new_is }
 
     pub stands_after : Stands old → Stands new
     stands_after stands =

@@ -19,3 +19,4 @@ mod Bodies
 pub mod Fits
 pub mod Items
 mod Starting
+pub mod Laying

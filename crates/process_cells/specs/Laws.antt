@@ -2,6 +2,7 @@
 -- the process.
 use Rattle.std.specs.Prelude.{◌≡◌, Bool, false, List, [], None}
 use Rattle.mcy_base.specs.declared.span.Span.{Span}
+use Rattle.vlog_syntax.specs.declared.item.Process.{Process}
 use Rattle.vlog_syntax.specs.declared.stmt.EventControl.{EventControl}
 use Rattle.vlog_syntax.specs.declared.stmt.Stmt.{Stmt}
 use Rattle.vlog_meaning.specs.Scopes.{Names}
@@ -22,6 +23,8 @@ use Rattle.proc_muxes.specs.Builds.{Work}
 use Rattle.proc_muxes.specs.Clear.{IsReady}
 use Rattle.proc_muxes.specs.Shows.{StandsBelow}
 use Rattle.process_cells.specs.Ready.{AllWait}
+use Rattle.process_cells.specs.Items.{AddsProcess}
+use Rattle.process_cells.specs.Laid.{lay_process}
 use Rattle.process_cells.specs.Processes.{variables, process_effect, Combines, HasOneKind, CanBeBuilt, Clocks}
 
 -- A statement in which no refusal is the first one is ready to be built: its expressions and left sides make cells, and the
@@ -50,3 +53,7 @@ CombinationalAreAdded = (s : Stmt) (names : Names) (old new : Building) → HasS
 -- So is a clocked one in which each variable has assignments of one kind.
 abbrev pub ClockedAreAdded : Type 0
 ClockedAreAdded = (steps : Steps) (old new : Building) → HasOwnNets old → Stands old → HasOneKind steps → Clocks steps old new → AddsItem old new (Clocked (variables steps) (process_effect old steps))
+
+-- What is added of a process is what it lays. So a process has one netlist from what the builder has before.
+abbrev pub ProcessesAreLaid : Type 0
+ProcessesAreLaid = (names : Names) (p : Process) (old new : Building) → AddsProcess names p old new → new ≡ lay_process names p old

@@ -2,4 +2,5 @@ pub mod Ready
 pub mod Processes
 pub mod Laws
 pub mod Items
+pub mod Laid
 pub mod Starts

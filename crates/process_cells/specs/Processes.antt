@@ -5,7 +5,7 @@ use Rattle.netlist_core.specs.declared.bit.Bit.{Bit}
 use Rattle.netlist_core.specs.declared.bit.Bit.TheVariants.{Fixed, Net}
 use Rattle.netlist_core.specs.declared.port.Register.{Register}
 use Rattle.vlog_meaning.specs.Scopes.{Store}
-use Rattle.vlog_effects.specs.Effects.{Values, numbers, left_by}
+use Rattle.vlog_effects.specs.Effects.{IsBlocking, Values, numbers, left_by}
 use Rattle.vlog_effects.specs.Expressions.{bits_of}
 use Rattle.vlog_effects.specs.Latches.{targets, latch_of}
 use Rattle.vlog_effects.specs.Steps.{Steps}
@@ -56,12 +56,13 @@ blank (k ∷ ks) b = blank ks (with_signal k (zeros (signal b k)) b)
 abbrev pub last_seen : Work → List ℕ → List (List Bit)
 last_seen b ks = map (signal b.building) ks
 
--- A combinational process was built: its variables began with zeros, the cells of its statements were added, and each bit of its
--- variables is joined to what the variable had last.
+-- A combinational process was built, in which all assignments are blocking: its variables began with zeros, the cells of its
+-- statements were added, and each bit of its variables is joined to what the variable had last.
 pub record Combines (steps : Steps) (old new : Building) : Type 0 where
   pub begun : Work
   pub done : Work
   pub joints : List Joint
+  pub blocking : IsBlocking steps
   pub blank_is : begun.building ≡ blank (variables steps) old
   pub built : Builds steps begun done
   pub joined : AllJoin old (variables steps) (last_seen done (variables steps)) joints
@@ -81,10 +82,10 @@ HasOneKind steps = Conforms (has_blocking steps) (targets steps)
 abbrev pub last_bits : Steps → Work → List ℕ → List (List Bit)
 last_bits steps b ks = map (last_held (has_blocking steps) b) ks
 
--- registers have the names, places and start values of their signals
+-- registers have the names, places and start values of their signals, which are as wide as these
 abbrev pub AreNamed : Building → List ℕ → List Register → Type 0
 AreNamed b [] [] = Unit {0}
-AreNamed b (k ∷ ks) (r ∷ rs) = (r.name ≡ (declared_at b k).name) × (r.span ≡ (declared_at b k).span) × (r.start.bits ≡ start_bits b k) × AreNamed b ks rs
+AreNamed b (k ∷ ks) (r ∷ rs) = (r.name ≡ (declared_at b k).name) × (r.span ≡ (declared_at b k).span) × (r.start.bits ≡ start_bits b k) × (r.start.width ≡ length (signal b k)) × AreNamed b ks rs
 AreNamed b ks rs = ⊥
 
 -- A clocked process was built: the bits of variables with nonblocking assignments waited, the cells of its statements were added,
@@ -165,6 +166,7 @@ pub record StoresOne (old : Building) (x : Choice) (new : Building) : Type 0 whe
   pub name : register.name ≡ (declared_at old x.number).name
   pub span : register.span ≡ (declared_at old x.number).span
   pub start : register.start.bits ≡ start_bits old x.number
+  pub width : register.start.width ≡ length (signal old x.number)
 
 -- the registers of variables are added
 pub record Stores (old : Building) (xs : List Choice) (new : Building) : Type 0 where

@@ -1,5 +1,5 @@
 //! Laws of processes.
-ghost use Rattle.process_cells.specs.Laws.{AcceptedAreReady, AcceptedAreSound, MixedAreRefused, AcceptedCanBeBuilt, CombinationalAreAdded, ClockedAreAdded};
+ghost use Rattle.process_cells.specs.Laws.{AcceptedAreReady, AcceptedAreSound, MixedAreRefused, AcceptedCanBeBuilt, CombinationalAreAdded, ClockedAreAdded, ProcessesAreLaid};
 
 /// A statement in which nothing is refused can be built, where the builder has the signals of the scope.
 pub fn accepted_statements_are_ready()
@@ -27,4 +27,9 @@ pub fn accepted_bodies_can_be_built()
 pub fn processes_are_added()
     ensures combinational { CombinationalAreAdded }
     ensures clocked { ClockedAreAdded }
+{}
+
+/// What is added of a process are the cells that it lays, wired as these are, and the joints or registers of its variables.
+pub fn processes_are_laid()
+    ensures { ProcessesAreLaid }
 {}

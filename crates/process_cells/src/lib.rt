@@ -16,7 +16,7 @@ pub use clocked::build_clocked;
 pub use combinational::build_combinational;
 pub use laws::{
     accepted_bodies_can_be_built, accepted_statements_are_ready, accepted_statements_are_sound,
-    mixed_assignments_are_refused, processes_are_added,
+    mixed_assignments_are_refused, processes_are_added, processes_are_laid,
 };
 pub use process::build_process;
 pub use starts::{start_process, start_signal};

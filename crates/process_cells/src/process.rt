@@ -17,6 +17,7 @@ ghost use Rattle.process_events.specs.Events.{Combinational as Changes, Clocked 
 ghost use Rattle.process_latches.specs.Refused.{process_refusals};
 ghost use Rattle.process_cells.specs.Ready.{HasPlaces};
 ghost use Rattle.process_cells.specs.Processes.{CanBeBuilt, written_numbers};
+ghost use Rattle.process_cells.specs.Laid.{lay_accepted};
 ghost use Rattle.process_cells.specs.Items.{cells_by, process_cells, process_steps, statement, Adds, AddsBy, AddsProcess, IsFit};
 
 use crate::clocked::build_clocked;
@@ -50,6 +51,7 @@ pub fn build_process(
     requires places { HasPlaces builder.old waiting.old }
     ensures first { IfOk result (λ o. IsFirst (process_refusals (names_of scope.old) written.now process.now) o) }
     ensures adds { IfOk result (λ o. Adds (names_of scope.old) process.now builder.old builder.new o) }
+    ensures laid { IfOk result (λ o. builder.new ≡ lay_accepted (names_of scope.old) process.now o builder.old) }
     ensures accepted { IfErr result (λ e. (kind : Kind) → e ≡ TooMany kind → process_refusals (names_of scope.old) written.now process.now ≡ []) }
     ensures short { IfErr result (λ e. IsShort (length builder.old.cells + process_cells (names_of scope.old) process.now) e) }
     ensures kept { OnOk result (names_of scope.new ≡ names_of scope.old) }

@@ -4,6 +4,7 @@ use Rattle.elab_expr.specs.Building.{HasSignals}
 use Rattle.elab_proc.specs.Refusals.{AreSized}
 use Rattle.process_latches.specs.Refused.{process_refusals}
 use Rattle.process_cells.proofs.Items.{first_stays, accepted_stays, adds_stays, short_stays, kept_stays, fit_stays, no_memory}
+use Rattle.process_cells.proofs.Laying.{result_laid}
 use Rattle.process_cells.proofs.process.build_process.Goals as goal
 
 pub build_found-requires-clause-fit : goal.build_found-requires-clause-fit
@@ -20,6 +21,9 @@ returns-in-Ok-clause-first c = first_stays (process_refusals (names_of c.args.sc
 
 pub returns-in-Ok-clause-adds : goal.returns-in-Ok-clause-adds
 returns-in-Ok-clause-adds c = adds_stays (names_of c.args.scope.now) (names_of c.process_refusal.new.scope) c.args.process.now c.args.builder.now c.build_found.new.builder c.build_found.result c.in-Ok.ensures.kept c.build_found.ensures.adds
+
+pub returns-in-Ok-clause-laid : goal.returns-in-Ok-clause-laid
+returns-in-Ok-clause-laid c = result_laid (names_of c.args.scope.now) c.args.process.now c.args.builder.now c.build_found.new.builder c.build_found.result (returns-in-Ok-clause-adds c)
 
 pub returns-in-Ok-clause-accepted : goal.returns-in-Ok-clause-accepted
 returns-in-Ok-clause-accepted c = accepted_stays (process_refusals (names_of c.args.scope.now) c.args.written.now c.args.process.now) c.in-Ok.found c.build_found.result c.in-Ok.ensures.first c.build_found.ensures.none
