@@ -1,0 +1,5 @@
+mod Reading
+mod Apart
+mod Telling
+mod Going
+mod Placing

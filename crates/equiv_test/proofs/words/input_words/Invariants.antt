@@ -1,0 +1,7 @@
+use Rattle.netlist_core.specs.Runs.{bits_at}
+use Rattle.sat_solver.specs.Found.{listed_values}
+use Rattle.equiv_test.proofs.Reading.{Laid}
+use Rattle.equiv_test.proofs.words.input_words.Given as goal
+
+abbrev pub invariant-loop-port : goal.invariant-loop-port
+invariant-loop-port l = Laid (listed_values l.assignment) (bits_at l.ports) l.initial.next l.port-index l.next l.words.items

@@ -1,0 +1,7 @@
+use Rattle.netlist_core.specs.Runs.{q_bits}
+use Rattle.sat_solver.specs.Found.{listed_values}
+use Rattle.equiv_test.proofs.Reading.{Laid}
+use Rattle.equiv_test.proofs.words.register_words.Given as goal
+
+abbrev pub invariant-loop-register : goal.invariant-loop-register
+invariant-loop-register l = Laid (listed_values l.assignment) (q_bits l.registers) l.first l.register-index l.next l.words.items

@@ -1,0 +1,101 @@
+//! The job of an equivalence test: a search of the clauses of a pair of netlists, and simulators of both for the place of a
+//! difference.
+//!
+//! Invariant: the netlists have the same ports and registers and at most 2,048 free bits, and the search is one of their
+//! clauses. There is a search until something is found. Contracts see the netlists, the limit and the search.
+ghost use Rattle.std.specs.Prelude.{◌≡◌, ℕ, ◌+◌, ◌<◌, ◌≤◌, length, IfOk, IfErr, OnOk, OnErr, IfSome, MatchOption, ⊤};
+ghost use Rattle.pair_gates.specs.Refusals.{IsRefused, IsAccepted};
+ghost use Rattle.equiv_test.specs.Jobs.{IsNew, IsGoing, IsSameTest, GoesOn, lemmas_of};
+ghost use Rattle.equiv_test.specs.Verdicts.{Tells};
+
+use crate::turning::{Turned, take_turn};
+use crate::verdict::EqVerdict;
+use cycle_sim::Sim;
+use netlist_core::Netlist;
+use pair_gates::{EncodeError, encode};
+use sat_solver::Search;
+use std::alloc::{AllocError, Global};
+use std::marker::Model;
+
+/// A test of two netlists.
+#[derive(Drop)]
+pub struct EqJob {
+    alloc: Global,
+    original: Sim,
+    mutant: Sim,
+    limit: u32,
+    search: Option<Search>,
+}
+
+impl Model for EqJob {
+    ghost use Rattle.equiv_test.specs.Jobs.{Job, IsJob};
+
+    ghost Value = { Job };
+
+    ghost view = { λ j. record { original = j.original.plan; mutant = j.mutant.plan; limit = j.limit; search = j.search } };
+
+    ghost invariant = { λ j. IsJob (record { original = j.original.plan; mutant = j.mutant.plan; limit = j.limit; search = j.search }) };
+}
+
+impl EqJob {
+    /// A test that adds at most `limit` lemmas.
+    pub fn new(
+        alloc: Global,
+        original: &Netlist,
+        mutant: &Netlist,
+        limit: u32,
+    ) -> Result<EqJob, EncodeError>
+        requires { (1 ≤ limit) × (limit ≤ 100000) }
+        ensures accepted { OnOk result (IsAccepted original.now mutant.now) }
+        ensures refused { IfErr result (IsRefused original.now mutant.now) }
+        ensures new { IfOk result (IsNew original.now mutant.now limit) }
+    {
+        // By their clauses both netlists are sound.
+        let _parts = original.raw();
+        let _others = mutant.raw();
+        let miter = encode(alloc, original, mutant)?;
+        let search = Search::new(alloc, miter, limit)?;
+        let first = original.copy(alloc)?;
+        let first = Sim::new(alloc, first)?;
+        let second = mutant.copy(alloc)?;
+        let second = Sim::new(alloc, second)?;
+        Ok(EqJob {
+            alloc,
+            original: first,
+            mutant: second,
+            limit,
+            search: Some(search),
+        })
+    }
+
+    /// Searches on until there is a verdict, or so many lemmas were added in this call. Where there is no memory, what was
+    /// added stands, and the test can go on.
+    pub fn turn(&mut self, conflicts: u32) -> Result<Option<EqVerdict>, AllocError>
+        requires positive { 0 < conflicts }
+        requires going { IsGoing self.old }
+        ensures same { IsSameTest self.old self.new }
+        ensures told { IfOk result (λ o. IfSome o (Tells self.old.original self.old.mutant self.old.limit)) }
+        ensures none { IfOk result (λ o. MatchOption o (GoesOn self.old self.new conflicts × (length (lemmas_of self.new) ≡ length (lemmas_of self.old) + conflicts)) (λ _. ⊤)) }
+        ensures err { OnErr result (GoesOn self.old self.new conflicts) }
+    {
+        let search = self.search.take().unwrap();
+        match take_turn(
+            self.alloc,
+            &mut self.original,
+            &mut self.mutant,
+            search,
+            self.limit,
+            conflicts,
+        ) {
+            Turned::Unfinished(search) => {
+                self.search = Some(search);
+                Ok(None)
+            }
+            Turned::Finished(verdict) => Ok(Some(verdict)),
+            Turned::OutOfMemory(search) => {
+                self.search = Some(search);
+                Err(AllocError)
+            }
+        }
+    }
+}
