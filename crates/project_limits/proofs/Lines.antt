@@ -1,5 +1,5 @@
 -- What holds of lines none of which is bad.
-use Rattle.std.proofs.Common.{◌≡◌, ℕ, ◌+◌, ◌≤◌, ◌<◌, Bool, true, false, if◌then◌else◌, List, [], ◌∷◌, ◌++◌, length, map, Option, Some, None, refl, sym, subst, arith, append_assoc, append-nil}
+use Rattle.std.proofs.Common.{◌≡◌, ℕ, ◌+◌, ◌≤◌, ◌<◌, Bool, true, false, cond, if◌then◌else◌, List, [], ◌∷◌, ◌++◌, length, map, Option, Some, None, IfSome, find, refl, sym, subst, arith, append_assoc, append-nil}
 use Rattle.std.proofs.lemmas.Bool.Decides.{nat_tests}
 use Rattle.project_file.specs.declared.error.ProjectError.{ProjectError}
 use Rattle.project_file.specs.declared.error.ProjectError.TheVariants.{OutOfRange, UnsupportedCommand}
@@ -29,6 +29,17 @@ head_good fault earlier number x more is = none_first (fault earlier number x) (
 pub tail_good : {X : Type 0} (fault : List X → ℕ → X → Option ProjectError) (earlier : List X) (number : ℕ) (x : X) (more : List X) → first_fault fault earlier number (x ∷ more) ≡ None → first_fault fault (earlier ++ x ∷ []) (number + 1) more ≡ None
 unfolding first_fault
 tail_good fault earlier number x more is = none_later (fault earlier number x) (first_fault fault (earlier ++ x ∷ []) (number + 1) more) is
+
+-- What is found among several of which none is bad is good where it stands.
+
+found_at : {X : Type 0} (Q : X → Type 0) (b : Bool) (x : X) (found : Option X) → (b ≡ true → Q x) → IfSome found Q → IfSome (cond b (Some x) found) Q
+found_at Q true x found here later = here refl
+found_at Q false x found here later = later
+
+pub found_good : {X : Type 0} (fault : List X → ℕ → X → Option ProjectError) (test : X → Bool) (Q : X → Type 0) → ((earlier : List X) (number : ℕ) (x : X) → test x ≡ true → fault earlier number x ≡ None → Q x) → (earlier : List X) (number : ℕ) (xs : List X) → first_fault fault earlier number xs ≡ None → IfSome (find test xs) Q
+found_good fault test Q good earlier number [] none = tt
+found_good fault test Q good earlier number (x ∷ more) none =
+    found_at Q (test x) x (find test more) (λ is. good earlier number x is (head_good fault earlier number x more none)) (found_good fault test Q good (earlier ++ x ∷ []) (number + 1) more (tail_good fault earlier number x more none))
 
 -- A line of the script that is good reads no file, or the files are few with those that it reads.
 

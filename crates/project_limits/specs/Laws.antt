@@ -7,6 +7,14 @@ use Rattle.project_file.specs.Projects.{design_files, IsProject}
 abbrev pub FilesAreFew : Type 0
 FilesAreFew = (bytes : List ℕ) (project : Project) → IsProject bytes project → length (design_files project) ≤ 64
 
--- and asks for at most 10,000 mutations.
+-- asks for at most 10,000 mutations,
 abbrev pub SizesAreWithin : Type 0
 SizesAreWithin = (bytes : List ℕ) (project : Project) → IsProject bytes project → project.size ≤ 10000
+
+-- has at most 16 tests,
+abbrev pub TestsAreFew : Type 0
+TestsAreFew = (bytes : List ℕ) (project : Project) → IsProject bytes project → length project.tests ≤ 16
+
+-- and at most 32 tags.
+abbrev pub TagsAreFew : Type 0
+TagsAreFew = (bytes : List ℕ) (project : Project) → IsProject bytes project → length project.tags ≤ 32

@@ -1,0 +1,49 @@
+-- How many tests a project has.
+use Rattle.std.proofs.Common.{◌≡◌, ℕ, ◌+◌, ◌≤◌, Bool, true, false, cond, List, [], ◌∷◌, ◌++◌, length, None, bytes_eq, codes, nat_lt, refl, sym, subst, ap, ◌∙◌, arith, append_assoc, append-nil, length-append}
+use Rattle.std.proofs.lemmas.Bool.Decides.{nat_tests}
+use Rattle.std.proofs.lemmas.List.{length-map}
+use Rattle.std.proofs.lemmas.List.Elements.{filter-append}
+use Rattle.std.proofs.lemmas.Slice.Eq.{bytes_eq-Decides}
+use Rattle.std.specs.Str.Lines.{lines}
+use Rattle.project_file.specs.declared.project.Project.{Project}
+use Rattle.project_file.specs.Checks.{first_fault}
+use Rattle.project_file.specs.Lines.{key_of}
+use Rattle.project_file.specs.Paths.{Known, find_path}
+use Rattle.project_file.specs.Projects.{part_fault, project_of, test_of, IsProject}
+use Rattle.project_file.specs.Sections.{Part, lines_in, parts_of, tests_in}
+use Rattle.project_limits.proofs.Headers.{header_good, room_for_test, sections_good}
+use Rattle.project_limits.proofs.Lines.{head_good, tail_good}
+
+abbrev is_test : Part → Bool
+is_test part = bytes_eq (key_of part.header) (codes "test")
+
+one_few : (b : Bool) (part : Part) (count : ℕ) → count ≤ 16 → (b ≡ true → nat_lt 15 count ≡ false) → count + length (cond b (part ∷ []) []) ≤ 16
+one_few true part count few room = (let not_many : nat_lt 15 count ≡ false = room refl in grind (arith, nat_tests))
+one_few false part count few room = omega (arith, few)
+
+-- with a good section there are still few tests
+push_few : (known : Known) (earlier : List Part) (number : ℕ) (part : Part) → part_fault known earlier number part ≡ None → length (tests_in earlier) ≤ 16 → length (tests_in (earlier ++ part ∷ [])) ≤ 16
+unfolding tests_in
+push_few known earlier number part good few =
+    let room : is_test part ≡ true → nat_lt 15 (length (tests_in earlier)) ≡ false = λ is. room_for_test earlier part.number part.header ((bytes_eq-Decides (key_of part.header) (codes "test")).0 is) (header_good known earlier number part good) in
+    let all : length (tests_in (earlier ++ part ∷ [])) ≡ length (tests_in earlier) + length (cond (is_test part) (part ∷ []) []) = ap length (filter-append is_test earlier (part ∷ [])) ∙ length-append (tests_in earlier) (cond (is_test part) (part ∷ []) []) in
+    subst (λ count. count ≤ 16) (sym all) (one_few (is_test part) part (length (tests_in earlier)) few room)
+
+parts_few : (known : Known) (earlier : List Part) (number : ℕ) (parts : List Part) → first_fault (part_fault known) earlier number parts ≡ None → length (tests_in earlier) ≤ 16 → length (tests_in (earlier ++ parts)) ≤ 16
+parts_few known earlier number [] good few = subst (λ (parts : List Part). length (tests_in parts) ≤ 16) (sym (append-nil earlier)) few
+parts_few known earlier number (part ∷ more) good few =
+    subst (λ (parts : List Part). length (tests_in parts) ≤ 16) (append_assoc earlier (part ∷ []) more)
+    (parts_few known (earlier ++ part ∷ []) (number + 1) more (tail_good (part_fault known) earlier number part more good) (push_few known earlier number part (head_good (part_fault known) earlier number part more good) few))
+
+none_few : length (tests_in []) ≤ 16
+unfolding tests_in
+none_few = omega arith
+
+tests_of : (parts : List Part) → length (tests_in parts) ≤ 16 → length (project_of parts).tests ≤ 16
+unfolding project_of
+tests_of parts few = subst (λ count. count ≤ 16) (sym (length-map (tests_in parts) test_of)) few
+
+pub tests_few : (bytes : List ℕ) (project : Project) → IsProject bytes project → length project.tests ≤ 16
+tests_few bytes project is =
+    let parts : List Part = parts_of 1 (lines bytes) in
+    subst (λ (p : Project). length p.tests ≤ 16) (sym is.says) (tests_of parts (parts_few (find_path (lines_in (codes "files") parts)) [] 0 parts (sections_good (lines bytes) is.faultless) none_few))
