@@ -1,5 +1,3 @@
-pub mod Forms
-pub mod Firsts
 pub mod Sides
 pub mod Writing
 pub mod Steps

@@ -3,6 +3,7 @@ use Rattle.std.proofs.Common.{◌≡◌, List, [], ◌∷◌, ◌++◌, Option, 
 use Rattle.std.specs.Prelude.{option_to_list}
 use Rattle.vlog_syntax.specs.declared.expr.Expr.TheVariants as e
 use Rattle.vlog_syntax.specs.declared.left_side.LeftSide.{LeftSide}
+use Rattle.elab_proc.proofs.Forms.{left_once}
 use Rattle.flat_runs.specs.Meanings.{Meaning}
 use Rattle.flat_assigns.specs.Assignments.{assignment}
 use Rattle.process_cells.specs.Items.{Widths}
@@ -13,7 +14,6 @@ use Rattle.elab_items.specs.Designs.{design_of, widths_of}
 use Rattle.elab_items.specs.Meanings.{AllMean, Means}
 use Rattle.elab_items.specs.Starts.{names_at}
 use Rattle.elab_once.specs.Laws.{HasOneMeaning}
-use Rattle.elab_once.proofs.Forms.{left_once}
 
 pub means_once : (width : Widths) (places : List Place) (item : FlatItem) (m n : Option Meaning) → Means width places item m → Means width places item n → m ≡ n
 means_once width places (f.Declares k) m n d o = d ∙ sym o

@@ -1,5 +1,5 @@
 -- The first refusal of a process is one in builders that are alike.
-use Rattle.std.proofs.Common.{◌≡◌, Bool, true, false, List, ◌++◌, Option, None, Some, refl, sym, ap, subst}
+use Rattle.std.proofs.Common.{◌≡◌, Bool, true, false, List, ◌++◌, Option, refl, sym, ap, ◌∙◌, subst}
 use Rattle.std.specs.Prelude.{option_map}
 use Rattle.mcy_base.specs.declared.span.Span.{Span}
 use Rattle.netlist_core.specs.declared.bit.Bit.{Bit}
@@ -13,6 +13,8 @@ use Rattle.vlog_meaning.specs.Scopes.{Names}
 use Rattle.vlog_effects.specs.Steps.{steps_of}
 use Rattle.elab_expr.specs.Building.{Building}
 use Rattle.elab_proc.specs.declared.refusal.Refusal.{Refusal}
+use Rattle.elab_proc.specs.Order.{IsFirst}
+use Rattle.elab_proc.proofs.Order.{first_once}
 use Rattle.process_events.specs.Events.{Sensitivity, Once, Combinational, Clocked, Refused, sensitivity}
 use Rattle.process_latches.specs.Mixed.{mixed_refusals}
 use Rattle.process_latches.specs.Refused.{body_refusals, control_refusals, latch_refusals, process_refusals, refusals_by, waiting_refusals}
@@ -22,8 +24,6 @@ use Rattle.elab_items.specs.declared.error.Reason.{Reason}
 use Rattle.elab_items.specs.declared.error.Reason.TheVariants.{Found}
 use Rattle.elab_items.specs.Items.{RefusesProcess}
 use Rattle.elab_once.specs.Alike.{AreAlike}
-use Rattle.elab_once.specs.Reasons.{SameReasons}
-use Rattle.elab_once.proofs.Firsts.{SameFirsts, SameLists, first_once, same_list}
 use Rattle.elab_once.proofs.Steps.{AreKnown, TellSame, statement_once}
 use Rattle.elab_once.proofs.Writing.{told_once}
 
@@ -44,16 +44,11 @@ module _ (written others : List Bool) (signals : List (List Bit)) (names : Names
   by_once Once body = refl
 
 -- what is found is the reason
-pub found_once : (f g : Option Refusal) (x y : Option Reason) → SameFirsts f g → x ≡ option_map Found f → y ≡ option_map Found g → SameReasons x y
-found_once f g x y h d e = subst (λ (z : Option Reason). SameReasons z y) (sym d) (subst (λ (z : Option Reason). SameReasons (option_map Found f) z) (sym e) (go f g h)) where
-  go : (a b : Option Refusal) → SameFirsts a b → SameReasons (option_map Found a) (option_map Found b)
-  go None None h = tt
-  go (Some a) (Some b) h = h
-  go None (Some b) h = absurd h
-  go (Some a) None h = absurd h
+pub found_once : (f g : Option Refusal) (x y : Option Reason) → f ≡ g → x ≡ option_map Found f → y ≡ option_map Found g → x ≡ y
+found_once f g x y h d e = d ∙ ap (option_map Found) h ∙ sym e
 
-pub process_once : (b c : Building) (inputs : List Bool) (names : Names) (p : Process) (x y : Option Reason) → AreAlike b c → AreKnown b.signals names → RefusesProcess b inputs names p x → RefusesProcess c inputs names p y → SameReasons x y
+pub process_once : (b c : Building) (inputs : List Bool) (names : Names) (p : Process) (x y : Option Reason) → AreAlike b c → AreKnown b.signals names → RefusesProcess b inputs names p x → RefusesProcess c inputs names p y → x ≡ y
 process_once b c inputs names p x y h known (written, f, tells, first, d) (others, g, also, last, e) =
     let is : process_refusals names written p ≡ process_refusals names others p = by_once written others b.signals names (λ k less. told_once b c inputs written others k h tells also less) known p.span (sensitivity p) p.body in
-    let same : SameLists (process_refusals names written p) (process_refusals names others p) = subst (SameLists (process_refusals names written p)) is (same_list (process_refusals names written p)) in
-    found_once f g x y (first_once (process_refusals names written p) (process_refusals names others p) f g same first last) d e
+    let here : IsFirst (process_refusals names written p) g = subst (λ (xs : List Refusal). IsFirst xs g) (sym is) last in
+    found_once f g x y (first_once (process_refusals names written p) f g first here) d e

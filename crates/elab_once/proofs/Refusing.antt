@@ -1,5 +1,5 @@
 -- The first refusal of an item is one in builders that are alike.
-use Rattle.std.proofs.Common.{◌≡◌, ℕ, Bool, List, [], ◌∷◌, length, Option, None, Some, refl, sym, ap, ◌∙◌, subst}
+use Rattle.std.proofs.Common.{◌≡◌, ℕ, Bool, List, [], ◌∷◌, length, Option, None, Some, sym, ap, ◌∙◌, subst}
 use Rattle.std.specs.Prelude.{option_map, slice_index_or}
 use Rattle.netlist_core.specs.declared.bit.Bit.{Bit}
 use Rattle.vlog_syntax.specs.declared.expr.Expr.{Expr}
@@ -10,6 +10,8 @@ use Rattle.vlog_meaning.specs.Answers.{least}
 use Rattle.vlog_meaning.specs.Scopes.{Names}
 use Rattle.elab_expr.specs.Building.{Building}
 use Rattle.elab_proc.specs.declared.refusal.Refusal.{Refusal}
+use Rattle.elab_proc.proofs.Forms.{left_once}
+use Rattle.elab_proc.proofs.Order.{first_once}
 use Rattle.flat_assigns.specs.Values.{right_refusals}
 use Rattle.process_cells.specs.Items.{widths_in}
 use Rattle.flat_instances.specs.Places.{Place}
@@ -21,24 +23,9 @@ use Rattle.elab_items.specs.Items.{Refuses, RefusesSides, wrong_value}
 use Rattle.elab_items.specs.Starts.{names_at, start_error}
 use Rattle.elab_items.specs.Timed.{IsSooner}
 use Rattle.elab_once.specs.Alike.{AreAlike}
-use Rattle.elab_once.specs.Reasons.{SameReason, SameReasons}
-use Rattle.elab_once.proofs.Firsts.{first_once, same_list}
-use Rattle.elab_once.proofs.Forms.{left_once}
 use Rattle.elab_once.proofs.Processes.{found_once, process_once}
 use Rattle.elab_once.proofs.Sides.{sides_once}
 use Rattle.elab_once.proofs.Steps.{AreKnown}
-
-same_reason : (x : Reason) → SameReason x x
-same_reason (Listed x) = refl
-same_reason (Found x) = (refl, refl)
-same_reason (Start x) = refl
-
-same_reasons : (x : Option Reason) → SameReasons x x
-same_reasons None = tt
-same_reasons (Some x) = same_reason x
-
-equal : (x y : Option Reason) → x ≡ y → SameReasons x y
-equal x y is = subst (SameReasons x) is (same_reasons x)
 
 -- a signal has the same width in both
 same_width : (b c : Building) (k : ℕ) → AreAlike b c → widths_in b k ≡ widths_in c k
@@ -48,28 +35,28 @@ leaves_once : (b c : Building) (inputs : List Bool) (lefts rights : Names) (left
     → RefusesSides b inputs lefts left rights right x → RefusesSides c inputs lefts other rights right y → x ≡ y
 leaves_once b c inputs lefts rights left other right x y h is d o = sides_once b c inputs lefts left rights right x y h d (subst (λ (z : LeftSide). RefusesSides c inputs lefts z rights right y) (sym is) o)
 
-pub refuses_once : (b c : Building) (inputs : List Bool) (places : List Place) (item : FlatItem) (x y : Option Reason) → AreAlike b c → ((k : ℕ) → AreKnown b.signals (names_at places k)) → Refuses b inputs places item x → Refuses c inputs places item y → SameReasons x y
-refuses_once b c inputs places (f.Declares k) x y h known d o = equal x y (d ∙ sym o)
-refuses_once b c inputs places (f.Assigns k left right) x y h known d o = equal x y (sides_once b c inputs (names_at places k) left (names_at places k) right x y h d o)
-refuses_once b c inputs places (f.Drives k net value) x y h known d o = equal x y (sides_once b c inputs (names_at places k) (l.Name net) (names_at places k) value x y h d o)
+pub refuses_once : (b c : Building) (inputs : List Bool) (places : List Place) (item : FlatItem) (x y : Option Reason) → AreAlike b c → ((k : ℕ) → AreKnown b.signals (names_at places k)) → Refuses b inputs places item x → Refuses c inputs places item y → x ≡ y
+refuses_once b c inputs places (f.Declares k) x y h known d o = d ∙ sym o
+refuses_once b c inputs places (f.Assigns k left right) x y h known d o = sides_once b c inputs (names_at places k) left (names_at places k) right x y h d o
+refuses_once b c inputs places (f.Drives k net value) x y h known d o = sides_once b c inputs (names_at places k) (l.Name net) (names_at places k) value x y h d o
 refuses_once b c inputs places (f.Enters port k value) x y h known d o =
-    equal x y (d ∙ ap (λ (w : ℕ). option_map wrong_value (least (right_refusals (names_at places k) value w))) (same_width b c port h) ∙ sym o)
-refuses_once b c inputs places (f.Open port) x y h known d o = equal x y (d ∙ sym o)
+    d ∙ ap (λ (w : ℕ). option_map wrong_value (least (right_refusals (names_at places k) value w))) (same_width b c port h) ∙ sym o
+refuses_once b c inputs places (f.Open port) x y h known d o = d ∙ sym o
 refuses_once b c inputs places (f.Leaves k value inside port) x y h known (left, is, d) (other, also, o) =
-    equal x y (leaves_once b c inputs (names_at places k) (names_at places inside) left other (e.Name port) x y h (left_once left other (is ∙ sym also)) d o)
+    leaves_once b c inputs (names_at places k) (names_at places inside) left other (e.Name port) x y h (left_once left other (is ∙ sym also)) d o
 refuses_once b c inputs places (f.Runs k p) x y h known d o = process_once b c inputs (names_at places k) p x y h (known k) d o
 refuses_once b c inputs places (f.Starts number k value) x y h known d o =
-    equal x y (d ∙ ap (λ (w : ℕ). option_map Start (start_error (names_at places k) value w)) (same_width b c number h) ∙ sym o)
-refuses_once b c inputs places (f.Refuses error) x y h known d o = equal x y (d ∙ sym o)
+    d ∙ ap (λ (w : ℕ). option_map Start (start_error (names_at places k) value w)) (same_width b c number h) ∙ sym o
+refuses_once b c inputs places (f.Refuses error) x y h known d o = d ∙ sym o
 
 -- With the use of the clock.
 
-stands_alone : (x y : Option Reason) (own other : Reason) → x ≡ Some own → y ≡ Some other → SameReason own other → SameReasons x y
-stands_alone x y own other d o h = subst (λ (z : Option Reason). SameReasons z y) (sym d) (subst (SameReasons (Some own)) (sym o) h)
+-- the first is one, where the item's own is
+sooner_same : (clock : List Refusal) (own x y : Option Reason) → IsSooner own clock x → IsSooner own clock y → x ≡ y
+sooner_same clock None x y (g, first, d) (i, last, o) = found_once g i x y (first_once clock g i first last) d o
+sooner_same clock (Some (Found a)) x y (g, first, d) (i, last, o) = found_once g i x y (first_once (a ∷ clock) g i first last) d o
+sooner_same clock (Some (Listed a)) x y d o = d ∙ sym o
+sooner_same clock (Some (Start a)) x y d o = d ∙ sym o
 
-pub sooner_once : (clock : List Refusal) (own other x y : Option Reason) → SameReasons own other → IsSooner own clock x → IsSooner other clock y → SameReasons x y
-sooner_once clock None None x y h (g, first, d) (i, last, o) = found_once g i x y (first_once clock clock g i (same_list clock) first last) d o
-sooner_once clock (Some (Found a)) (Some (Found b)) x y h (g, first, d) (i, last, o) = found_once g i x y (first_once (a ∷ clock) (b ∷ clock) g i (h, same_list clock) first last) d o
-sooner_once clock (Some (Listed a)) (Some (Listed b)) x y h d o = stands_alone x y (Listed a) (Listed b) d o h
-sooner_once clock (Some (Start a)) (Some (Start b)) x y h d o = stands_alone x y (Start a) (Start b) d o h
-sooner_once clock own other x y h d o = absurd h
+pub sooner_once : (clock : List Refusal) (own other x y : Option Reason) → own ≡ other → IsSooner own clock x → IsSooner other clock y → x ≡ y
+sooner_once clock own other x y is d o = sooner_same clock own x y d (subst (λ (z : Option Reason). IsSooner z clock y) (sym is) o)

@@ -1,5 +1,5 @@
 -- Items are all built, or refused in one way.
-use Rattle.std.proofs.Common.{inl, inr, ℕ, Bool, List, [], ◌∷◌, Option, None, Some, refl, sym, subst}
+use Rattle.std.proofs.Common.{◌≡◌, inl, inr, ℕ, Bool, List, [], ◌∷◌, Option, None, Some, refl, sym, subst}
 use Rattle.netlist_core.specs.declared.bit.Bit.{Bit}
 use Rattle.vlog_meaning.specs.declared.scope.Decl.{Decl}
 use Rattle.vlog_meaning.specs.declared.scope.Decl.TheVariants.{Signal, Constant}
@@ -17,7 +17,7 @@ use Rattle.elab_items.specs.Starts.{names_at}
 use Rattle.elab_items.specs.Timed.{BuildsAll, BuildsTimed, FailsSome, FailsTimed, RefusesTimed}
 use Rattle.elab_once.specs.Alike.{AreAlike}
 use Rattle.elab_once.specs.Laws.{BuiltOrRefused, RefusedOnce, StopsOnce}
-use Rattle.elab_once.specs.Reasons.{AreOneAnswer, IsLimit, SameReasons}
+use Rattle.elab_once.specs.Reasons.{AreOneAnswer, IsLimit}
 use Rattle.elab_once.proofs.Building.{built_one, signals_kept}
 use Rattle.elab_once.proofs.Refusing.{refuses_once, sooner_once}
 use Rattle.elab_once.proofs.Sides.{turned}
@@ -35,12 +35,18 @@ scopes_known places b h = λ k name. go (names_at places k name) (h.signals k na
   go None s = tt
 
 timed_once : (inputs : List Bool) (flat : Flat) (clocks : Clocks) (item : FlatItem) (b c : Building) (x y : Option Reason)
-    → AreAlike b c → ScopesKnown flat.places b.signals → RefusesTimed b inputs flat clocks item x → RefusesTimed c inputs flat clocks item y → SameReasons x y
+    → AreAlike b c → ScopesKnown flat.places b.signals → RefusesTimed b inputs flat clocks item x → RefusesTimed c inputs flat clocks item y → x ≡ y
 timed_once inputs flat clocks item b c x y h known (own, refuses, sooner) (other, also, later) =
     sooner_once (clock_refusals clocks flat.signals flat.places item) own other x y (refuses_once b c inputs flat.places item own other h known refuses also) sooner later
 
 pub refused_once : RefusedOnce
 refused_once inputs flat clocks item b c x y h stands d e = timed_once inputs flat clocks item b c x y h (scopes_known flat.places b stands) d e
+
+none_some : (x : Reason) → None ≡ Some x → ⊥
+none_some x e = cc
+
+some_same : (x y : Reason) → Some x ≡ Some y → x ≡ y
+some_same x y e = cc
 
 -- in an item that is built nothing is refused
 accepted : (inputs : List Bool) (flat : Flat) (clocks : Clocks) (item : FlatItem) (b next : Building) → BuildsTimed inputs flat clocks item b next → RefusesTimed b inputs flat clocks item None
@@ -48,7 +54,7 @@ accepted inputs flat clocks item b next d = (None, d.builds.accepted, (None, d.t
 
 not_refused : (inputs : List Bool) (flat : Flat) (clocks : Clocks) (item : FlatItem) (b c next : Building) (error : BuildError)
     → AreAlike b c → ScopesKnown flat.places b.signals → BuildsTimed inputs flat clocks item b next → FailsTimed inputs flat clocks item c error → IsLimit error
-not_refused inputs flat clocks item b c next (Refused reason) h known d e = timed_once inputs flat clocks item b c None (Some reason) h known (accepted inputs flat clocks item b next d) e
+not_refused inputs flat clocks item b c next (Refused reason) h known d e = none_some reason (timed_once inputs flat clocks item b c None (Some reason) h known (accepted inputs flat clocks item b next d) e)
 not_refused inputs flat clocks item b c next (TooMany kind) h known d e = tt
 not_refused inputs flat clocks item b c next Memory h known d e = tt
 
@@ -80,7 +86,7 @@ limit_last Memory y h = tt
 
 here_once : (inputs : List Bool) (flat : Flat) (clocks : Clocks) (item : FlatItem) (b c : Building) (x y : BuildError)
     → AreAlike b c → ScopesKnown flat.places b.signals → FailsTimed inputs flat clocks item b x → FailsTimed inputs flat clocks item c y → AreOneAnswer x y
-here_once inputs flat clocks item b c (Refused x) (Refused y) h known d e = timed_once inputs flat clocks item b c (Some x) (Some y) h known d e
+here_once inputs flat clocks item b c (Refused x) (Refused y) h known d e = some_same x y (timed_once inputs flat clocks item b c (Some x) (Some y) h known d e)
 here_once inputs flat clocks item b c (Refused x) (TooMany kind) h known d e = tt
 here_once inputs flat clocks item b c (Refused x) Memory h known d e = tt
 here_once inputs flat clocks item b c (TooMany kind) y h known d e = tt

@@ -13,7 +13,7 @@ use Rattle.elab_items.specs.Designs.{IsDesign}
 use Rattle.elab_items.specs.Items.{Stands}
 use Rattle.elab_items.specs.Timed.{BuildsAll, FailsSome, RefusesTimed}
 use Rattle.elab_once.specs.Alike.{AreAlike}
-use Rattle.elab_once.specs.Reasons.{AreOneAnswer, IsLimit, SameReasons}
+use Rattle.elab_once.specs.Reasons.{AreOneAnswer, IsLimit}
 
 -- Builders that differ in start values alone are alike.
 abbrev pub BeginAlike : Type 0
@@ -22,7 +22,7 @@ BeginAlike = (old b c : Building) → SameButStarts old b → SameButStarts old 
 -- In builders that are alike an item has one first refusal, or none.
 abbrev pub RefusedOnce : Type 0
 RefusedOnce = (inputs : List Bool) (flat : Flat) (clocks : Clocks) (item : FlatItem) (b c : Building) (x y : Option Reason)
-    → AreAlike b c → Stands flat.places b → RefusesTimed b inputs flat clocks item x → RefusesTimed c inputs flat clocks item y → SameReasons x y
+    → AreAlike b c → Stands flat.places b → RefusesTimed b inputs flat clocks item x → RefusesTimed c inputs flat clocks item y → x ≡ y
 
 -- Where the same items are built in builders that are alike, what they leave is alike.
 abbrev pub BuiltAlike : Type 0

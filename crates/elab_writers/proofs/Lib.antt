@@ -1,6 +1,5 @@
 pub mod Inputs
 pub mod Newness
-pub mod Forms
 pub mod Variables
 pub mod Fresh
 pub mod Processes

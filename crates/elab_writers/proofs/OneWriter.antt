@@ -1,5 +1,5 @@
 -- Each item that is built writes bits that nothing wrote before, so that each bit has one writer at most.
-use Rattle.std.proofs.Common.{◌≡◌, ℕ, Bool, List, [], ◌∷◌, Option, None, Some, refl, sym, ◌∙◌, subst}
+use Rattle.std.proofs.Common.{◌≡◌, ℕ, Bool, List, [], ◌∷◌, Option, None, Some, refl, sym, ap, ◌∙◌, subst}
 use Rattle.std.specs.Prelude.{option_map}
 use Rattle.vlog_syntax.specs.declared.expr.Expr.{Expr}
 use Rattle.vlog_syntax.specs.declared.expr.Expr.TheVariants as e
@@ -12,6 +12,7 @@ use Rattle.elab_expr.specs.Building.{Building}
 use Rattle.elab_proc.specs.declared.refusal.Refusal.{Refusal}
 use Rattle.elab_proc.specs.Order.{IsFirst}
 use Rattle.elab_proc.specs.Refusals.{same_form}
+use Rattle.elab_proc.proofs.Forms.{left_once}
 use Rattle.flat_runs.specs.Meanings.{Meaning, Assign}
 use Rattle.flat_runs.specs.Parts.{places_from}
 use Rattle.flat_runs.specs.Writing.{HasOneWriter, IsNew}
@@ -39,7 +40,6 @@ use Rattle.elab_items.proofs.Standing.{builds_stand}
 use Rattle.elab_writers.specs.Laws.{ItemsHaveOneWriter}
 use Rattle.elab_writers.specs.Numbers.{AreFlagged}
 use Rattle.elab_writers.proofs.Inputs.{port_new}
-use Rattle.elab_writers.proofs.Forms.{same_parts}
 use Rattle.elab_writers.proofs.Newness.{none_written, slices_new}
 use Rattle.elab_writers.proofs.Processes.{process_new}
 
@@ -55,7 +55,7 @@ sides_new : (b : Building) (flags : List Bool) (ins : List ℕ) (lefts rights : 
     → Some x ≡ Some (assignment lefts second rights right) → IsNew b ins x
 sides_new b flags ins lefts rights first second right x flagged form h same =
     let none : IsRefusal b flags lefts first rights right None = subst (IsRefusal b flags lefts first rights right) (not_found h.0 h.2) h.1 in
-    let free : IsFirstWritten b flags [] (targets (slices lefts (parts_of second))) None = subst (λ (ps : List Part). IsFirstWritten b flags [] (targets (slices lefts ps)) None) (same_parts first second form) (none_written b flags lefts rights first right none) in
+    let free : IsFirstWritten b flags [] (targets (slices lefts (parts_of second))) None = subst (λ (ps : List Part). IsFirstWritten b flags [] (targets (slices lefts ps)) None) (ap parts_of (left_once first second form)) (none_written b flags lefts rights first right none) in
     subst (IsNew b ins) (given x (assignment lefts second rights right) same) (slices_new b flags ins (slices lefts (parts_of second)) (right_value rights right (left_width lefts second)) flagged free)
 
 whole_new : (b : Building) (flags : List Bool) (ins : List ℕ) (port width : ℕ) (value : Store → ℕ) (x : Meaning) → AreFlagged flags ins → ¬ HasWriter b flags port → Some x ≡ Some (Assign (places_from port 0 width) value) → IsNew b ins x
