@@ -46,6 +46,13 @@ bits_at places k names left bits is told = told ∙ ap (λ (n : Names). targets 
 pub bits_of_form : (names : Names) (left : LeftSide) (value : Expr) (bits : List WrittenBit) → same_form left ≡ value → targets_of bits ≡ targets (slices names (parts_of left)) → targets_of bits ≡ targets (slices names (form_parts value))
 bits_of_form names left value bits form told = told ∙ ap (λ (ps : List Part). targets (slices names ps)) (sym (form_is left) ∙ ap form_parts form)
 
+signals_same : (bits : List WrittenBit) → map (λ (b : WrittenBit). b.signal) bits ≡ map (λ (t : Target). t.place.signal) (targets_of bits)
+signals_same [] = refl
+signals_same (b ∷ more) = ap (λ (l : List ℕ). b.signal ∷ l) (signals_same more)
+
+pub bits_numbered : (bits : List WrittenBit) (ts : List Target) (numbers : List ℕ) → targets_of bits ≡ ts → numbers ≡ map (λ (b : WrittenBit). b.signal) bits → numbers ≡ map (λ (t : Target). t.place.signal) ts
+bits_numbered bits ts numbers told is = is ∙ signals_same bits ∙ ap (map (λ (t : Target). t.place.signal)) told
+
 pub writes_marked : (names : Names) (p : Process) (body inner : Stmt) (a b : Marks) → body ≡ p.body → inner ≡ statement body (out-Stmt body) → AreBlank a → Marked (sound (steps_of inner names)) a b → b.writes.items ≡ process_writes names p
 writes_marked names p body inner a b is behind blank marked =
     marked.writes_are ∙ ap (λ (l : List Write). l ++ writes (sound (steps_of inner names))) blank.writes_are ∙ ap (λ (s : Steps). writes (sound s)) (steps_are names names p body inner refl is behind)

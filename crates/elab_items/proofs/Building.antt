@@ -32,8 +32,10 @@ use Rattle.flat_assigns.specs.declared.refusal.AssignError.TheVariants as assign
 use Rattle.flat_assigns.specs.declared.refusal.Refusal.{Refusal}
 use Rattle.flat_assigns.specs.Assignments.{IsRefusal, assignment}
 use Rattle.flat_assigns.specs.Built.{IsBuilt, IsLimit, IsReady}
+use Rattle.flat_assigns.specs.Laid.{lay_input, lay_open}
 use Rattle.flat_assigns.specs.Sides.{left_width}
 use Rattle.flat_assigns.specs.Values.{right_cells, right_refusals, right_value}
+use Rattle.flat_assigns.proofs.Laying.{outputs_laid}
 use Rattle.flat_instances.specs.Places.{Place}
 use Rattle.flat_instances.specs.declared.item.FlatItem.TheVariants as f
 use Rattle.elab_items.specs.declared.error.BuildError.{BuildError}
@@ -55,12 +57,12 @@ no_cells_added b = record { more = []; cells = sym (append-nil b.cells); are = r
 -- items that say nothing of a cycle
 
 pub declares_built : (inputs : List Bool) (places : List Place) (k : ℕ) (b : Building) → IsReady b → Builds inputs places (f.Declares k) b b
-declares_built inputs places k b ready = record { accepted = refl; meaning = None; means = refl; adds = refl; parts = no_cells_added b; port = tt; ready = ready; declared = refl; starts = refl }
+declares_built inputs places k b ready = record { accepted = refl; meaning = None; means = refl; adds = refl; parts = no_cells_added b; port = tt; ready = ready; declared = refl; starts = refl; laid = refl }
 
 pub starts_built : (inputs : List Bool) (places : List Place) (number k : ℕ) (value : Expr) (names : Names) (b : Building) → names_at places k ≡ names → start_error names value (widths_in b number) ≡ None → IsReady b → Builds inputs places (f.Starts number k value) b b
 starts_built inputs places number k value names b is none ready =
     let fine = subst (λ (x : Names). start_error x value (widths_in b number) ≡ None) (sym is) none in
-    record { accepted = sym (ap (option_map Start) fine); meaning = None; means = refl; adds = refl; parts = no_cells_added b; port = tt; ready = ready; declared = refl; starts = refl }
+    record { accepted = sym (ap (option_map Start) fine); meaning = None; means = refl; adds = refl; parts = no_cells_added b; port = tt; ready = ready; declared = refl; starts = refl; laid = refl }
 
 pub starts_fail : (inputs : List Bool) (places : List Place) (number k : ℕ) (value : Expr) (names : Names) (b : Building) (error : ConstError) → names_at places k ≡ names → start_error names value (widths_in b number) ≡ Some error → Fails inputs places (f.Starts number k value) b (Refused (Start error))
 starts_fail inputs places number k value names b error is some =
@@ -71,7 +73,7 @@ starts_fail inputs places number k value names b error is some =
 pub assigns_built : (inputs : List Bool) (places : List Place) (k : ℕ) (left : LeftSide) (right : Expr) (old new : Building) → BuildsSides inputs (names_at places k) left (names_at places k) right old new → Builds inputs places (f.Assigns k left right) old new
 assigns_built inputs places k left right old new h =
     let m = assignment (names_at places k) left (names_at places k) right in
-    record { accepted = h.0; meaning = Some m; means = refl; adds = h.1.adds; parts = cells_added old new m (right_cells (names_at places k) right (left_width (names_at places k) left)) h.1; port = tt; ready = h.1.ready; declared = h.1.declared; starts = h.1.starts }
+    record { accepted = h.0; meaning = Some m; means = refl; adds = h.1.adds; parts = cells_added old new m (right_cells (names_at places k) right (left_width (names_at places k) left)) h.1; port = tt; ready = h.1.ready; declared = h.1.declared; starts = h.1.starts; laid = h.2 }
 
 pub assigns_fail : (inputs : List Bool) (places : List Place) (k : ℕ) (left : LeftSide) (right : Expr) (old : Building) (error : BuildError) → FailsSides inputs (names_at places k) left (names_at places k) right old error → Fails inputs places (f.Assigns k left right) old error
 assigns_fail inputs places k left right old (Refused reason) h = h
@@ -81,7 +83,7 @@ assigns_fail inputs places k left right old Memory h = tt
 pub drives_built : (inputs : List Bool) (places : List Place) (k : ℕ) (net : Identifier) (value : Expr) (old new : Building) → BuildsSides inputs (names_at places k) (l.Name net) (names_at places k) value old new → Builds inputs places (f.Drives k net value) old new
 drives_built inputs places k net value old new h =
     let m = assignment (names_at places k) (l.Name net) (names_at places k) value in
-    record { accepted = h.0; meaning = Some m; means = refl; adds = h.1.adds; parts = cells_added old new m (right_cells (names_at places k) value (left_width (names_at places k) (l.Name net))) h.1; port = tt; ready = h.1.ready; declared = h.1.declared; starts = h.1.starts }
+    record { accepted = h.0; meaning = Some m; means = refl; adds = h.1.adds; parts = cells_added old new m (right_cells (names_at places k) value (left_width (names_at places k) (l.Name net))) h.1; port = tt; ready = h.1.ready; declared = h.1.declared; starts = h.1.starts; laid = h.2 }
 
 pub drives_fail : (inputs : List Bool) (places : List Place) (k : ℕ) (net : Identifier) (value : Expr) (old : Building) (error : BuildError) → FailsSides inputs (names_at places k) (l.Name net) (names_at places k) value old error → Fails inputs places (f.Drives k net value) old error
 drives_fail inputs places k net value old (Refused reason) h = h
@@ -114,6 +116,7 @@ leaves_built inputs places k value inside port left old new form h =
       ready = h.1.ready;
       declared = h.1.declared;
       starts = h.1.starts;
+      laid = h.2 ∙ outputs_laid (names_at places k) left value (names_at places inside) (e.Name port) old form;
     }
 
 pub leaves_fail : (inputs : List Bool) (places : List Place) (k : ℕ) (value : Expr) (inside : ℕ) (port : Identifier) (left : LeftSide) (old : Building) (error : BuildError) → same_form left ≡ value → FailsSides inputs (names_at places k) left (names_at places inside) (e.Name port) old error → Fails inputs places (f.Leaves k value inside port) old error
@@ -175,8 +178,9 @@ input_fails names value width cells error answer refused short same = subst (Fai
 pub enters_built : (inputs : List Bool) (places : List Place) (port k : ℕ) (value : Expr) (names : Names) (old new : Building) → names_at places k ≡ names → ¬ HasWriter old inputs port
     → least (right_refusals names value (length (signal old port))) ≡ None
     → IsBuilt old new (Assign (whole old port) (right_value names value (length (signal old port)))) (right_cells names value (length (signal old port)))
+    → new ≡ lay_input names value port old
     → Builds inputs places (f.Enters port k value) old new
-enters_built inputs places port k value names old new is new_port none built =
+enters_built inputs places port k value names old new is new_port none built laid =
     let width = length (signal old port) in
     let all = subst (λ (x : Names). IsBuilt old new (Assign (whole old port) (right_value x value width)) (right_cells x value width)) (sym is) built in
     record {
@@ -189,6 +193,7 @@ enters_built inputs places port k value names old new is new_port none built =
       ready = built.ready;
       declared = built.declared;
       starts = built.starts;
+      laid = subst (λ (x : Names). new ≡ lay_input x value port old) (sym is) laid;
     }
 
 pub enters_fail : (inputs : List Bool) (places : List Place) (port k : ℕ) (value : Expr) (names : Names) (old : Building) (error : BuildError) → names_at places k ≡ names
@@ -197,8 +202,8 @@ enters_fail inputs places port k value names old (Refused reason) is h = subst (
 enters_fail inputs places port k value names old (TooMany kind) is h = subst (λ (x : Names). FailsInput x value (length (signal old port)) (length old.cells) (TooMany kind)) (sym is) h
 enters_fail inputs places port k value names old Memory is h = tt
 
-pub opens_built : (inputs : List Bool) (places : List Place) (port : ℕ) (old new : Building) → ¬ HasWriter old inputs port → IsBuilt old new (Assign (whole old port) (λ store. 0)) [] → Builds inputs places (f.Open port) old new
-opens_built inputs places port old new new_port built = record { accepted = refl; meaning = Some (opening (widths_in old) port); means = refl; adds = built.adds; parts = cells_added old new (opening (widths_in old) port) [] built; port = new_port; ready = built.ready; declared = built.declared; starts = built.starts }
+pub opens_built : (inputs : List Bool) (places : List Place) (port : ℕ) (old new : Building) → ¬ HasWriter old inputs port → IsBuilt old new (Assign (whole old port) (λ store. 0)) [] → new ≡ lay_open port old → Builds inputs places (f.Open port) old new
+opens_built inputs places port old new new_port built laid = record { accepted = refl; meaning = Some (opening (widths_in old) port); means = refl; adds = built.adds; parts = cells_added old new (opening (widths_in old) port) [] built; port = new_port; ready = built.ready; declared = built.declared; starts = built.starts; laid = laid }
 
 pub nothing_refused : (o : Option Fault) → ((x : Fault) → o ≡ Some x → ⊥) → o ≡ None
 nothing_refused None h = refl

@@ -20,6 +20,7 @@ use Rattle.elab_proc.specs.Order.{IsFirst}
 use Rattle.elab_expr.specs.Refusals.{IsShort as IsShortOf}
 use Rattle.process_latches.specs.Refused.{process_refusals}
 use Rattle.process_cells.specs.Items.{Adds, process_cells, process_meaning, widths_in}
+use Rattle.process_cells.proofs.Laying.{processes_laid}
 use Rattle.flat_instances.specs.Places.{Place}
 use Rattle.flat_instances.specs.declared.item.FlatItem.TheVariants as f
 use Rattle.elab_items.specs.declared.error.BuildError.{BuildError}
@@ -74,6 +75,7 @@ run_built inputs places k p names old new is h =
       ready = g.ready;
       declared = g.adds.declared;
       starts = g.adds.starts;
+      laid = processes_laid (names_at places k) p old new g.adds;
     }
 
 pub run_fails : (inputs : List Bool) (places : List Place) (k : ℕ) (p : Process) (names : Names) (old : Building) (error : BuildError) → names_at places k ≡ names → FailsProcess inputs names p old error → Fails inputs places (f.Runs k p) old error

@@ -25,7 +25,7 @@ use Rattle.proc_muxes.specs.Working.{pending_of}
 use Rattle.process_cells.specs.Items.{Widths, AddsMeaning, widths_in}
 use Rattle.process_cells.specs.Ready.{HasPlaces}
 use Rattle.elab_items.specs.declared.desk.Desk.{Desk}
-use Rattle.elab_items.specs.Desks.{Serves}
+use Rattle.elab_items.specs.Desks.{Holds}
 use Rattle.elab_items.specs.Starts.{names_at, names_in, start_error}
 use Rattle.elab_items.specs.Meanings.{AllMean}
 use Rattle.elab_items.specs.Designs.{design_of, widths_of}
@@ -73,10 +73,10 @@ waits_on old new waiting same le h = record {
   below = λ n. below_more old.nets new.nets (pending_of waiting n) le (h.below n);
 }
 
-pub builds_serve : (inputs : List Bool) (places : List Place) (item : FlatItem) (old new : Building) (desk : Desk) → Builds inputs places item old new → Serves places old desk → Serves places new desk
-builds_serve inputs places item old new desk b h = go b.meaning b.adds where
-  go : (m : Option Meaning) → AddsMeaning old new m → Serves places new desk
-  go None adds = subst (λ (x : Building). Serves places x desk) (sym adds) h
+pub builds_hold : (inputs : List Bool) (places : List Place) (item : FlatItem) (old new : Building) (desk : Desk) → Builds inputs places item old new → Holds places old desk → Holds places new desk
+builds_hold inputs places item old new desk b h = go b.meaning b.adds where
+  go : (m : Option Meaning) → AddsMeaning old new m → Holds places new desk
+  go None adds = subst (λ (x : Building). Holds places x desk) (sym adds) h
   go (Some m) adds = record { scopes = h.scopes; waiting = waits_on old new desk.waiting adds.signals adds.nets h.waiting }
 
 -- What all items add.

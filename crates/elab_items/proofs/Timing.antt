@@ -1,11 +1,10 @@
 -- The first of what is found in an item and of how it misuses the clock.
-use Rattle.std.proofs.Common.{◌≡◌, inl, ℕ, Bool, false, ◌==◌, nat_lt, List, [], ◌∷◌, Option, Some, None, refl, subst, arith}
-use Rattle.std.specs.Prelude.{if◌then◌else◌}
-use Rattle.std.proofs.lemmas.Bool.Decides.{nat_tests}
+use Rattle.std.proofs.Common.{◌≡◌, ◌≤◌, Bool, List, length, Option, Some, None, refl, subst}
 use Rattle.elab_proc.specs.declared.refusal.Refusal.{Refusal}
-use Rattle.elab_proc.specs.Order.{IsFirst, limit, place, precedes, rank}
+use Rattle.elab_proc.specs.Order.{IsFirst}
 use Rattle.mcy_base.specs.declared.kind.Kind.{Kind}
 use Rattle.elab_expr.specs.Building.{Building}
+use Rattle.elab_expr.specs.Refusals.{max_cells}
 use Rattle.flat_items.specs.Flattened.{Flat}
 use Rattle.flat_instances.specs.declared.item.FlatItem.{FlatItem}
 use Rattle.flat_clocks.specs.Clocks.{Clocks}
@@ -15,24 +14,12 @@ use Rattle.elab_items.specs.declared.error.Reason.{Reason}
 use Rattle.elab_items.specs.declared.error.Reason.TheVariants.{Found}
 use Rattle.elab_items.specs.Items.{Builds, Fails}
 use Rattle.elab_items.specs.Timed.{BuildsTimed, FailsTimed, IsSooner}
-
-same_again : (a : ℕ) (p : Bool) → p ≡ false → (if a == a then p else nat_lt a a) ≡ false
-same_again a p e = grind (arith, nat_tests)
-
-not_below : (a : ℕ) → nat_lt a a ≡ false
-not_below a = grind (arith, nat_tests)
-
--- nothing comes before itself
-never : (f : Refusal) → precedes f f ≡ false
-never f = same_again (limit f) _ (same_again (place f).file _ (same_again (place f).line _ (same_again (place f).col _ (not_below (rank f)))))
-
-pub own_first : (f : Refusal) → IsFirst (f ∷ []) (Some f)
-own_first f = (inl refl, (never f, tt))
+use Rattle.elab_items.proofs.Counting.{cells_fit}
 
 -- What is built and what is not, with the use of the clock.
 
-pub timed_built : (inputs : List Bool) (flat : Flat) (clocks : Clocks) (item : FlatItem) (old new : Building) (late : Option Refusal) → Builds inputs flat.places item old new → IsFirst (clock_refusals clocks flat.signals flat.places item) late → late ≡ None → BuildsTimed inputs flat clocks item old new
-timed_built inputs flat clocks item old new late h first is = record { builds = h; timed = subst (IsFirst (clock_refusals clocks flat.signals flat.places item)) is first }
+pub timed_built : (inputs : List Bool) (flat : Flat) (clocks : Clocks) (item : FlatItem) (old new : Building) (late : Option Refusal) → Builds inputs flat.places item old new → IsFirst (clock_refusals clocks flat.signals flat.places item) late → late ≡ None → length new.cells ≤ max_cells → BuildsTimed inputs flat clocks item old new
+timed_built inputs flat clocks item old new late h first is few = record { builds = h; timed = subst (IsFirst (clock_refusals clocks flat.signals flat.places item)) is first; few = cells_fit inputs flat.places item old new h few }
 
 pub timed_late : (inputs : List Bool) (flat : Flat) (clocks : Clocks) (item : FlatItem) (old new : Building) (late : Option Refusal) (r : Refusal) → Builds inputs flat.places item old new → IsFirst (clock_refusals clocks flat.signals flat.places item) late → late ≡ Some r → FailsTimed inputs flat clocks item old (Refused (Found r))
 timed_late inputs flat clocks item old new late r h first is = (None, h.accepted, (Some r, subst (IsFirst (clock_refusals clocks flat.signals flat.places item)) is first, refl))

@@ -1,5 +1,5 @@
 -- What an item assigns: bits of nets, and variables.
-use Rattle.std.specs.Prelude.{List, []}
+use Rattle.std.specs.Prelude.{ℕ, List, [], ◌∷◌, map}
 use Rattle.vlog_syntax.specs.declared.item.Process.{Process}
 use Rattle.vlog_syntax.specs.declared.left_side.LeftSide.TheVariants as l
 use Rattle.vlog_meaning.specs.Scopes.{Names}
@@ -27,3 +27,10 @@ item_targets places other = []
 -- the variables that the statements of a process assign, as often as they do
 abbrev pub process_writes : Names → Process → List Write
 process_writes names p = writes (sound (process_steps names p))
+
+-- the numbers of the signals that an item gives a value
+abbrev pub item_numbers : List Place → FlatItem → List ℕ
+item_numbers places (f.Enters port k value) = port ∷ []
+item_numbers places (f.Open port) = port ∷ []
+item_numbers places (f.Runs k p) = map (λ w. w.number) (process_writes (names_at places k) p)
+item_numbers places other = map (λ t. t.place.signal) (item_targets places other)

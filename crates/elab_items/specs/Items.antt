@@ -33,6 +33,7 @@ use Rattle.flat_assigns.specs.declared.refusal.AssignError.{AssignError}
 use Rattle.flat_assigns.specs.declared.refusal.AssignError.TheVariants as assign
 use Rattle.flat_assigns.specs.Assignments.{IsRefusal, assignment}
 use Rattle.flat_assigns.specs.Built.{IsBuilt, IsReady}
+use Rattle.flat_assigns.specs.Laid.{lay_assignment}
 use Rattle.flat_assigns.specs.Sides.{left_width}
 use Rattle.flat_assigns.specs.Values.{right_cells, right_refusals}
 use Rattle.process_events.specs.Events.{sensitivity}
@@ -46,6 +47,7 @@ use Rattle.elab_items.specs.declared.error.BuildError.TheVariants.{Refused, TooM
 use Rattle.elab_items.specs.declared.error.Reason.{Reason}
 use Rattle.elab_items.specs.declared.error.Reason.TheVariants.{Listed, Found, Start}
 use Rattle.elab_items.specs.Starts.{names_at, start_error}
+use Rattle.elab_items.specs.Laid.{lay_item}
 use Rattle.elab_items.specs.Meanings.{Means}
 use Rattle.elab_items.specs.Writers.{HasWriter, TellsWriters}
 
@@ -122,7 +124,8 @@ IsNewPort b inputs (f.Enters port k value) = ¬ HasWriter b inputs port
 IsNewPort b inputs (f.Open port) = ¬ HasWriter b inputs port
 IsNewPort b inputs item = Unit {0}
 
--- An item is built, in which nothing is refused: what it means is added, or where it says nothing of a cycle, nothing.
+-- An item is built, in which nothing is refused: what it means is added, or where it says nothing of a cycle, nothing. The new
+-- builder is the one in which the item was laid.
 pub record Builds (inputs : List Bool) (places : List Place) (item : FlatItem) (old new : Building) : Type 0 where
   pub accepted : Refuses old inputs places item None
   pub meaning : Option Meaning
@@ -133,6 +136,7 @@ pub record Builds (inputs : List Bool) (places : List Place) (item : FlatItem) (
   pub ready : IsReady new
   pub declared : new.declared ≡ old.declared
   pub starts : new.starts ≡ old.starts
+  pub laid : new ≡ lay_item places item old
 
 -- There is no room for so many cells: there would be too many, or there is no memory.
 abbrev pub IsShort : ℕ → BuildError → Type 0
@@ -150,7 +154,7 @@ Fails inputs places item old Memory = Unit {0}
 
 -- An assignment is built whose sides are read in the names of two scopes, and nothing is refused in it.
 abbrev pub BuildsSides : List Bool → Names → LeftSide → Names → Expr → Building → Building → Type 0
-BuildsSides inputs lefts left rights right old new = RefusesSides old inputs lefts left rights right None × IsBuilt old new (assignment lefts left rights right) (right_cells rights right (left_width lefts left))
+BuildsSides inputs lefts left rights right old new = RefusesSides old inputs lefts left rights right None × IsBuilt old new (assignment lefts left rights right) (right_cells rights right (left_width lefts left)) × (new ≡ lay_assignment lefts left rights right old)
 
 abbrev pub FailsSides : List Bool → Names → LeftSide → Names → Expr → Building → BuildError → Type 0
 FailsSides inputs lefts left rights right old (Refused reason) = RefusesSides old inputs lefts left rights right (Some reason)

@@ -4,6 +4,7 @@ pub mod Designs
 pub mod Signals
 pub mod Writers
 pub mod Assigned
+pub mod Laid
 pub mod Items
 pub mod Starting
 pub mod Timed

@@ -1,5 +1,5 @@
 -- Start values of a flattened design (IEEE 1364-2005, 6.2.1 and 9.9.1): what the items leave that run once.
-use Rattle.std.specs.Prelude.{ℕ, List, [], ◌∷◌, Option, None, Some, nat_eq, slice_get, option_map, if◌then◌else◌}
+use Rattle.std.specs.Prelude.{ℕ, List, [], ◌∷◌, Option, nat_eq, option_map, if◌then◌else◌}
 use Rattle.vlog_syntax.specs.declared.expr.Expr.{Expr}
 use Rattle.vlog_meaning.specs.declared.fault.ConstError.{ConstError}
 use Rattle.vlog_meaning.specs.Answers.{const_error, least}
@@ -7,18 +7,10 @@ use Rattle.vlog_meaning.specs.Scopes.{Names, Store, nothing}
 use Rattle.vlog_meaning.specs.Senses.{sense, assigned, constant_faults_at}
 use Rattle.process_cells.specs.Items.{Widths}
 use Rattle.process_cells.specs.Starts.{assigned_value, process_starts}
-use Rattle.flat_instances.specs.Instances.{no_names}
 use Rattle.flat_instances.specs.Places.{Place}
 use Rattle.flat_instances.specs.declared.item.FlatItem.{FlatItem}
 use Rattle.flat_instances.specs.declared.item.FlatItem.TheVariants as f
-
--- what names are declared as in the scope of this number
-abbrev pub names_in : Option Place → Names
-names_in None = no_names
-names_in (Some p) = p.names
-
-abbrev pub names_at : List Place → ℕ → Names
-names_at places k = names_in (slice_get places k)
+pub use Rattle.flat_clocks.specs.Clocks.{names_at, names_in}
 
 -- the same values, but for one signal
 abbrev pub with_value : ℕ → ℕ → Store → Store

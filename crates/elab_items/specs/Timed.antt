@@ -1,6 +1,7 @@
 -- Items with their use of the clock: an item is refused for what comes first in it by place.
-use Rattle.std.specs.Prelude.{◌≡◌, ◌⊎◌, ◌+◌, Bool, List, [], ◌∷◌, length, option_map, Option, None, Some}
+use Rattle.std.specs.Prelude.{◌≡◌, ◌⊎◌, ◌+◌, ◌≤◌, Bool, List, [], ◌∷◌, length, option_map, Option, None, Some}
 use Rattle.elab_expr.specs.Building.{Building}
+use Rattle.elab_expr.specs.Refusals.{max_cells}
 use Rattle.elab_proc.specs.declared.refusal.Refusal.{Refusal}
 use Rattle.elab_proc.specs.Order.{IsFirst}
 use Rattle.process_cells.specs.Items.{widths_in}
@@ -24,10 +25,11 @@ IsSooner (Some other) clock reason = reason ≡ Some other
 abbrev pub RefusesTimed : Building → List Bool → Flat → Clocks → FlatItem → Option Reason → Type 0
 RefusesTimed b inputs flat clocks item reason = (own : Option Reason) × Refuses b inputs flat.places item own × IsSooner own (clock_refusals clocks flat.signals flat.places item) reason
 
--- An item is built, in which nothing is refused.
+-- An item is built, in which nothing is refused, and for whose cells there is room.
 pub record BuildsTimed (inputs : List Bool) (flat : Flat) (clocks : Clocks) (item : FlatItem) (old new : Building) : Type 0 where
   pub builds : Builds inputs flat.places item old new
   pub timed : clock_refusals clocks flat.signals flat.places item ≡ []
+  pub few : length old.cells + cell_count (widths_in old) flat.places item ≤ max_cells
 
 -- An item is not built: it is refused, or there is no room for its cells.
 abbrev pub FailsTimed : List Bool → Flat → Clocks → FlatItem → Building → BuildError → Type 0

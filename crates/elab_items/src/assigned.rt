@@ -1,5 +1,5 @@
 //! What items assign: bits of nets, and variables of processes.
-ghost use Rattle.std.specs.Prelude.{◌≡◌, IfOk, OnOk};
+ghost use Rattle.std.specs.Prelude.{◌≡◌, ◌∷◌, [], map, IfOk, OnOk};
 ghost use Rattle.vlog_syntax.specs.declared.left_side.LeftSide.TheVariants as l;
 ghost use Rattle.vlog_syntax.specs.declared.stmt.Stmt.{out-Stmt};
 ghost use Rattle.vlog_meaning.specs.Scopes.{names_of};

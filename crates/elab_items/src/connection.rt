@@ -6,6 +6,7 @@ ghost use Rattle.elab_expr.specs.Building.{HasSignals, signal};
 ghost use Rattle.flat_runs.specs.Meanings.{Assign};
 ghost use Rattle.flat_runs.specs.Parts.{whole};
 ghost use Rattle.flat_assigns.specs.Built.{IsBuilt, IsReady};
+ghost use Rattle.flat_assigns.specs.Laid.{lay_input};
 ghost use Rattle.flat_assigns.specs.Values.{right_cells, right_refusals, right_value};
 ghost use Rattle.flat_items.specs.Views.{flat_of};
 ghost use Rattle.flat_instances.specs.declared.item.FlatItem.TheVariants.{Enters, Open};
@@ -66,6 +67,7 @@ fn enter(builder: &mut Builder, port: u32, value: &Expr, scope: &Scope) -> Resul
     requires narrow { length (signal builder.old port) ≤ 128 }
     ensures accepted { OnOk result (least (right_refusals (names_of scope.now) value.now (length (signal builder.old port))) ≡ None) }
     ensures built { OnOk result (IsBuilt builder.old builder.new (Assign (whole builder.old port) (right_value (names_of scope.now) value.now (length (signal builder.old port)))) (right_cells (names_of scope.now) value.now (length (signal builder.old port)))) }
+    ensures laid { OnOk result (builder.new ≡ lay_input (names_of scope.now) value.now port builder.old) }
     ensures fails { IfErr result (λ e. FailsInput (names_of scope.now) value.now (length (signal builder.old port)) (length builder.old.cells) e) }
 {
     match build_input(builder, port, value, scope) {

@@ -2,13 +2,14 @@
 ghost use Rattle.std.specs.Prelude.{◌≡◌, Bool, List, IfErr, OnOk};
 ghost use Rattle.flat_items.specs.Views.{flat_of};
 ghost use Rattle.flat_instances.specs.declared.item.FlatItem.TheVariants.{Drives, Leaves, Starts};
-ghost use Rattle.elab_items.specs.Desks.{Serves};
+ghost use Rattle.elab_items.specs.Desks.{Holds, Serves};
 ghost use Rattle.elab_items.specs.Items.{Builds, Fails, Stands};
 
 use crate::connection::{build_enter, build_open};
 use crate::desk::Desk;
 use crate::error::{BuildError, Reason};
 use crate::left::left_of;
+use crate::notes::note;
 use crate::run::build_run;
 use crate::sides::{build_sides, scope_at};
 use crate::start::start_of;
@@ -81,10 +82,9 @@ fn test_start(
     }
 }
 
-/// Builds an item; one that says nothing of a cycle adds nothing. `inputs` tells by their numbers which signals are inputs of the
-/// top. Where it is not built, the builder may hold a part of it and is only to be dropped.
+/// Adds what an item means, and tells nothing of which signals have a writer then.
 #[tactic(auto, using(crate::proofs::Building::declares_built, crate::proofs::Building::assigns_built, crate::proofs::Building::assigns_fail))]
-pub fn build_item(
+fn add_item(
     builder: &mut Builder,
     desk: &mut Desk,
     inputs: &[bool],
@@ -92,10 +92,11 @@ pub fn build_item(
     item: &FlatItem,
 ) -> Result<(), BuildError>
     requires stands { Stands (flat_of flat.now).places builder.old }
-    requires serves { Serves (flat_of flat.now).places builder.old desk.old }
+    requires serves { Serves inputs.now (flat_of flat.now).places builder.old desk.old }
     ensures built { OnOk result (Builds inputs.now (flat_of flat.now).places item.now builder.old builder.new) }
     ensures fails { IfErr result (λ e. Fails inputs.now (flat_of flat.now).places item.now builder.old e) }
-    ensures serves { OnOk result (Serves (flat_of flat.now).places builder.new desk.new) }
+    ensures holds { OnOk result (Holds (flat_of flat.now).places builder.new desk.new) }
+    ensures written { OnOk result (desk.new.written.items ≡ desk.old.written.items) }
 {
     match item {
         FlatItem::Declares(_) => Ok(()),
@@ -122,4 +123,25 @@ pub fn build_item(
         }
         FlatItem::Refuses(error) => Err(BuildError::Refused(Reason::Listed(*error))),
     }
+}
+
+/// Builds an item; one that says nothing of a cycle adds nothing. `inputs` tells by their numbers which signals are inputs of the
+/// top. Where it is not built, the builder may hold a part of it and is only to be dropped.
+#[tactic(auto, using(crate::proofs::Standing::builds_stand, crate::proofs::Noting::note_count, crate::proofs::Noting::note_sound, crate::proofs::Noting::builds_serve))]
+pub fn build_item(
+    builder: &mut Builder,
+    desk: &mut Desk,
+    inputs: &[bool],
+    flat: &Flat,
+    item: &FlatItem,
+) -> Result<(), BuildError>
+    requires stands { Stands (flat_of flat.now).places builder.old }
+    requires serves { Serves inputs.now (flat_of flat.now).places builder.old desk.old }
+    ensures built { OnOk result (Builds inputs.now (flat_of flat.now).places item.now builder.old builder.new) }
+    ensures fails { IfErr result (λ e. Fails inputs.now (flat_of flat.now).places item.now builder.old e) }
+    ensures serves { OnOk result (Serves inputs.now (flat_of flat.now).places builder.new desk.new) }
+{
+    add_item(builder, desk, inputs, flat, item)?;
+    note(builder, desk, inputs, flat, item)?;
+    Ok(())
 }

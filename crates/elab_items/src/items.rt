@@ -25,7 +25,7 @@ pub fn build_items(
     items: &[FlatItem],
 ) -> Result<(), BuildError>
     requires stands { Stands (flat_of flat.now).places builder.old }
-    requires serves { Serves (flat_of flat.now).places builder.old desk.old }
+    requires serves { Serves inputs.now (flat_of flat.now).places builder.old desk.old }
     ensures built { OnOk result (BuildsAll inputs.now (flat_of flat.now) (clocks_in clocks.now) items.now builder.old builder.new) }
     ensures fails { IfErr result (λ e. FailsSome inputs.now (flat_of flat.now) (clocks_in clocks.now) items.now builder.old e) }
 {

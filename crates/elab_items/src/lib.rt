@@ -11,6 +11,8 @@ mod item;
 mod items;
 mod laws;
 mod left;
+mod notes;
+mod numbers;
 mod run;
 mod sides;
 mod signals;

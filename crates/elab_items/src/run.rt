@@ -1,5 +1,5 @@
 //! Processes of a flattened design.
-ghost use Rattle.std.specs.Prelude.{◌≡◌, IfErr, OnOk};
+ghost use Rattle.std.specs.Prelude.{◌≡◌, Bool, List, IfErr, OnOk};
 ghost use Rattle.vlog_meaning.specs.Scopes.{names_of};
 ghost use Rattle.elab_expr.specs.Building.{HasSignals};
 ghost use Rattle.elab_proc.specs.Refusals.{AreSized};
@@ -7,12 +7,12 @@ ghost use Rattle.flat_assigns.specs.Built.{IsReady};
 ghost use Rattle.process_cells.specs.Ready.{HasPlaces};
 ghost use Rattle.flat_items.specs.Views.{flat_of};
 ghost use Rattle.flat_instances.specs.declared.item.FlatItem.TheVariants.{Runs};
-ghost use Rattle.elab_items.specs.Desks.{Serves};
+ghost use Rattle.elab_items.specs.Desks.{Holds, Serves};
 ghost use Rattle.elab_items.specs.Items.{Builds, BuildsProcess, Fails, FailsProcess, Stands, process_error};
+ghost use Rattle.elab_items.specs.Writers.{TellsWriters};
 
 use crate::desk::Desk;
 use crate::error::{BuildError, Reason};
-use crate::writers::writers;
 use elab_expr::{Builder, ElabError};
 use flat_items::Flat;
 use proc_muxes::Variables;
@@ -30,12 +30,12 @@ fn process_error(error: ElabError) -> BuildError
     }
 }
 
-/// Builds a process that is read in a scope.
+/// Builds a process that is read in a scope. `written` tells which signals have a writer.
 #[tactic(auto, using(crate::proofs::Running::process_built, crate::proofs::Running::process_refused, crate::proofs::Running::process_fails))]
 fn build_in(
     builder: &mut Builder,
     waiting: &mut Variables,
-    inputs: &[bool],
+    written: &[bool],
     scope: &mut Scope,
     process: &Process,
 ) -> Result<(), BuildError>
@@ -43,13 +43,12 @@ fn build_in(
     requires sized { AreSized (names_of scope.old) }
     requires signals { HasSignals (names_of scope.old) builder.old }
     requires places { HasPlaces builder.old waiting.old }
-    ensures built { OnOk result (BuildsProcess inputs.now (names_of scope.old) process.now builder.old builder.new) }
-    ensures fails { IfErr result (λ e. FailsProcess inputs.now (names_of scope.old) process.now builder.old e) }
+    ensures built { OnOk result ((inputs : List Bool) → TellsWriters builder.old inputs written.now → BuildsProcess inputs (names_of scope.old) process.now builder.old builder.new) }
+    ensures fails { IfErr result (λ e. (inputs : List Bool) → TellsWriters builder.old inputs written.now → FailsProcess inputs (names_of scope.old) process.now builder.old e) }
     ensures kept { OnOk result (names_of scope.new ≡ names_of scope.old) }
     ensures places { OnOk result (HasPlaces builder.new waiting.new) }
 {
-    let written = writers(builder, inputs)?;
-    match build_process(builder, waiting, scope, process, written.as_slice()) {
+    match build_process(builder, waiting, scope, process, written) {
         Ok(found) => match found {
             None => Ok(()),
             Some(refusal) => Err(BuildError::Refused(Reason::Found(refusal))),
@@ -69,10 +68,11 @@ pub(crate) fn build_run(
     process: &Process,
 ) -> Result<(), BuildError>
     requires stands { Stands (flat_of flat.now).places builder.old }
-    requires serves { Serves (flat_of flat.now).places builder.old desk.old }
+    requires serves { Serves inputs.now (flat_of flat.now).places builder.old desk.old }
     ensures built { OnOk result (Builds inputs.now (flat_of flat.now).places (Runs place process.now) builder.old builder.new) }
     ensures fails { IfErr result (λ e. Fails inputs.now (flat_of flat.now).places (Runs place process.now) builder.old e) }
-    ensures serves { OnOk result (Serves (flat_of flat.now).places builder.new desk.new) }
+    ensures holds { OnOk result (Holds (flat_of flat.now).places builder.new desk.new) }
+    ensures written { OnOk result (desk.new.written.items ≡ desk.old.written.items) }
 {
     if place as usize >= desk.scopes.len() {
         return Err(BuildError::Memory);
@@ -80,7 +80,7 @@ pub(crate) fn build_run(
     build_in(
         builder,
         &mut desk.waiting,
-        inputs,
+        desk.written.as_slice(),
         &mut desk.scopes[place as usize],
         process,
     )

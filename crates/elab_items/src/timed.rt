@@ -24,7 +24,6 @@ use flat_instances::FlatItem;
 use flat_items::Flat;
 
 /// The first by place of what is found in an item and of how it misuses the clock.
-#[tactic(auto, using(crate::proofs::Timing::own_first))]
 fn first_found(own: Refusal, late: Option<Refusal>) -> Reason
     ensures { (clock : List Told) → IsFirst clock late → IsSooner (Some (Found own)) clock (Some result) }
 {
@@ -70,16 +69,20 @@ pub(crate) fn build_timed(
     item: &FlatItem,
 ) -> Result<(), BuildError>
     requires stands { Stands (flat_of flat.now).places builder.old }
-    requires serves { Serves (flat_of flat.now).places builder.old desk.old }
+    requires serves { Serves inputs.now (flat_of flat.now).places builder.old desk.old }
     ensures built { OnOk result (BuildsTimed inputs.now (flat_of flat.now) (clocks_in clocks.now) item.now builder.old builder.new) }
     ensures fails { IfErr result (λ e. FailsTimed inputs.now (flat_of flat.now) (clocks_in clocks.now) item.now builder.old e) }
-    ensures serves { OnOk result (Serves (flat_of flat.now).places builder.new desk.new) }
+    ensures serves { OnOk result (Serves inputs.now (flat_of flat.now).places builder.new desk.new) }
 {
     let late = clocks.clock_refusal(builder.alloc(), flat, item)?;
     match build_item(builder, desk, inputs, flat, item) {
         Ok(()) => match late {
             Some(first) => Err(BuildError::Refused(Reason::Found(first))),
-            None => Ok(()),
+            None => {
+                // What was built has at most as many cells as fit.
+                let _cells = builder.cells();
+                Ok(())
+            }
         },
         Err(error) => Err(timed_error(error, late)),
     }

@@ -1,5 +1,5 @@
 //! Which signals have a writer already.
-ghost use Rattle.std.specs.Prelude.{◌↔◌, ◌<◌, false, IsTrue, IfOk, length, slice_index_or};
+ghost use Rattle.std.specs.Prelude.{◌≡◌, ◌↔◌, ◌<◌, false, IsTrue, IfOk, length, slice_index_or};
 ghost use Rattle.elab_expr.specs.Building.{signal};
 ghost use Rattle.elab_items.specs.Writers.{HasWriter, IsBitWritten, SomeBitWritten, TellsWriters};
 
@@ -52,7 +52,8 @@ pub(crate) fn has_writer(builder: &Builder, inputs: &[bool], number: u32) -> boo
 
 /// Tells of each signal whether it has a writer.
 pub(crate) fn writers(builder: &Builder, inputs: &[bool]) -> Result<Vec<bool>, AllocError>
-    ensures { IfOk result (λ written. TellsWriters builder.now inputs.now written.items) }
+    ensures count { IfOk result (λ written. length written.items ≡ length builder.now.signals) }
+    ensures tells { IfOk result (λ written. TellsWriters builder.now inputs.now written.items) }
 {
     let mut written = Vec::new(builder.alloc());
     for number in 0..builder.signal_count() {

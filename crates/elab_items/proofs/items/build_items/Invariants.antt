@@ -11,7 +11,7 @@ use Rattle.elab_items.proofs.items.build_items.Given as goal
 abbrev pub invariant-loop-rest : goal.invariant-loop-rest
 invariant-loop-rest l = record {
   stands : Stands (flat_of l.flat).places l.builder;
-  serves : Serves (flat_of l.flat).places l.builder l.desk;
+  serves : Serves l.inputs (flat_of l.flat).places l.builder l.desk;
   built : (new : Building) → BuildsAll l.inputs (flat_of l.flat) (clocks_in l.clocks) l.rest l.builder new → BuildsAll l.inputs (flat_of l.flat) (clocks_in l.clocks) l.initial.rest l.initial.builder new;
   fails : (error : BuildError) → FailsSome l.inputs (flat_of l.flat) (clocks_in l.clocks) l.rest l.builder error → FailsSome l.inputs (flat_of l.flat) (clocks_in l.clocks) l.initial.rest l.initial.builder error;
 }
