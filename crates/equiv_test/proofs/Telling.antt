@@ -1,6 +1,6 @@
 -- What a verdict tells, and how a search goes on.
 use Rattle.std.proofs.Common.{◌≡◌, ℕ, ◌<◌, ◌^◌, List, Option, Some, None, refl, sym, ap, subst, ◌∙◌, ℤ}
-use Rattle.std.specs.Prelude.{IsSome, MatchOption, slice_get}
+use Rattle.std.specs.Prelude.{Result, Ok, Err, IsSome, MatchOption, IfOk, slice_get}
 use Rattle.clause_store.specs.Clauses.{Values, IsModel}
 use Rattle.netlist_core.specs.declared.raw.RawNetlist.{RawNetlist}
 use Rattle.netlist_core.specs.Checked.{Plan, free_bits}
@@ -15,7 +15,7 @@ use Rattle.equiv_test.specs.declared.verdict.DiffPlace.TheVariants.{Output, Regi
 use Rattle.equiv_test.specs.declared.verdict.Difference.{Difference}
 use Rattle.equiv_test.specs.declared.verdict.EqVerdict.TheVariants.{NoChange, Change, Unknown}
 use Rattle.equiv_test.specs.Verdicts.{DifferAt, Shows, IsOfPair, Tells}
-use Rattle.equiv_test.specs.Jobs.{IsPairSearch}
+use Rattle.equiv_test.specs.Jobs.{IsPairSearch, HasSeen}
 
 -- netlists that differ somewhere are not equal in one step
 pub not-equal : (a b : RawNetlist) (inputs state : List ℕ) (place : DiffPlace) → DifferAt a b inputs state place → ¬ OneStepEqual (design a) (design b)
@@ -34,10 +34,17 @@ pub is-found : (a b : RawNetlist) (inputs state : List ℕ) (found : Option Diff
 is-found a b inputs state None differ told = absurd (told differ)
 is-found a b inputs state (Some d) differ told = refl
 
+pub tells-seen : (a b : Plan) (limit : ℕ) (d : Difference) → Shows a.raw b.raw d → Tells a b limit (Change d)
+tells-seen a b limit d shows = (shows, not-equal a.raw b.raw _ _ d.place shows.differ)
+
 pub tells-change : (a b : Plan) (limit : ℕ) (inputs state : List ℕ) (found : Option Difference) (d : Difference) → found ≡ Some d → MatchOption found (¬ Differ a.raw b.raw inputs state) (Shows a.raw b.raw) → Tells a b limit (Change d)
-tells-change a b limit inputs state found d is told =
-    let shows : Shows a.raw b.raw d = some-is (Shows a.raw b.raw) (¬ Differ a.raw b.raw inputs state) found d is told in
-    (shows, not-equal a.raw b.raw _ _ d.place shows.differ)
+tells-change a b limit inputs state found d is told = tells-seen a b limit d (some-is (Shows a.raw b.raw) (¬ Differ a.raw b.raw inputs state) found d is told)
+
+-- what simulation found was seen
+pub found-seen : {E : Type 0} (a b : RawNetlist) (N : Type 0) (found : Result (Option Difference) E) → IfOk found (λ o. MatchOption o N (Shows a b)) → IfOk found (HasSeen a b)
+found-seen a b N (Ok (Some d)) shows = shows
+found-seen a b N (Ok None) none = tt
+found-seen a b N (Err e) told = tt
 
 -- a model of the search's clauses is a difference
 pub model-differs : (a b : Plan) (clauses : List (List ℤ)) (values : Values) → TellDifferences a.raw b.raw (pair_clauses a b) → clauses ≡ pair_clauses a b → IsModel values clauses → Differ a.raw b.raw (input_numbers a.raw values) (register_numbers a.raw values)

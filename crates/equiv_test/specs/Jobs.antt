@@ -1,11 +1,14 @@
 -- What a job of an equivalence test is.
 use Rattle.std.specs.Prelude.{◌≡◌, ℕ, ◌≤◌, List, [], ◌++◌, length, ℤ, Option, Some, None, MatchOption, ⊤}
+use Rattle.netlist_core.specs.declared.raw.RawNetlist.{RawNetlist}
 use Rattle.netlist_core.specs.Checked.{Plan, IsSound, free_bits}
 use Rattle.sat_solver.specs.Found.{Hunt, IsRunning}
 use Rattle.pair_gates.specs.Matching.{AreAlike}
 use Rattle.pair_gates.specs.Copies.{pair_clauses}
 use Rattle.pair_gates.specs.Differences.{TellDifferences}
 use Rattle.pair_gates.specs.Refusals.{max_free}
+use Rattle.equiv_test.specs.declared.verdict.Difference.{Difference}
+use Rattle.equiv_test.specs.Verdicts.{Shows}
 
 -- Two netlists, how many lemmas there may be, and the search, until something is found.
 pub record Job : Type 0 where
@@ -53,11 +56,16 @@ pub record IsPairSearch (a b : Plan) (most : ℕ) (hunt : Hunt) : Type 0 where
   pub free : hunt.log.free ≡ free_bits a.raw
   pub limit : hunt.limit ≡ most
 
--- what holds between the calls
-pub record IsJob (job : Job) : Type 0 where
+-- what simulation has shown, if it has shown something
+abbrev pub HasSeen : RawNetlist → RawNetlist → Option Difference → Type 0
+HasSeen a b seen = MatchOption seen ⊤ (Shows a b)
+
+-- what holds between the calls, with what simulation has shown
+pub record IsJob (job : Job) (difference : Option Difference) : Type 0 where
   pub original : IsSound job.original
   pub mutant : IsSound job.mutant
   pub alike : AreAlike job.original.raw job.mutant.raw
   pub few_free : free_bits job.original.raw ≤ max_free
   pub tell : TellDifferences job.original.raw job.mutant.raw (pair_clauses job.original job.mutant)
   pub search : MatchOption job.search ⊤ (IsPairSearch job.original job.mutant job.limit)
+  pub seen : HasSeen job.original.raw job.mutant.raw difference

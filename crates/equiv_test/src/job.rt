@@ -1,15 +1,18 @@
 //! The job of an equivalence test: a search of the clauses of a pair of netlists, and simulators of both for the place of a
 //! difference.
 //!
-//! Invariant: the netlists have the same ports and registers and at most 2,048 free bits, and the search is one of their
-//! clauses. There is a search until something is found. Contracts see the netlists, the limit and the search.
+//! Patterns are simulated before the search begins, and what they have shown is kept in `seen` until the first turn.
+//! Invariant: the netlists have the same ports and registers and at most 2,048 free bits, the search is one of their
+//! clauses, and `seen` is a difference of theirs. There is a search until something is found. Contracts see the netlists,
+//! the limit and the search.
 ghost use Rattle.std.specs.Prelude.{◌≡◌, ℕ, ◌+◌, ◌<◌, ◌≤◌, length, IfOk, IfErr, OnOk, OnErr, IfSome, MatchOption, ⊤};
 ghost use Rattle.pair_gates.specs.Refusals.{IsRefused, IsAccepted};
 ghost use Rattle.equiv_test.specs.Jobs.{IsNew, IsGoing, IsSameTest, GoesOn, lemmas_of};
 ghost use Rattle.equiv_test.specs.Verdicts.{Tells};
 
+use crate::patterns::seen_difference;
 use crate::turning::{Turned, take_turn};
-use crate::verdict::EqVerdict;
+use crate::verdict::{Difference, EqVerdict};
 use cycle_sim::Sim;
 use netlist_core::Netlist;
 use pair_gates::{EncodeError, encode};
@@ -24,6 +27,7 @@ pub struct EqJob {
     original: Sim,
     mutant: Sim,
     limit: u32,
+    seen: Option<Difference>,
     search: Option<Search>,
 }
 
@@ -34,7 +38,7 @@ impl Model for EqJob {
 
     ghost view = { λ j. record { original = j.original.plan; mutant = j.mutant.plan; limit = j.limit; search = j.search } };
 
-    ghost invariant = { λ j. IsJob (record { original = j.original.plan; mutant = j.mutant.plan; limit = j.limit; search = j.search }) };
+    ghost invariant = { λ j. IsJob (record { original = j.original.plan; mutant = j.mutant.plan; limit = j.limit; search = j.search }) j.seen };
 }
 
 impl EqJob {
@@ -54,16 +58,16 @@ impl EqJob {
         let _parts = original.raw();
         let _others = mutant.raw();
         let miter = encode(alloc, original, mutant)?;
+        let mut first = simulator(alloc, original)?;
+        let mut second = simulator(alloc, mutant)?;
+        let seen = seen_difference(alloc, &mut first, &mut second, &miter)?;
         let search = Search::new(alloc, miter, limit)?;
-        let first = original.copy(alloc)?;
-        let first = Sim::new(alloc, first)?;
-        let second = mutant.copy(alloc)?;
-        let second = Sim::new(alloc, second)?;
         Ok(EqJob {
             alloc,
             original: first,
             mutant: second,
             limit,
+            seen,
             search: Some(search),
         })
     }
@@ -79,6 +83,9 @@ impl EqJob {
         ensures err { OnErr result (GoesOn self.old self.new conflicts) }
     {
         let search = self.search.take().unwrap();
+        if let Some(difference) = self.seen.take() {
+            return Ok(Some(EqVerdict::Change(difference)));
+        }
         match take_turn(
             self.alloc,
             &mut self.original,
@@ -98,4 +105,12 @@ impl EqJob {
             }
         }
     }
+}
+
+/// A simulator of the netlist.
+fn simulator(alloc: Global, netlist: &Netlist) -> Result<Sim, AllocError>
+    ensures { IfOk result (λ s. s.plan ≡ netlist.now) }
+{
+    let netlist = netlist.copy(alloc)?;
+    Sim::new(alloc, netlist)
 }

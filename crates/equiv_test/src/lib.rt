@@ -2,6 +2,7 @@
 #![tactic(auto)]
 
 mod job;
+mod patterns;
 mod place;
 mod turning;
 mod verdict;

@@ -1,9 +1,11 @@
 use Rattle.std.proofs.Common.{◌≡◌, Option, Some, refl, sym, ap, subst, ◌∙◌}
 use Rattle.std.specs.Prelude.{MatchOption, ⊤}
+use Rattle.netlist_core.specs.Checked.{Plan}
 use Rattle.sat_solver.specs.Found.{Hunt, IsRunning}
+use Rattle.equiv_test.specs.declared.verdict.EqVerdict.TheVariants.{Change}
 use Rattle.equiv_test.specs.Jobs.{Job, IsPairSearch}
-use Rattle.equiv_test.specs.Verdicts.{Tells}
-use Rattle.equiv_test.proofs.Telling.{some-is, still-pair}
+use Rattle.equiv_test.specs.Verdicts.{Shows, Tells}
+use Rattle.equiv_test.proofs.Telling.{some-is, still-pair, tells-seen}
 use Rattle.equiv_test.proofs.Going.{going-some, taken-running, still-job, goes-on, goes-long}
 use Rattle.equiv_test.proofs.job.EqJob.turn.Goals as goal
 
@@ -21,25 +23,45 @@ pub take_turn-requires-clause-pair : goal.take_turn-requires-clause-pair
 take_turn-requires-clause-pair c =
     some-is (IsPairSearch c.self.inside.original.plan c.self.inside.mutant.plan c.self.inside.limit) ⊤ c.self.inside.search c.unwrap-search.result (sym c.take.ensures.value ∙ c.unwrap-search.ensures) c.self.invariant.search
 
-pub invariant_of-self : goal.invariant_of-self
-invariant_of-self c =
+pub invariant_of-self-in-Unfinished : goal.invariant_of-self-in-Unfinished
+invariant_of-self-in-Unfinished c =
     let was : Job = record { original = c.self.inside.original.plan; mutant = c.self.inside.mutant.plan; limit = c.self.inside.limit; search = c.self.inside.search } in
     let pair : IsPairSearch was.original was.mutant was.limit c.unwrap-search.result = some-is (IsPairSearch was.original was.mutant was.limit) ⊤ c.self.inside.search c.unwrap-search.result (sym c.take.ensures.value ∙ c.unwrap-search.ensures) c.self.invariant.search in
-    still-job was c.take_turn.new.original.plan c.take_turn.new.mutant.plan (Some c.in-Unfinished.search) c.take_turn.ensures.original c.take_turn.ensures.mutant c.self.invariant
-    (still-pair was.original was.mutant was.limit c.args.conflicts c.unwrap-search.result c.in-Unfinished.search pair c.in-Unfinished.ensures.turns.0.1)
+    still-job was c.self.inside.seen c.take-2.new.self c.take_turn.new.original.plan c.take_turn.new.mutant.plan (Some c.in-Unfinished.search) c.take_turn.ensures.original c.take_turn.ensures.mutant c.self.invariant
+    (still-pair was.original was.mutant was.limit c.args.conflicts c.unwrap-search.result c.in-Unfinished.search pair c.in-Unfinished.ensures.turns.0.1) c.take-2.ensures.after
 
 pub invariant_of-self-in-Finished : goal.invariant_of-self-in-Finished
 invariant_of-self-in-Finished c =
     let was : Job = record { original = c.self.inside.original.plan; mutant = c.self.inside.mutant.plan; limit = c.self.inside.limit; search = c.self.inside.search } in
-    still-job was c.take_turn.new.original.plan c.take_turn.new.mutant.plan c.take.new.self c.take_turn.ensures.original c.take_turn.ensures.mutant c.self.invariant
-    (subst (λ (o : Option Hunt). MatchOption o ⊤ (IsPairSearch was.original was.mutant was.limit)) (sym c.take.ensures.after) tt)
+    still-job was c.self.inside.seen c.take-2.new.self c.take_turn.new.original.plan c.take_turn.new.mutant.plan c.take.new.self c.take_turn.ensures.original c.take_turn.ensures.mutant c.self.invariant
+    (subst (λ (o : Option Hunt). MatchOption o ⊤ (IsPairSearch was.original was.mutant was.limit)) (sym c.take.ensures.after) tt) c.take-2.ensures.after
 
 pub invariant_of-self-in-OutOfMemory : goal.invariant_of-self-in-OutOfMemory
 invariant_of-self-in-OutOfMemory c =
     let was : Job = record { original = c.self.inside.original.plan; mutant = c.self.inside.mutant.plan; limit = c.self.inside.limit; search = c.self.inside.search } in
     let pair : IsPairSearch was.original was.mutant was.limit c.unwrap-search.result = some-is (IsPairSearch was.original was.mutant was.limit) ⊤ c.self.inside.search c.unwrap-search.result (sym c.take.ensures.value ∙ c.unwrap-search.ensures) c.self.invariant.search in
-    still-job was c.take_turn.new.original.plan c.take_turn.new.mutant.plan (Some c.in-OutOfMemory.search) c.take_turn.ensures.original c.take_turn.ensures.mutant c.self.invariant
-    (still-pair was.original was.mutant was.limit c.args.conflicts c.unwrap-search.result c.in-OutOfMemory.search pair c.in-OutOfMemory.ensures.turns.1)
+    still-job was c.self.inside.seen c.take-2.new.self c.take_turn.new.original.plan c.take_turn.new.mutant.plan (Some c.in-OutOfMemory.search) c.take_turn.ensures.original c.take_turn.ensures.mutant c.self.invariant
+    (still-pair was.original was.mutant was.limit c.args.conflicts c.unwrap-search.result c.in-OutOfMemory.search pair c.in-OutOfMemory.ensures.turns.1) c.take-2.ensures.after
+
+pub invariant_of-self : goal.invariant_of-self
+invariant_of-self c =
+    let was : Job = record { original = c.self.inside.original.plan; mutant = c.self.inside.mutant.plan; limit = c.self.inside.limit; search = c.self.inside.search } in
+    still-job was c.self.inside.seen c.take-2.new.self was.original was.mutant c.take.new.self refl refl c.self.invariant
+    (subst (λ (o : Option Hunt). MatchOption o ⊤ (IsPairSearch was.original was.mutant was.limit)) (sym c.take.ensures.after) tt) c.take-2.ensures.after
+
+pub returns-in-Some-clause-same : goal.returns-in-Some-clause-same
+returns-in-Some-clause-same c = record {
+  original = ap (λ (j : Job). j.original) c.self.view_is;
+  mutant = ap (λ (j : Job). j.mutant) c.self.view_is;
+  limit = ap (λ (j : Job). j.limit) c.self.view_is;
+}
+
+pub returns-in-Some-clause-told : goal.returns-in-Some-clause-told
+returns-in-Some-clause-told c =
+    let a : Plan = c.self.inside.original.plan in
+    let b : Plan = c.self.inside.mutant.plan in
+    let shows : Shows a.raw b.raw c.in-Some.difference = some-is (Shows a.raw b.raw) ⊤ c.self.inside.seen c.in-Some.difference (sym c.take-2.ensures.value ∙ c.in-Some.is) c.self.invariant.seen in
+    subst (λ (j : Job). Tells j.original j.mutant j.limit (Change c.in-Some.difference)) c.self.view_is (tells-seen a b c.self.inside.limit c.in-Some.difference shows)
 
 pub returns-in-Unfinished-clause-same : goal.returns-in-Unfinished-clause-same
 returns-in-Unfinished-clause-same c = record {
