@@ -6,3 +6,4 @@ pub mod Refusing
 pub mod Meaning
 pub mod Building
 pub mod Stopping
+pub mod Built

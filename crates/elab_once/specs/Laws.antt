@@ -11,6 +11,7 @@ use Rattle.elab_items.specs.declared.error.BuildError.{BuildError}
 use Rattle.elab_items.specs.declared.error.Reason.{Reason}
 use Rattle.elab_items.specs.Designs.{IsDesign}
 use Rattle.elab_items.specs.Items.{Stands}
+use Rattle.elab_items.specs.Laid.{lay_items}
 use Rattle.elab_items.specs.Timed.{BuildsAll, FailsSome, RefusesTimed}
 use Rattle.elab_once.specs.Alike.{AreAlike}
 use Rattle.elab_once.specs.Reasons.{AreOneAnswer, IsLimit}
@@ -42,3 +43,11 @@ StopsOnce = (inputs : List Bool) (flat : Flat) (clocks : Clocks) (items : List F
 -- A flattened design means one design.
 abbrev pub HasOneMeaning : Type 0
 HasOneMeaning = (ports : List Identifier) (clock : Option ℕ) (flat : Flat) (design other : Design) → IsDesign ports clock flat design → IsDesign ports clock flat other → design ≡ other
+
+-- Where all items are built, the builder is the one in which they are laid, one after the other.
+abbrev pub ItemsAreLaid : Type 0
+ItemsAreLaid = (inputs : List Bool) (flat : Flat) (clocks : Clocks) (items : List FlatItem) (b last : Building) → BuildsAll inputs flat clocks items b last → last ≡ lay_items flat.places items b
+
+-- So what the same items leave of one builder is one: its cells, their wiring, its joints and its registers.
+abbrev pub BuiltOnce : Type 0
+BuiltOnce = (inputs : List Bool) (flat : Flat) (clocks : Clocks) (items : List FlatItem) (b last end : Building) → BuildsAll inputs flat clocks items b last → BuildsAll inputs flat clocks items b end → last ≡ end
