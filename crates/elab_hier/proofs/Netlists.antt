@@ -29,7 +29,7 @@ use Rattle.elab_lefts.specs.Lefts.{design_lefts}
 use Rattle.elab_lefts.specs.Laws.{BuiltAreCovered}
 use Rattle.elab_writers.specs.Laws.{BuildersAreOfDesigns, DesignsCanFinish}
 use Rattle.elab_writers.specs.Numbers.{AreFlagged, declared_numbers, input_numbers, output_numbers}
-use Rattle.elab_hier.specs.Tops.{AreFlags, Source, all_inputs, clock, clock_name, inputs, outputs}
+use Rattle.elab_hier.specs.Tops.{AreFlags, Source, all_inputs, clock_name, inputs, outputs}
 use Rattle.elab_hier.specs.Elaborations.{CanRun, Ends, HasNetlist}
 use Rattle.elab_hier.specs.Refusals.{RefusesEnd, end}
 use Rattle.elab_hier.specs.Parts.{IsBuilt, IsNetlistOf, IsRefusalOf, IsRefusedAs, source_of}
@@ -105,15 +105,15 @@ module _ (flat : Flat) (ports : List Identifier) (flags : List Bool) (sound : Is
       record { flags = flags; are_flags = are; has_netlist = has }
 
   -- there is none
-  pub not_ended : (top : List ℕ) (name : Option (List ℕ)) (ins outs ks : List ℕ) (lefts : List Left) (error : ElabError)
+  pub not_ended : ItemsAreAdded → (top : List ℕ) (name : Option (List ℕ)) (ins outs ks : List ℕ) (lefts : List Left) (error : ElabError)
       → name ≡ clock_name (source_of flat ports flags) → ins ≡ input_numbers ports (clocks_of flags flat).clock flat → outs ≡ output_numbers ports flat → ks ≡ declared_numbers flat.items → lefts ≡ design_lefts flat
       → IsRefusedAs last top name ins outs ks lefts error → IsRefusalOf flat ports top error
-  not_ended top name ins outs ks lefts error name_is in_is out_is k_is left_is refused =
+  not_ended items top name ins outs ks lefts error name_is in_is out_is k_is left_is refused =
       let source : Source = source_of flat ports flags in
       let a = subst (λ (n : Option (List ℕ)). IsRefused last top n ins outs ks lefts refused.0) name_is refused.1 in
       let b = subst (λ (l : List ℕ). IsRefused last top (clock_name source) l outs ks lefts refused.0) in_is a in
       let c = subst (λ (l : List ℕ). IsRefused last top (clock_name source) (inputs source) l ks lefts refused.0) out_is b in
       let d = subst (λ (l : List ℕ). IsRefused last top (clock_name source) (inputs source) (outputs source) l lefts refused.0) k_is c in
       let e = subst (λ (l : List Left). IsRefused last top (clock_name source) (inputs source) (outputs source) (declared_numbers flat.items) l refused.0) left_is d in
-      let refuses : RefusesEnd source top error = record { first = built.first; begins = built.begun.begins; last = last; builds = built.builds; reason = refused.0; refused = e; answers = refused.2 } in
+      let refuses : RefusesEnd source top error = record { first = built.first; begins = built.begun.begins; starts = (added items).3; last = last; builds = built.builds; reason = refused.0; refused = e; answers = refused.2 } in
       inl (record { flags = flags; are_flags = are; refuses = end error refuses })

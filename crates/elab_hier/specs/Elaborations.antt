@@ -1,9 +1,9 @@
 -- What modules are elaborated to: the netlist of their source.
 --
--- Which cells and registers it has, in which order and at which places, is said item by item: the signals are declared in the order
--- of their numbers, the items are built one after the other, each with its own cells (`BuildsAll`), and what was built is ended
--- (`IsEnding`): cells stay in their order, and registers stand in the order in which their signals are declared. What the netlist
--- does is said by the source: it has just its runs.
+-- Which cells, wires and registers it has, in which order and at which places, is said item by item: the signals are declared in the
+-- order of their numbers, the items are built one after the other, each as `lay_item` of `elab_items` lays it (`BuildsAll`), and what
+-- was built is ended (`IsEnding`): cells stay in their order, and registers stand in the order in which their signals are declared.
+-- What the netlist does is said by the source: it has just its runs.
 use Rattle.std.specs.Prelude.{ℕ, ◌≤◌, Bool, List}
 use Rattle.netlist_core.specs.declared.raw.RawNetlist.{RawNetlist}
 use Rattle.netlist_core.specs.Checked.{IsSound}

@@ -8,6 +8,7 @@ use Rattle.flat_scopes.specs.declared.signal.Signal.{Signal}
 use Rattle.flat_instances.specs.declared.error.ItemError.{ItemError}
 use Rattle.flat_items.specs.Flattened.{Flat, module_at}
 use Rattle.flat_clocks.specs.Clocks.{clocks_of}
+use Rattle.process_cells.specs.Starts.{StartsWith}
 use Rattle.elab_items.specs.declared.answer.ElabError.{ElabError}
 use Rattle.elab_items.specs.declared.answer.ElabError.TheVariants.{NoTop, TooMany, Loop, Memory}
 use Rattle.elab_items.specs.declared.error.BuildError.{BuildError}
@@ -16,6 +17,7 @@ use Rattle.elab_items.specs.Answers.{item_answer, reason_answer}
 use Rattle.elab_items.specs.Designs.{widths_of}
 use Rattle.elab_items.specs.Full.{listed_before}
 use Rattle.elab_items.specs.Signals.{bits_of, max_bits}
+use Rattle.elab_items.specs.Starts.{start_values}
 use Rattle.elab_items.specs.Timed.{FailsSome}
 use Rattle.elab_finish.specs.declared.error.DesignError.{DesignError}
 use Rattle.elab_finish.specs.declared.error.DesignError.TheVariants as ending
@@ -55,11 +57,12 @@ pub record RefusesItem (flat : Flat) (flags : List Bool) (error : ElabError) : T
   pub fails : FailsSome flags flat (clocks_of flags flat) flat.items first reason
   pub answers : error ≡ build_answer flat.signals reason
 
--- All items are built, and there is no netlist: nets loop, at the first left side that is on a loop; or there are too many bits; or
+-- All items are built, in the builder with the start values of the source, and there is no netlist: nets loop, at the first left side that is on a loop; or there are too many bits; or
 -- cells loop, at the least numbered one.
 pub record RefusesEnd (source : Source) (top : List ℕ) (error : ElabError) : Type 0 where
   pub first : Building
   pub begins : HasSignals source.flat first
+  pub starts : StartsWith first (start_values (widths_of source.flat.signals) source.flat.places source.flat.items)
   pub last : Building
   pub builds : HasItems source.flat source.flags first last
   pub reason : DesignError

@@ -61,6 +61,6 @@ returns-clause-refused c =
     let name_is = c.in_ok-lists.ensures.clock ∙ ap (option_map (name_of flat.signals)) clock_is in
     IfErr-weaker c.end.result _ (IsRefusalOf flat ports c.args.top.now)
     (λ e refused. subst (λ (t : List ℕ). IsRefusalOf flat ports t e) c.in_ok-name.ensures
-    (not_ended flat ports c.as_slice-flags.result.now c.requires are c.in_ok-builder.builder c.in_ok-builder.ensures.built
+    (not_ended flat ports c.as_slice-flags.result.now c.requires are c.in_ok-builder.builder c.in_ok-builder.ensures.built items_added
     c.in_ok-name.name lists.clock lists.inputs.items c.as_slice-2.result.now lists.declared.items lists.lefts.items e name_is in_is (c.as_slice-2.ensures.value ∙ c.in_ok-ports.ensures.outputs) c.in_ok-lists.ensures.declared c.in_ok-lists.ensures.lefts refused))
     c.end.ensures.refused
