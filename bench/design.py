@@ -3,6 +3,7 @@
 stages, each a module of its own with assigns, a combinational and a clocked process.
 
 usage: bench/design.py SIZE >FILE          a design of at most SIZE bytes
+       bench/design.py parts SIZE >FILE    a design of at most SIZE bytes, of as many small modules as there is room for
        bench/design.py states N >FILE      a machine of N states with outputs of 16 bits
 """
 
@@ -84,6 +85,33 @@ def design(size):
     return "".join(stages) + HEAD + "".join(instances) + end
 
 
+PART = """\
+module part_<N> (input [7:0] a, output [7:0] y);
+  assign y = a + 8'd<V>;
+endmodule
+"""
+
+PART_INSTANCE = """\
+  wire [7:0] w_<M>;
+  part_<N> u_<N> (.a(w_<N>), .y(w_<M>));
+"""
+
+
+def parts(size):
+    """As many modules of one assign as there is room for, each with an instance."""
+    modules, instances = [], []
+    head = "// Made by bench/design.py.\nmodule top (input [7:0] a, output [7:0] y);\n  wire [7:0] w_0 = a;\n"
+    used = len(head) + 50
+    for n in range(size):
+        module, instance = filled(PART, n), filled(PART_INSTANCE, n)
+        used += len(module) + len(instance)
+        if used > size:
+            break
+        modules.append(module)
+        instances.append(instance)
+    return "".join(modules) + head + "".join(instances) + f"  assign y = w_{len(modules)};\nendmodule\n"
+
+
 def states(count):
     """A machine with so many states: where each goes by two inputs, and what it shows."""
     width = max((count - 1).bit_length(), 1)
@@ -110,7 +138,9 @@ def states(count):
 
 
 def main():
-    if sys.argv[1] == "states":
+    if sys.argv[1] == "parts":
+        sys.stdout.write(parts(int(sys.argv[2])))
+    elif sys.argv[1] == "states":
         sys.stdout.write(states(int(sys.argv[2])))
     else:
         sys.stdout.write(design(int(sys.argv[1])))

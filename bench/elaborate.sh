@@ -1,9 +1,9 @@
 #!/bin/bash
-# The way from the bytes of a design to its checked netlist, on designs of 64, 256, 512 and 1,024 KiB and on a machine of 500 states
-# with outputs of 16 bits, beside Yosys (`read_verilog ..; prep -top top`) on the same texts, in one run on this machine. Prints the
-# times of both steps, the ratio to Yosys, how the time for a byte grows with the size, and the most memory. Our times are the least
-# of three; Yosys runs once, and the time for an empty module is taken off, which is its start. Needs python3 and awk; without yosys
-# its part is left out.
+# The way from the bytes of a design to its checked netlist, on designs of 64, 256, 512 and 1,024 KiB, of stages and of small modules,
+# and on a machine of 500 states with outputs of 16 bits, beside Yosys (`read_verilog ..; prep -top top`) on the same texts, in one run
+# on this machine. Prints the times of both steps, the ratio to Yosys, how the time for a byte grows with the size, and the most memory.
+# Our times are the least of three; Yosys runs once, and the time for an empty module is taken off, which is its start. Needs python3
+# and awk; without yosys its part is left out.
 #
 # usage: bench/elaborate.sh [BYTES..]      65536 262144 524288 1048576 where they are left out; growth is told from the first
 set -euo pipefail
@@ -55,13 +55,21 @@ if command -v yosys >/dev/null; then
     echo 'module top; endmodule' >"$room/empty.v"
     yosys_time "$room/empty.v" >"$room/start"
 fi
-first=
-for size in "$@"; do
-    python3 "$root/bench/design.py" "$size" >"$room/source.v"
-    beside "stages"
-    [ -n "$first" ] || first=$bytes first_trees=$trees first_netlist=$netlist
-    echo "  time for a byte, beside that at $first bytes: trees $(over $((trees * first)) $((first_trees * bytes))), netlist $(over $((netlist * first)) $((first_netlist * bytes)))"
-done
+
+# Designs of all sizes, and how the time for a byte grows: `grow NAME WORD SIZE..`, where WORD is what design.py is told before a size.
+grow() {
+    name=$1 word=$2 first=
+    shift 2
+    for size; do
+        python3 "$root/bench/design.py" $word "$size" >"$room/source.v"
+        beside "$name"
+        [ -n "$first" ] || first=$bytes first_trees=$trees first_netlist=$netlist
+        echo "  time for a byte, beside that at $first bytes: trees $(over $((trees * first)) $((first_trees * bytes))), netlist $(over $((netlist * first)) $((first_netlist * bytes)))"
+    done
+}
+
+grow "stages" "" "$@"
+grow "small modules" parts "$@"
 python3 "$root/bench/design.py" states 500 >"$room/source.v"
 beside "500 states"
 echo "$(nproc) processors"

@@ -1,5 +1,6 @@
 mod Faultless
 mod Naming
+mod Numbered
 mod Rules
 mod Starting
 mod Tops

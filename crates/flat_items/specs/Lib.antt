@@ -2,3 +2,4 @@ pub mod Flattened
 pub mod Replacing
 pub mod Views
 pub mod Tops
+pub mod Numbers

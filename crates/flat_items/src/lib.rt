@@ -6,6 +6,7 @@ mod constants;
 mod flat;
 mod generate;
 mod names;
+mod numbers;
 mod placing;
 mod scope;
 mod task;

@@ -2,12 +2,14 @@
 ghost use Rattle.std.specs.Prelude.{◌≡◌, ◌∷◌, Some, slice_get, IfOk, IfSome};
 ghost use Rattle.flat_items.specs.Flattened.{add_all, module_at, is_within, placed_in};
 ghost use Rattle.flat_instances.specs.Places.{Place as Spot};
+ghost use Rattle.flat_items.specs.Numbers.{number_of, AreNumbered};
 ghost use Rattle.flat_items.specs.Replacing.{PlacesInstance, Replaces};
 ghost use Rattle.flat_items.specs.Views.{flat_of};
 ghost use Rattle.flat_items.specs.declared.task.Task.TheVariants.{Instance as Placed};
 
 use crate::flat::Flat;
 use crate::generate::one;
+use crate::numbers::ModuleNumbers;
 use crate::task::Task;
 use flat_instances::{Entered, FlatItem, ItemError, Joint, open_instance};
 use std::alloc::{AllocError, Global};
@@ -45,10 +47,14 @@ fn is_within(number: usize, within: &[usize]) -> bool
 }
 
 /// The number of the module of this name, for an instance in these modules, or why it has none.
-fn placed_in(modules: &[Module], name: &Identifier, within: &[usize]) -> Result<usize, ItemError>
-    ensures { result ≡ placed_in name.now (module_at modules.now name.now.name) within.now }
+fn placed_in(
+    numbers: &ModuleNumbers,
+    name: &Identifier,
+    within: &[usize],
+) -> Result<usize, ItemError>
+    ensures { result ≡ placed_in name.now (number_of numbers.now name.now.name) within.now }
 {
-    match module_at(modules, name.name.as_str()) {
+    match numbers.get(name.name.as_str()) {
         None => Err(ItemError::Unknown(name.span)),
         Some(number) => {
             if is_within(number, within) {
@@ -131,17 +137,19 @@ impl<'a> Flat<'a> {
     pub(crate) fn instance(
         &mut self,
         modules: &'a [Module],
+        numbers: &ModuleNumbers,
         place: u32,
         name: &'a Identifier,
         values: &'a ParameterValues,
         instance: &'a Instance,
     ) -> Result<Vec<Task<'a>>, AllocError>
+        requires { AreNumbered modules.now numbers.now }
         ensures { IfOk result (λ tasks. Replaces modules.now (Placed place name.now values.now instance.now) (flat_of self.old) tasks.items (flat_of self.new)) }
     {
         let Some(around) = self.place(place) else {
             return Err(AllocError);
         };
-        match placed_in(modules, name, around.within.as_slice()) {
+        match placed_in(numbers, name, around.within.as_slice()) {
             Err(error) => {
                 let tasks = one(self.alloc, Task::Refuses(error))?;
                 Ok(tasks)

@@ -4,11 +4,13 @@
 //! stack. Nothing is refused on the way: a refusal is an item at its place.
 ghost use Rattle.std.specs.Prelude.{◌≡◌, ◌↔◌, ◌++◌, None, Err, IfOk};
 ghost use Rattle.flat_items.specs.Flattened.{add_all, module_at};
+ghost use Rattle.flat_items.specs.Numbers.{number_of, AreNumbered};
 ghost use Rattle.flat_items.specs.Replacing.{Replaces, Flattens, is_number, repeated, top_head, FlattensModule, FlattensTop};
 ghost use Rattle.flat_items.specs.Views.{flat_of};
 ghost use Rattle.flat_items.specs.declared.walk.FlattenError.TheVariants.{NoTop};
 
 use crate::flat::Flat;
+use crate::numbers::ModuleNumbers;
 use crate::placing::{inner_modules, module_at};
 use crate::task::Task;
 use flat_instances::{FlatItem, ItemError, ports_of};
@@ -44,14 +46,17 @@ impl<'a> Flat<'a> {
     fn replace(
         &mut self,
         modules: &'a [Module],
+        numbers: &ModuleNumbers,
         task: Task<'a>,
     ) -> Result<Vec<Task<'a>>, AllocError>
+        requires { AreNumbered modules.now numbers.now }
         ensures { IfOk result (λ tasks. Replaces modules.now task.entry (flat_of self.old) tasks.items (flat_of self.new)) }
     {
         match task {
             Task::Step(place, step) => self.step(place, step),
             Task::Instance(place, name, values, instance) => {
-                self.instance(modules, place, name.get(), values.get(), instance.get())
+                let (name, values) = (name.get(), values.get());
+                self.instance(modules, numbers, place, name, values, instance.get())
             }
             Task::Generates(place, number, item) => {
                 self.generates(place, number, item.get().get())
@@ -66,7 +71,13 @@ impl<'a> Flat<'a> {
     }
 
     /// Replaces all parts.
-    fn run(&mut self, modules: &'a [Module], tasks: Vec<Task<'a>>) -> Result<(), AllocError>
+    fn run(
+        &mut self,
+        modules: &'a [Module],
+        numbers: &ModuleNumbers,
+        tasks: Vec<Task<'a>>,
+    ) -> Result<(), AllocError>
+        requires { AreNumbered modules.now numbers.now }
         ensures { IfOk result (λ done. Flattens modules.now tasks.entry.items (flat_of self.old) (flat_of self.new)) }
     {
         let mut left = VecDeque::new(self.alloc);
@@ -75,7 +86,7 @@ impl<'a> Flat<'a> {
             let Some(task) = left.pop_front() else {
                 return Ok(());
             };
-            let tasks = self.replace(modules, task)?;
+            let tasks = self.replace(modules, numbers, task)?;
             put(&mut left, tasks)?;
         }
         Err(AllocError)
@@ -83,10 +94,10 @@ impl<'a> Flat<'a> {
 }
 
 /// Whether the module of this number is the first of its name.
-fn is_first(modules: &[Module], name: &str, number: usize) -> bool
-    ensures { result ≡ is_number (module_at modules.now name.now) number }
+fn is_first(numbers: &ModuleNumbers, name: &str, number: usize) -> bool
+    ensures { result ≡ is_number (number_of numbers.now name.now) number }
 {
-    match module_at(modules, name) {
+    match numbers.get(name) {
         Some(first) => first == number,
         None => false,
     }
@@ -106,11 +117,16 @@ fn top_head<'a>(alloc: Global, declaration: &'a Module) -> Result<Head<'a>, Allo
 
 impl<'a> Flat<'a> {
     /// Lists each module whose name another has before it.
-    fn list_repeated(&mut self, modules: &'a [Module]) -> Result<(), AllocError>
+    fn list_repeated(
+        &mut self,
+        modules: &'a [Module],
+        numbers: &ModuleNumbers,
+    ) -> Result<(), AllocError>
+        requires { AreNumbered modules.now numbers.now }
         ensures { IfOk result (λ done. flat_of self.new ≡ add_all (flat_of self.old) (repeated modules.now 0 modules.now)) }
     {
         for (number, one) in modules.iter().enumerate() {
-            if !is_first(modules, one.name.as_str(), number) {
+            if !is_first(numbers, one.name.as_str(), number) {
                 self.list(FlatItem::Refuses(ItemError::Twice(one.span)))?;
             }
         }
@@ -130,13 +146,14 @@ fn flattened<'a>(
         return Err(AllocError);
     };
     let mut flat = Flat::new(alloc);
-    flat.list_repeated(modules)?;
+    let numbers = ModuleNumbers::of(alloc, modules)?;
+    flat.list_repeated(modules, &numbers)?;
     let head = top_head(alloc, declaration)?;
     let mut child = Opening::new(alloc, Scope::new(alloc), Vec::new(alloc));
     child.open_module(&head, &Scope::new(alloc), declaration)?;
     let within = inner_modules(alloc, number, &[])?;
     let tasks = flat.enter(head.prefix, None, within, child)?;
-    flat.run(modules, tasks)?;
+    flat.run(modules, &numbers, tasks)?;
     Ok(flat)
 }
 
