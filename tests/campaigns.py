@@ -166,4 +166,5 @@ def main():
             print("\n".join(both[side]))
 
 
-main()
+if __name__ == "__main__":
+    main()

@@ -268,11 +268,13 @@ cp config.mcy was && sed 's/^modes inv$/modes inv const0/' was >config.mcy
 refuses 10 "mcy: database: meta 1" "./mcy.db-wal " run
 sed 's/^eq$/run true/' was >config.mcy
 refuses 3 "mcy: config.mcy:$(grep -n '^eq$' was | cut -d: -f1): UnsupportedCommand" "" run
+sed 's/tag("NOCHANGE")/tag("OTHER")/' was >config.mcy
+refuses 4 "mcy: config.mcy:$(grep -n 'tag("NOCHANGE")' was | cut -d: -f1): UnknownTag" "" run
 {
     cat was
     echo '# more'
 } >config.mcy
-refuses 99 "mcy: not built" "" run
+refuses 10 "mcy: database: meta 1" "./mcy.db-wal " run
 {
     echo '# more'
     cat was

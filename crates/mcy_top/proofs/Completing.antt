@@ -12,11 +12,11 @@ use Rattle.command_words.specs.declared.command.Command.{Command}
 use Rattle.command_words.specs.declared.command.Command.TheVariants.{Init, Run, List as Listing, Status}
 use Rattle.mcy_top.specs.declared.prepared.Prepared.{Prepared}
 use Rattle.mcy_top.specs.declared.outcome.Refusal.{Refusal}
-use Rattle.mcy_top.specs.declared.outcome.Refusal.TheVariants.{ProjectBad as RefusedProject, SourceBad as RefusedSource, Missing as RefusedMissing, TooLarge as RefusedTooLarge, ReadFault as RefusedRead, Memory as RefusedMemory, Unbuilt as RefusedUnbuilt}
+use Rattle.mcy_top.specs.declared.outcome.Refusal.TheVariants.{ProjectBad as RefusedProject, ScriptBad as RefusedScript, SourceBad as RefusedSource, Missing as RefusedMissing, TooLarge as RefusedTooLarge, ReadFault as RefusedRead, Memory as RefusedMemory, Unbuilt as RefusedUnbuilt}
 use Rattle.mcy_top.specs.declared.outcome.BookRefusal.{BookRefusal}
 use Rattle.mcy_top.specs.declared.outcome.BookRefusal.TheVariants.{NoCampaign as RefusedNone, AlreadyBegun as RefusedBegun, BookBad as RefusedBook, Memory as NoMemory}
 use Rattle.mcy_top.specs.declared.outcome.Outcome.{Outcome}
-use Rattle.mcy_top.specs.declared.outcome.Outcome.TheVariants.{Done, Unfinished, Usage, ProjectBad, SourceBad, Missing, TooLarge, NoCampaign, AlreadyBegun, BookBad, ReadFault, KeeperFault, WriteFault, Memory, Unbuilt}
+use Rattle.mcy_top.specs.declared.outcome.Outcome.TheVariants.{Done, Unfinished, Usage, ProjectBad, ScriptBad, SourceBad, Missing, TooLarge, NoCampaign, AlreadyBegun, BookBad, ReadFault, KeeperFault, WriteFault, Memory, Unbuilt}
 use Rattle.mcy_top.specs.Limits.{max_bytes}
 use Rattle.mcy_top.specs.Commands.{stop_of}
 use Rattle.mcy_top.specs.Campaigns.{config_name, meta_of, Exceeds, IsPlan, Lacks}
@@ -57,6 +57,7 @@ unmade_not held r refusal why fault = go refusal why fault
     go (RefusedTooLarge name) why fault = let at = read_there r.map r.project r.files name r.got why.0 in absurd (exceeds_not r.map name at.0 at.1 why.1)
     go (RefusedRead name) why fault = absurd (fault name refl)
     go (RefusedProject error) why fault = absurd (at_project (RefusedProject error) why (λ is. cc))
+    go (RefusedScript error) why fault = absurd (at_project (RefusedScript error) why (λ is. cc))
     go (RefusedUnbuilt part) (inl at) fault = absurd (at_project (RefusedUnbuilt part) at (λ is. cc))
     go (RefusedUnbuilt part) (inr at) fault = absurd (at_sources (RefusedUnbuilt part) at (λ is. cc))
     go (RefusedSource error) why fault = absurd (at_sources (RefusedSource error) why (λ is. cc))
@@ -127,6 +128,7 @@ completes words held holds leaves leaves' written written' taken taken' f f' k k
     go (TooLarge name) a h e = let is : RefusedTooLarge name ≡ RefusedMemory = bad (RefusedTooLarge name) a.1 (λ n is. cc) in cc
     go (Unbuilt part) a h e = let is : RefusedUnbuilt part ≡ RefusedMemory = bad (RefusedUnbuilt part) a.1 (λ n is. cc) in cc
     go (ProjectBad error) a h e = let is : RefusedProject error ≡ RefusedMemory = bad (RefusedProject error) a.1 (λ n is. cc) in cc
+    go (ScriptBad error) a h e = let is : RefusedScript error ≡ RefusedMemory = bad (RefusedScript error) a.1 (λ n is. cc) in cc
     go (SourceBad error) a h e = let is : RefusedSource error ≡ RefusedMemory = bad (RefusedSource error) a.1 (λ n is. cc) in cc
     go (ReadFault name) a h e = absurd (none.reads h)
     go KeeperFault a h e = absurd (none.keeps h)

@@ -10,11 +10,11 @@ use Rattle.result_book.specs.declared.check.BookError.TheVariants.{Stray, Memory
 use Rattle.command_words.specs.declared.command.Command.{Command}
 use Rattle.mcy_top.specs.declared.prepared.Prepared.{Prepared}
 use Rattle.mcy_top.specs.declared.outcome.Refusal.{Refusal}
-use Rattle.mcy_top.specs.declared.outcome.Refusal.TheVariants.{ProjectBad as RefusedProject, SourceBad as RefusedSource, Missing as RefusedMissing, TooLarge as RefusedTooLarge, ReadFault as RefusedRead, Memory as RefusedMemory, Unbuilt as RefusedUnbuilt}
+use Rattle.mcy_top.specs.declared.outcome.Refusal.TheVariants.{ProjectBad as RefusedProject, ScriptBad as RefusedScript, SourceBad as RefusedSource, Missing as RefusedMissing, TooLarge as RefusedTooLarge, ReadFault as RefusedRead, Memory as RefusedMemory, Unbuilt as RefusedUnbuilt}
 use Rattle.mcy_top.specs.declared.outcome.BookRefusal.{BookRefusal}
 use Rattle.mcy_top.specs.declared.outcome.BookRefusal.TheVariants.{NoCampaign as RefusedNone, AlreadyBegun as RefusedBegun, BookBad as RefusedBook, Memory as NoMemory}
 use Rattle.mcy_top.specs.declared.outcome.Outcome.{Outcome}
-use Rattle.mcy_top.specs.declared.outcome.Outcome.TheVariants.{Done, Unfinished, Usage, ProjectBad, SourceBad, Missing, TooLarge, NoCampaign, AlreadyBegun, BookBad, ReadFault, KeeperFault, WriteFault, Memory, Unbuilt}
+use Rattle.mcy_top.specs.declared.outcome.Outcome.TheVariants.{Done, Unfinished, Usage, ProjectBad, ScriptBad, SourceBad, Missing, TooLarge, NoCampaign, AlreadyBegun, BookBad, ReadFault, KeeperFault, WriteFault, Memory, Unbuilt}
 use Rattle.mcy_top.specs.Limits.{max_bytes}
 use Rattle.command_words.specs.Commands.{command_of}
 use Rattle.mcy_top.specs.Campaigns.{config_name, IsMade, IsPlan}
@@ -26,7 +26,7 @@ use Rattle.mcy_top.specs.Exact.{IsCutShort, RefusesFiles, RefusesFor}
 use Rattle.mcy_top.proofs.OneFault.{refused_for_one}
 use Rattle.mcy_top.specs.Complete.{IsReadable}
 use Rattle.mcy_top.proofs.Completing.{begun_not_bad, blank_meta, blank_not_bad, taken_not_refused, unmade_not}
-use Rattle.mcy_top.proofs.Takes.{project_same, next_once, source_there, sources_same, untaken_design_once, untaken_not, untaken_once, IsThere}
+use Rattle.mcy_top.proofs.Takes.{IsThere, built_of, next_once, project_same, source_there, sources_same, untaken_design_once, untaken_not, untaken_once}
 
 -- What is held under a name: nothing, too much, or these bytes.
 data Found : Type 0 where
@@ -101,6 +101,7 @@ place_of map (RefusedTooLarge name) (inr (project, has, next), large) whole = in
 place_of map (RefusedRead name) why whole = absurd (whole tt)
 place_of map RefusedMemory why whole = absurd (whole tt)
 place_of map (RefusedProject error) at whole = inl (record { found = Bytes at.config; is = at.got; why = record { some = λ is. cc; cause = at.why } })
+place_of map (RefusedScript error) at whole = inl (record { found = Bytes at.config; is = at.got; why = record { some = λ is. cc; cause = at.why } })
 place_of map (RefusedUnbuilt part) (inl at) whole = inl (record { found = Bytes at.config; is = at.got; why = record { some = λ is. cc; cause = at.why } })
 place_of map (RefusedUnbuilt part) (inr at) whole = inr (inr (record { some = λ is. cc; at = at }))
 place_of map (RefusedSource error) at whole = inr (inr (record { some = λ is. cc; at = at }))
@@ -168,7 +169,7 @@ readable_of map c made = record {
   told = refl;
   project = made.made.project;
   files = made.files;
-  got = record { before = record { config = made.config; got = made.got_config; says = made.made.says; built = made.made.built }; names = made.made.names; got = made.got_files };
+  got = record { before = record { config = made.config; got = made.got_config; says = made.made.says; built = built_of made.made.project made.made.script made.made.report made.made.tests made.made.scripts }; names = made.made.names; got = made.got_files };
   parsed = made.made.parsed;
   design = made.made.design;
   few = made.made.few;
@@ -191,6 +192,7 @@ exact_words words held (TooLarge name) none a = absurd (a.0 none)
 exact_words words held (ReadFault name) none a = absurd (a.0 none)
 exact_words words held (Unbuilt part) none a = absurd (a.0 none)
 exact_words words held (ProjectBad error) none a = absurd (a.0 none)
+exact_words words held (ScriptBad error) none a = absurd (a.0 none)
 exact_words words held (SourceBad error) none a = absurd (a.0 none)
 exact_words words held o none a = absurd (a.asked none)
 
@@ -210,6 +212,7 @@ exact_files words map r o asked h a = go o a
     go (ReadFault name) a = inr tt
     go (Unbuilt part) a = inl (one (RefusedUnbuilt part) a.1 (λ b. b))
     go (ProjectBad error) a = inl (one (RefusedProject error) a.1 (λ b. b))
+    go (ScriptBad error) a = inl (one (RefusedScript error) a.1 (λ b. b))
     go (SourceBad error) a = inl (one (RefusedSource error) a.1 (λ b. b))
     go Memory a = inr tt
     go o a = absurd (none a)

@@ -6,7 +6,7 @@ use Rattle.mcy_keeper.specs.declared.book.Book.{Book}
 use Rattle.netlist_core.specs.declared.raw.RawNetlist.{RawNetlist}
 use Rattle.mutation_sites.specs.declared.site.Site.{Site}
 use Rattle.mcy_top.specs.declared.prepared.Prepared.{Prepared}
-use Rattle.result_book.specs.declared.script.Ask.TheVariants.{Need}
+use Rattle.tag_script.specs.declared.answer.Ask.TheVariants.{Need}
 use Rattle.result_book.specs.Scripts.{Answer, ask, is_ended}
 use Rattle.result_book.specs.Rows.{answers_of, AreRows, IsFinished, IsWellFormed}
 use Rattle.mcy_top.specs.Rows.{AreTrue, IsTrueWord, IsTrueWordAt}
@@ -14,7 +14,7 @@ use Rattle.result_book.specs.Rows.{groups, groups_from}
 use Rattle.source_report.specs.Texts.{status_text}
 use Rattle.mcy_top.specs.Defined.{given_up, AreAllAnswers, AreAnswers, IsFinalText, Pair}
 use Rattle.mcy_top.proofs.Growing.{append-nil}
-use Rattle.mcy_top.proofs.Asking.{answers-same, answers-other}
+use Rattle.result_book.proofs.Grouping.{answers_of-other, answers_of-same}
 
 -- a true word is not UNKNOWN
 known_word : (netlist : RawNetlist) (site : Option Site) (word : ℕ) → IsTrueWordAt netlist site word → word ≢ 3
@@ -31,18 +31,18 @@ none_given_up c (e ∷ more) right = elim (eqb_tells e.word 3) [
 ]
 
 -- a mutation's rows are the answers that the campaign defines
-answers_are : (c : Prepared) (m : ℕ) (earlier rows : List Entry) → AreRows c.campaign earlier rows → AreTrue c rows → is_ended (ask (answers_of m (earlier ++ rows))) ≡ true → AreAnswers c [] m (answers_of m earlier) (answers_of m rows)
-answers_are c m earlier [] all right ended = subst (λ (rows : List Entry). is_ended (ask (answers_of m rows)) ≡ true) (append-nil earlier) ended
+answers_are : (c : Prepared) (m : ℕ) (earlier rows : List Entry) → AreRows c.campaign earlier rows → AreTrue c rows → is_ended (ask c.campaign (answers_of m (earlier ++ rows))) ≡ true → AreAnswers c [] m (answers_of m earlier) (answers_of m rows)
+answers_are c m earlier [] all right ended = subst (λ (rows : List Entry). is_ended (ask c.campaign (answers_of m rows)) ≡ true) (append-nil earlier) ended
 answers_are c m earlier (e ∷ more) all right ended =
-    let moved : is_ended (ask (answers_of m ((earlier ++ e ∷ []) ++ more))) ≡ true = subst (λ (rows : List Entry). is_ended (ask (answers_of m rows)) ≡ true) (sym (append_assoc earlier (e ∷ []) more)) ended in
+    let moved : is_ended (ask c.campaign (answers_of m ((earlier ++ e ∷ []) ++ more))) ≡ true = subst (λ (rows : List Entry). is_ended (ask c.campaign (answers_of m rows)) ≡ true) (sym (append_assoc earlier (e ∷ []) more)) ended in
     let rest : AreAnswers c [] m (answers_of m (earlier ++ e ∷ [])) (answers_of m more) = answers_are c m (earlier ++ e ∷ []) more all.1 right.1 moved in
     elim (eqb_tells e.mutation m) [
       | inl h ↦ rw h.0 (
-        subst (λ (k : ℕ). ask (answers_of k earlier) ≡ Need e.test) h.1 all.0.asked,
+        subst (λ (k : ℕ). ask c.campaign (answers_of k earlier) ≡ Need e.test) h.1 all.0.asked,
         subst (λ (k : ℕ). IsTrueWord c k e.word) h.1 right.0,
-        subst (λ (answers : List Answer). AreAnswers c [] m answers (answers_of m more)) (answers-same m earlier e h.1) rest,
+        subst (λ (answers : List Answer). AreAnswers c [] m answers (answers_of m more)) (answers_of-same m earlier e h.1) rest,
       )
-      | inr h ↦ rw h.0 (subst (λ (answers : List Answer). AreAnswers c [] m answers (answers_of m more)) (answers-other m earlier e h.1) rest)
+      | inr h ↦ rw h.0 (subst (λ (answers : List Answer). AreAnswers c [] m answers (answers_of m more)) (answers_of-other m earlier e h.1) rest)
     ]
 
 all_answers : (c : Prepared) (m n : ℕ) (rows : List Entry) → m + n ≡ length c.campaign.mutations → ((k : ℕ) → k < length c.campaign.mutations → AreAnswers c [] k [] (answers_of k rows)) → AreAllAnswers c [] m (groups_from m n rows)

@@ -4,8 +4,8 @@ use Rattle.mcy_keeper.specs.declared.book.Book.{Book}
 use Rattle.netlist_core.specs.declared.raw.RawNetlist.{RawNetlist}
 use Rattle.mutation_sites.specs.declared.site.Site.{Site}
 use Rattle.mcy_top.specs.declared.prepared.Prepared.{Prepared}
-use Rattle.result_book.specs.declared.script.Ask.{Ask}
-use Rattle.result_book.specs.declared.script.Ask.TheVariants.{Need}
+use Rattle.tag_script.specs.declared.answer.Ask.{Ask}
+use Rattle.tag_script.specs.declared.answer.Ask.TheVariants.{Need}
 use Rattle.mcy_base.specs.declared.file.SourceFile.{SourceFile}
 use Rattle.project_file.specs.declared.project.Project.{Project}
 use Rattle.project_file.specs.Projects.{design_files, IsProject}
@@ -18,7 +18,7 @@ use Rattle.mcy_top.specs.Rows.{AreTrue, IsBlankOrGood, IsTrueWord, IsTrueWordAt}
 use Rattle.source_report.specs.Texts.{lines, status_text}
 use Rattle.mcy_top.specs.Defined.{given_up, is_given_up, AreAllAnswers, AreAnswers, IsFinalText, IsWordOf, Pair}
 use Rattle.mcy_top.specs.Once.{GaveUpSame, IsEnded}
-use Rattle.mcy_top.proofs.Takes.{design_once, files_kept, project_once}
+use Rattle.mcy_top.proofs.Takes.{design_once, files_kept, project_once, report_once, script_once}
 use Rattle.mcy_top.proofs.Plans.{plan_meta}
 use Rattle.mcy_top.proofs.Finishing.{final_is}
 
@@ -30,6 +30,8 @@ plan_once c d one two same =
     let config : one.config ≡ two.config = cc in
     let items : map file_item one.files ≡ map file_item two.files = cc in
     let project : one.made.project ≡ two.made.project = project_once two.config one.made.project two.made.project (subst (λ (b : List ℕ). IsProject b one.made.project) config one.made.says) two.made.says in
+    let script : one.made.script ≡ two.made.script = script_once one.made.project two.made.project _ _ _ _ project one.made.scripts two.made.scripts in
+    let report : one.made.report ≡ two.made.report = report_once one.made.project two.made.project _ _ _ _ project one.made.scripts two.made.scripts in
     let files : one.files ≡ two.files = files_kept one.files two.files (one.made.names ∙ ap design_files project ∙ sym two.made.names) items in
     let design : IsDesign two.made.project two.files one.made.parsed = subst (λ (p : Project). IsDesign p two.files one.made.parsed) project (subst (λ (fs : List SourceFile). IsDesign one.made.project fs one.made.parsed) files one.made.design) in
     let parsed : one.made.parsed ≡ two.made.parsed = design_once two.made.project two.files one.made.parsed two.made.parsed design two.made.design in
@@ -38,7 +40,7 @@ plan_once c d one two same =
     let places : c.sites ≡ d.sites = one.made.places ∙ picked ∙ sym two.made.places in
     let counted : length (all_sites one.made.project (netlist_of one.made.parsed)) ≡ length (all_sites two.made.project (netlist_of two.made.parsed)) = λ i. length (all_sites (project i) (netlist_of (parsed i))) in
     let count : c.site_count ≡ d.site_count = one.made.count ∙ counted ∙ sym two.made.count in
-    let derived : campaign_of one.config one.made.project one.files one.made.parsed ≡ campaign_of two.config two.made.project two.files two.made.parsed = λ i. campaign_of (config i) (project i) (files i) (parsed i) in
+    let derived : campaign_of one.config one.made.project one.made.script one.made.report one.files one.made.parsed ≡ campaign_of two.config two.made.project two.made.script two.made.report two.files two.made.parsed = λ i. campaign_of (config i) (project i) (script i) (report i) (files i) (parsed i) in
     let campaign : c.campaign ≡ d.campaign = one.made.campaign ∙ derived ∙ sym two.made.campaign in
     λ i. record { campaign = campaign i; site_count = count i; sites = places i; netlist = netlist i }
 
@@ -73,8 +75,8 @@ not_ended asked t needs ended = let is : is_ended (Need t) ≡ true = subst (λ 
 
 answers_once : (c : Prepared) (pairs others : List Pair) (m : ℕ) (earlier xs ys : List Answer) → SamePairs pairs others m → AreAnswers c pairs m earlier xs → AreAnswers c others m earlier ys → xs ≡ ys
 answers_once c pairs others m earlier [] [] same h k = refl
-answers_once c pairs others m earlier [] (b ∷ ys) same h k = absurd (not_ended (ask earlier) b.test k.0 h)
-answers_once c pairs others m earlier (a ∷ xs) [] same h k = absurd (not_ended (ask earlier) a.test h.0 k)
+answers_once c pairs others m earlier [] (b ∷ ys) same h k = absurd (not_ended (ask c.campaign earlier) b.test k.0 h)
+answers_once c pairs others m earlier (a ∷ xs) [] same h k = absurd (not_ended (ask c.campaign earlier) a.test h.0 k)
 answers_once c pairs others m earlier (a ∷ xs) (b ∷ ys) same h k =
     let asked : Need a.test ≡ Need b.test = sym h.0 ∙ k.0 in
     let test : a.test ≡ b.test = cc in

@@ -4,7 +4,7 @@ use Rattle.std.specs.List.{All, Any}
 use Rattle.mcy_keeper.specs.declared.book.Entry.{Entry}
 use Rattle.mcy_keeper.specs.declared.book.Book.{Book}
 use Rattle.result_book.specs.declared.campaign.Campaign.{Campaign}
-use Rattle.result_book.specs.declared.script.Ask.TheVariants.{Need}
+use Rattle.tag_script.specs.declared.answer.Ask.TheVariants.{Need}
 use Rattle.result_book.specs.declared.check.RowFault.{RowFault}
 use Rattle.result_book.specs.declared.check.RowFault.TheVariants.{Seq, NoMutation, NoTest, Twice, NotAsked, BadWord, Mark, Tags}
 use Rattle.result_book.specs.declared.check.BookError.{BookError}
@@ -60,15 +60,15 @@ tests c earlier e =
     ∷ (e.mutation < length c.mutations)
     ∷ (e.test < length c.kinds)
     ∷ All (λ row. ¬ IsPair e.mutation e.test row) earlier
-    ∷ (ask_on e.mutation earlier ≡ Need e.test)
+    ∷ (ask_on c e.mutation earlier ≡ Need e.test)
     ∷ IsWordOf c e.test e.word
-    ∷ (e.mark ≡ mark_of (ask_on e.mutation (earlier ++ e ∷ [])))
-    ∷ (e.tags ≡ tags_of (ask_on e.mutation (earlier ++ e ∷ [])))
+    ∷ (e.mark ≡ mark_of (ask_on c e.mutation (earlier ++ e ∷ [])))
+    ∷ (e.tags ≡ tags_of (ask_on c e.mutation (earlier ++ e ∷ [])))
     ∷ []
 
 -- the fault of each
-abbrev faults : List Entry → Entry → List RowFault
-faults earlier e = Seq (length earlier) ∷ NoMutation ∷ NoTest ∷ Twice ∷ NotAsked ∷ BadWord ∷ Mark (mark_of (ask_on e.mutation (earlier ++ e ∷ []))) ∷ Tags (tags_of (ask_on e.mutation (earlier ++ e ∷ []))) ∷ []
+abbrev faults : Campaign → List Entry → Entry → List RowFault
+faults c earlier e = Seq (length earlier) ∷ NoMutation ∷ NoTest ∷ Twice ∷ NotAsked ∷ BadWord ∷ Mark (mark_of (ask_on c e.mutation (earlier ++ e ∷ []))) ∷ Tags (tags_of (ask_on c e.mutation (earlier ++ e ∷ []))) ∷ []
 
 -- the place of a fault among them
 abbrev place_of : RowFault → ℕ
@@ -114,7 +114,7 @@ fault_fails c earlier e BadWord (asked, bad) = behind_asked c earlier e 0 asked 
 fault_fails c earlier e (Mark n) (answered, is, bad) = behind_asked c earlier e 1 answered.asked (answered.word, λ right. bad (right ∙ sym is))
 fault_fails c earlier e (Tags n) (answered, mark, is, bad) = behind_asked c earlier e 2 answered.asked (answered.word, (mark, λ right. bad (right ∙ sym is)))
 
-fault_at : (c : Campaign) (earlier : List Entry) (e : Entry) (f : RowFault) → IsRowFault c earlier e f → slice_get (faults earlier e) (place_of f) ≡ Some f
+fault_at : (c : Campaign) (earlier : List Entry) (e : Entry) (f : RowFault) → IsRowFault c earlier e f → slice_get (faults c earlier e) (place_of f) ≡ Some f
 fault_at c earlier e (Seq n) bad = ap (λ (n : ℕ). Some (Seq n)) (sym bad.0)
 fault_at c earlier e NoMutation bad = refl
 fault_at c earlier e NoTest bad = refl
@@ -127,7 +127,7 @@ fault_at c earlier e (Tags n) bad = ap (λ (n : ℕ). Some (Tags n)) (sym bad.2)
 fault_once : (c : Campaign) (earlier : List Entry) (e : Entry) (f g : RowFault) → IsRowFault c earlier e f → IsRowFault c earlier e g → f ≡ g
 fault_once c earlier e f g h k =
     let place : place_of f ≡ place_of g = fails_once (tests c earlier e) (place_of f) (place_of g) (fault_fails c earlier e f h) (fault_fails c earlier e g k) in
-    let same : Some f ≡ Some g = sym (fault_at c earlier e f h) ∙ ap (slice_get (faults earlier e)) place ∙ fault_at c earlier e g k in
+    let same : Some f ≡ Some g = sym (fault_at c earlier e f h) ∙ ap (slice_get (faults c earlier e)) place ∙ fault_at c earlier e g k in
     cc
 
 -- a row in form fails at none

@@ -1,5 +1,5 @@
 -- What a plan's netlist is: small enough for the equivalence test, with the campaign's sites.
-use Rattle.std.proofs.Common.{◌≡◌, ℕ, zero, suc, ◌<◌, ◌≤◌, List, [], ◌∷◌, length, map, get_or, Option, inl, inr, refl, sym, ◌∙◌, ap, subst, arith}
+use Rattle.std.proofs.Common.{◌≡◌, ℕ, zero, suc, ◌<◌, ◌≤◌, List, [], ◌∷◌, length, map, get_or, slice_get, true, Option, None, Some, Ok, inl, inr, refl, sym, ◌∙◌, ap, subst, arith}
 use Rattle.std.proofs.lemmas.List.{length-map}
 use Rattle.std.proofs.lemmas.Option.{slice_get-get_or}
 use Rattle.thin_source.specs.declared.thin.ThinModule.{ThinModule}
@@ -11,9 +11,10 @@ use Rattle.step_trials.specs.Equal.{OneStepEqual, design, mutant}
 use Rattle.mcy_top.specs.Rows.{IsTrueWord, IsTrueWordAt}
 use Rattle.mcy_top.proofs.ThinSites.{length-free_list, few-sites, placed-sites}
 use Rattle.std.specs.List.{All}
+use Rattle.std.specs.Prelude.{IsSomeAnd}
 use Rattle.netlist_core.specs.declared.raw.RawNetlist.{RawNetlist}
 use Rattle.result_book.specs.declared.campaign.Campaign.{Campaign}
-use Rattle.result_book.specs.Campaigns.{eq_kind, IsFit, IsKind}
+use Rattle.result_book.specs.Campaigns.{eq_kind, IsEqWord, IsFit, IsWordOf, IsWordOfKind}
 use Rattle.mutation_sites.specs.SiteTexts.{site_text}
 use Rattle.mutation_sites.specs.Mutants.{IsSite}
 use Rattle.netlist_core.specs.Checked.{net_bits}
@@ -23,7 +24,20 @@ use Rattle.mcy_top.proofs.Chosen.{few-picked, All-picked}
 use Rattle.mcy_base.specs.declared.file.SourceFile.{SourceFile}
 use Rattle.project_file.specs.declared.project.Project.{Project}
 use Rattle.project_file.specs.declared.project.TestPlan.{TestPlan}
-use Rattle.mcy_top.specs.Projects.{TestsSame}
+use Rattle.project_file.specs.declared.project.TestKind.TheVariants.{Eq}
+use Rattle.project_file.specs.Projects.{IsProject}
+use Rattle.project_limits.proofs.Tags.{tags_few}
+use Rattle.project_limits.proofs.Tests.{tests_few}
+use Rattle.script_lines.specs.Rows.{rows_of}
+use Rattle.tag_script.specs.declared.script.Script.{Script}
+use Rattle.tag_script.specs.Fits.{script_fits}
+use Rattle.tag_script.specs.Reading.{first_too_many, script_of}
+use Rattle.tag_script.proofs.Fitting.{reads_fit as script_reads_fit}
+use Rattle.report_script.specs.declared.report.Report.{Report}
+use Rattle.report_script.specs.Fits.{report_fits}
+use Rattle.report_script.specs.Reading.{report_of}
+use Rattle.report_script.proofs.Fitting.{reads_fit as report_reads_fit}
+use Rattle.mcy_top.specs.Projects.{AreBuilt, HasScripts, kind_of, test_kinds, test_names}
 use Rattle.mcy_top.specs.Campaigns.{campaign_of, meta_of, names_of, IsPlan}
 
 pub plan_small : (c : Prepared) → IsPlan c → length (free_list c.netlist) ≤ 8
@@ -59,29 +73,55 @@ plan_count c plan =
     let parsed : ThinModule = plan.made.parsed in
     ap (λ (k : Campaign). length k.mutations) plan.made.campaign ∙ length-map (picked_sites plan.made.project (netlist_of parsed)) (site_text (netlist_of parsed) (names_of plan.files)) ∙ sym (ap length plan.made.places)
 
-are_kinds : All IsKind (eq_kind ∷ [])
-are_kinds zero d below = inl refl
-are_kinds (suc k) d below = absurd (omega (arith, below))
+-- the scripts of a project name only its tests and tags
+script_fit : (p : Project) (s : Script) (r : Report) → HasScripts p s r → script_fits (length (test_names p)) (length p.tags) s ≡ true
+unfolding script_of
+script_fit p s r has = script_reads_fit (record { tests = test_names p; tags = p.tags; limit = first_too_many p.logic }) (rows_of p.logic) (Ok s) has.logic
 
-fit_of : (config : List ℕ) (project : Project) (files : List SourceFile) (m : ThinModule) → TestsSame project → length (picked_sites project (netlist_of m)) ≤ 45 → IsFit (campaign_of config project files m)
-fit_of config project files m (test, one, same) few =
-    let picked : List Site = picked_sites project (netlist_of m) in
+report_fit : (p : Project) (s : Script) (r : Report) → HasScripts p s r → report_fits (length p.tags) r ≡ true
+unfolding report_of
+report_fit p s r has = report_reads_fit (record { tags = p.tags; limit = first_too_many p.report }) (rows_of p.report) (Ok r) has.report
+
+equal_kinds : (tests : List TestPlan) → All (λ t. t.kind ≡ Eq) tests → All (λ kind. kind ≡ eq_kind) (map (λ (t : TestPlan). kind_of t.kind) tests)
+equal_kinds [] all k d below = absurd (omega (arith, below))
+equal_kinds (t ∷ tests) all zero d below = ap kind_of (all zero t (omega arith))
+equal_kinds (t ∷ tests) all (suc k) d below = equal_kinds tests (λ j e inside. all (suc j) e (omega (arith, inside))) k d (omega (arith, below))
+
+fit_of : (config : List ℕ) (p : Project) (s : Script) (r : Report) (files : List SourceFile) (m : ThinModule) → IsProject config p → AreBuilt p → HasScripts p s r → length (picked_sites p (netlist_of m)) ≤ 45 → IsFit (campaign_of config p s r files m)
+fit_of config p s r files m says tests has few =
+    let picked : List Site = picked_sites p (netlist_of m) in
     let mutations : length (map (site_text (netlist_of m) (names_of files)) picked) ≡ length picked = length-map picked (site_text (netlist_of m) (names_of files)) in
     let lines : length (map (site_line (netlist_of m)) picked) ≡ length picked = length-map picked (site_line (netlist_of m)) in
+    let names : length (test_names p) ≡ length p.tests = length-map p.tests (λ (t : TestPlan). t.name) in
+    let kinds : length (test_kinds p) ≡ length p.tests = length-map p.tests (λ (t : TestPlan). kind_of t.kind) in
+    let expects : length (map (λ (t : TestPlan). t.expect) p.tests) ≡ length p.tests = length-map p.tests (λ (t : TestPlan). t.expect) in
     record {
       few_mutations = omega (arith, mutations, few);
       lines = lines ∙ sym mutations;
-      some_test = omega arith;
-      few_tests = omega arith;
-      names = refl;
-      expects = ap (λ (tests : List TestPlan). length (map (λ (t : TestPlan). t.expect) tests)) one;
-      few_tags = omega arith;
+      few_tests = omega (arith, kinds, tests_few config p says);
+      names = names ∙ sym kinds;
+      expects = expects ∙ sym kinds;
+      few_tags = tags_few config p says;
       meta = λ is. cc;
-      kinds = are_kinds;
+      kinds = λ k d below. inl (equal_kinds p.tests tests k d below);
+      script = subst (λ (n : ℕ). script_fits n (length p.tags) s ≡ true) (names ∙ sym kinds) (script_fit p s r has);
+      report = report_fit p s r has;
     }
 
 pub plan_fit : (c : Prepared) → IsPlan c → IsFit c.campaign
 plan_fit c plan =
     let parsed : ThinModule = plan.made.parsed in
     let few : length (picked_sites plan.made.project (netlist_of parsed)) ≤ 45 = omega (arith, few-picked plan.made.project (netlist_of parsed), few-sites (mode_set plan.made.project.modes) parsed plan.made.design.text.thin) in
-    subst IsFit (sym plan.made.campaign) (fit_of plan.config plan.made.project plan.files parsed plan.made.built.tests few)
+    subst IsFit (sym plan.made.campaign) (fit_of plan.config plan.made.project plan.made.script plan.made.report plan.files parsed plan.made.says plan.made.tests plan.made.scripts few)
+
+verdict : (netlist : RawNetlist) (site : Option Site) (word : ℕ) → IsTrueWordAt netlist site word → IsEqWord word
+verdict netlist None word right = absurd right
+verdict netlist (Some site) word (inl right) = inl right.0
+verdict netlist (Some site) word (inr right) = inr (inl right.0)
+
+-- a true word is one of each test's kind
+pub plan_word : (c : Prepared) (m test word : ℕ) → IsPlan c → test < length c.campaign.kinds → IsTrueWord c m word → IsWordOf c.campaign test word
+plan_word c m test word plan below right =
+    let all : All (λ kind. kind ≡ eq_kind) c.campaign.kinds = subst (λ (k : Campaign). All (λ kind. kind ≡ eq_kind) k.kinds) (sym plan.made.campaign) (equal_kinds plan.made.project.tests plan.made.tests) in
+    let at : slice_get c.campaign.kinds test ≡ Some eq_kind = slice_get-get_or c.campaign.kinds test 0 below ∙ ap (λ (kind : ℕ). Some kind) (all test 0 below) in
+    subst (λ (o : Option ℕ). IsSomeAnd o (λ kind. IsWordOfKind kind word)) (sym at) (inl (refl, verdict c.netlist (slice_get c.sites m) word right))

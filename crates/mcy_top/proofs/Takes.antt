@@ -1,5 +1,5 @@
 -- Projects and their sources: each has one answer, and those that are taken have no other.
-use Rattle.std.proofs.Common.{◌≡◌, ◌≢◌, inl, inr, arith, ℕ, ◌<◌, ◌≤◌, List, [], ◌∷◌, ◌++◌, get_or, length, map, codes, refl, sym, ap, subst, ◌∙◌, Option, None, Some}
+use Rattle.std.proofs.Common.{◌≡◌, ◌≢◌, inl, inr, arith, ℕ, ◌<◌, ◌≤◌, List, [], ◌∷◌, ◌++◌, get_or, length, map, codes, refl, sym, ap, subst, ◌∙◌, ◌⊎◌, Option, None, Some, Result, Ok, Err}
 use Rattle.std.specs.Str.{IsUtf8}
 use Rattle.std.proofs.Math.Seq.{take-length}
 use Rattle.std.proofs.lemmas.Str.{utf8_valid_len-IsValidUpTo}
@@ -12,39 +12,28 @@ use Rattle.project_file.specs.declared.error.ProjectError.TheVariants.{NotUtf8}
 use Rattle.project_file.specs.declared.project.Project.{Project}
 use Rattle.project_file.specs.Projects.{design_files, IsCut, IsFault, IsProject}
 use Rattle.mcy_top.specs.declared.outcome.Part.{Part}
-use Rattle.mcy_top.specs.declared.outcome.Part.TheVariants.{Source, Tests, Logic}
+use Rattle.mcy_top.specs.declared.outcome.Part.TheVariants.{Source, Tests}
 use Rattle.mcy_top.specs.declared.outcome.Refusal.{Refusal}
-use Rattle.mcy_top.specs.declared.outcome.Refusal.TheVariants.{ProjectBad, SourceBad, Memory, Unbuilt}
+use Rattle.mcy_top.specs.declared.outcome.Refusal.TheVariants.{ProjectBad, ScriptBad, SourceBad, Memory, Unbuilt}
+use Rattle.tag_script.specs.declared.script.Script.{Script}
+use Rattle.tag_script.specs.declared.script.ScriptError.{ScriptError}
+use Rattle.report_script.specs.declared.report.Report.{Report}
 use Rattle.thin_source.specs.declared.thin.ThinModule.{ThinModule}
 use Rattle.mcy_top.specs.Limits.{max_bytes}
 use Rattle.step_trials.specs.Inputs.{max_free_bits}
-use Rattle.mcy_top.specs.Projects.{IsBuilt, IsUnbuilt}
+use Rattle.mcy_top.specs.Projects.{AreBuilt, HasScripts, IsBuilt, IsUnbuilt, logic_read, report_read}
 use Rattle.thin_source.specs.ThinModules.{IsSource, input_names}
 use Rattle.mcy_top.specs.declared.prepared.Prepared.{Prepared}
 use Rattle.mcy_top.specs.Campaigns.{config_name, file_item, names_of, Got, GotAll, IsDesign, IsMade, IsPrepared}
-use Rattle.mcy_top.specs.Reads.{GotSources, HasProject, IsNext, IsRead, IsUnmade, IsUntaken, IsUntakenDesign}
+use Rattle.mcy_top.specs.Reads.{GotSources, HasProject, IsNext, IsRead, IsUnmade, IsUnscripted, IsUntaken, IsUntakenDesign}
 use Rattle.thin_source.proofs.ThinText.{source_once}
 
--- Lists of one, two and four, by what is read of them.
+-- A list of one, by what is read of it.
 
 pub one_is : {X : Type 0} (xs : List X) (a : X) → length xs ≡ 1 → a ≡ get_or xs 0 a → xs ≡ a ∷ []
 one_is [] a l h = absurd (omega (arith, l))
 one_is (x ∷ []) a l h = λ i. sym h i ∷ []
 one_is (x ∷ y ∷ more) a l h = absurd (omega (arith, l))
-
-pub pair_is : {X : Type 0} (xs : List X) (a b : X) → length xs ≡ 2 → a ≡ get_or xs 0 a → b ≡ get_or xs 1 b → xs ≡ a ∷ b ∷ []
-pair_is [] a b l h k = absurd (omega (arith, l))
-pair_is (x ∷ []) a b l h k = absurd (omega (arith, l))
-pair_is (x ∷ y ∷ []) a b l h k = λ i. sym h i ∷ sym k i ∷ []
-pair_is (x ∷ y ∷ z ∷ more) a b l h k = absurd (omega (arith, l))
-
-triple_is : {X : Type 0} (xs : List X) (a b c : X) → length xs ≡ 3 → a ≡ get_or xs 0 a → b ≡ get_or xs 1 b → c ≡ get_or xs 2 c → xs ≡ a ∷ b ∷ c ∷ []
-triple_is [] a b c l e f g = absurd (omega (arith, l))
-triple_is (x ∷ xs) a b c l e f g = λ i. sym e i ∷ pair_is xs b c (omega (arith, l)) f g i
-
-pub four_are : {X : Type 0} (xs : List X) (a b c d : X) → length xs ≡ 4 → a ≡ get_or xs 0 a → b ≡ get_or xs 1 b → c ≡ get_or xs 2 c → d ≡ get_or xs 3 d → xs ≡ a ∷ b ∷ c ∷ d ∷ []
-four_are [] a b c d l e f g h = absurd (omega (arith, l))
-four_are (x ∷ xs) a b c d l e f g h = λ i. sym e i ∷ triple_is xs b c d (omega (arith, l)) f g h i
 
 -- Project files.
 
@@ -72,16 +61,70 @@ project_not_fault config p e h (inr k) = let is : None ≡ Some e = sym h.faultl
 
 unbuilt_once : (p : Project) (a b : Part) → IsUnbuilt p a → IsUnbuilt p b → a ≡ b
 unbuilt_once p Tests Tests h k = refl
-unbuilt_once p Tests Logic h k = absurd (h k.0)
-unbuilt_once p Logic Tests h k = absurd (k h.0)
-unbuilt_once p Logic Logic h k = refl
 unbuilt_once p Source b h k = absurd h
 unbuilt_once p a Source h k = absurd k
 
-built_not_unbuilt : (p : Project) (part : Part) → IsBuilt p → ¬ IsUnbuilt p part
-built_not_unbuilt p Tests built h = h built.tests
-built_not_unbuilt p Logic built h = h.1 built.logic
-built_not_unbuilt p part built h = absurd h
+-- Scripts.
+
+err_once : {A : Type 0} (r : Result A ScriptError) (e f : ScriptError) → r ≡ Err e → r ≡ Err f → e ≡ f
+err_once r e f h k = cc
+
+ok_once : {A : Type 0} (r : Result A ScriptError) (a b : A) → r ≡ Ok a → r ≡ Ok b → a ≡ b
+ok_once r a b h k = cc
+
+ok_or_err : {A : Type 0} (r : Result A ScriptError) (a : A) (e : ScriptError) → r ≡ Ok a → r ≡ Err e → ⊥
+ok_or_err r a e h k = cc
+
+pub script_once : (p q : Project) (s t : Script) (a b : Report) → p ≡ q → HasScripts p s a → HasScripts q t b → s ≡ t
+script_once p q s t a b same h k = ok_once (logic_read q) s t (sym (ap logic_read same) ∙ h.logic) k.logic
+
+pub report_once : (p q : Project) (s t : Script) (a b : Report) → p ≡ q → HasScripts p s a → HasScripts q t b → a ≡ b
+report_once p q s t a b same h k = ok_once (report_read q) a b (sym (ap report_read same) ∙ h.report) k.report
+
+abbrev FaultOf : Project → ScriptError → Type 0
+FaultOf p e = (logic_read p ≡ Err e) ⊎ ((script : Script) × (logic_read p ≡ Ok script) × (report_read p ≡ Err e))
+
+fault_of_once : (p : Project) (e f : ScriptError) → FaultOf p e → FaultOf p f → e ≡ f
+fault_of_once p e f (inl h) (inl k) = err_once (logic_read p) e f h k
+fault_of_once p e f (inl h) (inr k) = absurd (ok_or_err (logic_read p) k.0 e k.1 h)
+fault_of_once p e f (inr h) (inl k) = absurd (ok_or_err (logic_read p) h.0 f h.1 k)
+fault_of_once p e f (inr h) (inr k) = err_once (report_read p) e f h.2 k.2
+
+fault_of_none : (p : Project) (s : Script) (r : Report) (e : ScriptError) → HasScripts p s r → ¬ FaultOf p e
+fault_of_none p s r e has (inl h) = ok_or_err (logic_read p) s e has.logic h
+fault_of_none p s r e has (inr h) = ok_or_err (report_read p) r e has.report h.2
+
+pub built_of : (p : Project) (s : Script) (r : Report) → AreBuilt p → HasScripts p s r → IsBuilt p
+built_of p s r tests has = record { tests = tests; script = s; report = r; scripts = has }
+
+unscripted_once : (p : Project) (r q : Refusal) → r ≢ Memory → q ≢ Memory → IsUnscripted p r → IsUnscripted p q → r ≡ q
+unscripted_once p Memory q m n h k = absurd (m refl)
+unscripted_once p r Memory m n h k = absurd (n refl)
+unscripted_once p (Unbuilt a) (Unbuilt b) m n h k = ap Unbuilt (unbuilt_once p a b h k)
+unscripted_once p (Unbuilt Tests) (ScriptBad f) m n h k = absurd (h k.0)
+unscripted_once p (Unbuilt Source) (ScriptBad f) m n h k = absurd h
+unscripted_once p (ScriptBad e) (Unbuilt Tests) m n h k = absurd (k h.0)
+unscripted_once p (ScriptBad e) (Unbuilt Source) m n h k = absurd k
+unscripted_once p (ScriptBad e) (ScriptBad f) m n h k = ap ScriptBad (fault_of_once p e f h.1.1 k.1.1)
+unscripted_once p (Unbuilt a) q m n h k = absurd k
+unscripted_once p (ScriptBad e) q m n h k = absurd k
+unscripted_once p r q m n h k = absurd h
+
+built_not_unscripted : (p : Project) (r : Refusal) → IsBuilt p → r ≢ Memory → ¬ IsUnscripted p r
+built_not_unscripted p Memory built m h = m refl
+built_not_unscripted p (Unbuilt Tests) built m h = h built.tests
+built_not_unscripted p (Unbuilt Source) built m h = absurd h
+built_not_unscripted p (ScriptBad e) built m h = fault_of_none p built.script built.report e built.scripts h.1.1
+built_not_unscripted p r built m h = absurd h
+
+abbrev Unscripted : List ℕ → Refusal → Type 0
+Unscripted config r = (project : Project) × IsProject config project × IsUnscripted project r
+
+told_once : (config : List ℕ) (r q : Refusal) → r ≢ Memory → q ≢ Memory → Unscripted config r → Unscripted config q → r ≡ q
+told_once config r q m n (p, says, h) (p', says', k) = unscripted_once p' r q m n (subst (λ (p : Project). IsUnscripted p r) (project_once config p p' says says') h) k
+
+told_not : (config : List ℕ) (p : Project) (r : Refusal) → IsProject config p → IsBuilt p → r ≢ Memory → ¬ Unscripted config r
+told_not config p r says built m (q, says', h) = built_not_unscripted p r built m (subst (λ (p : Project). IsUnscripted p r) (project_once config q p says' says) h)
 
 -- a project file is refused for one thing,
 pub untaken_once : (config : List ℕ) (r q : Refusal) → r ≢ Memory → q ≢ Memory → IsUntaken config r → IsUntaken config q → r ≡ q
@@ -89,18 +132,24 @@ untaken_once config Memory q m n h k = absurd (m refl)
 untaken_once config r Memory m n h k = absurd (n refl)
 untaken_once config (ProjectBad e) (ProjectBad f) m n h k = ap ProjectBad (fault_once config e f h k)
 untaken_once config (ProjectBad e) (Unbuilt part) m n h (p, says, un) = absurd (project_not_fault config p e says h)
+untaken_once config (ProjectBad e) (ScriptBad f) m n h (p, says, un) = absurd (project_not_fault config p e says h)
 untaken_once config (Unbuilt part) (ProjectBad f) m n (p, says, un) k = absurd (project_not_fault config p f says k)
-untaken_once config (Unbuilt a) (Unbuilt b) m n (p, says, un) (q, says', un') =
-    ap Unbuilt (unbuilt_once q a b (subst (λ (p : Project). IsUnbuilt p a) (project_once config p q says says') un) un')
+untaken_once config (ScriptBad e) (ProjectBad f) m n (p, says, un) k = absurd (project_not_fault config p f says k)
+untaken_once config (Unbuilt a) (Unbuilt b) m n h k = told_once config (Unbuilt a) (Unbuilt b) m n h k
+untaken_once config (Unbuilt a) (ScriptBad f) m n h k = told_once config (Unbuilt a) (ScriptBad f) m n h k
+untaken_once config (ScriptBad e) (Unbuilt b) m n h k = told_once config (ScriptBad e) (Unbuilt b) m n h k
+untaken_once config (ScriptBad e) (ScriptBad f) m n h k = told_once config (ScriptBad e) (ScriptBad f) m n h k
 untaken_once config (ProjectBad e) q m n h k = absurd k
 untaken_once config (Unbuilt part) q m n h k = absurd k
+untaken_once config (ScriptBad e) q m n h k = absurd k
 untaken_once config r q m n h k = absurd h
 
 -- and one that is taken for none
 pub untaken_not : (config : List ℕ) (p : Project) (r : Refusal) → IsProject config p → IsBuilt p → r ≢ Memory → ¬ IsUntaken config r
 untaken_not config p Memory says built m h = m refl
 untaken_not config p (ProjectBad e) says built m h = project_not_fault config p e says h
-untaken_not config p (Unbuilt part) says built m (q, says', un) = built_not_unbuilt p part built (subst (λ (p : Project). IsUnbuilt p part) (project_once config q p says' says) un)
+untaken_not config p (Unbuilt part) says built m h = told_not config p (Unbuilt part) says built m h
+untaken_not config p (ScriptBad e) says built m h = told_not config p (ScriptBad e) says built m h
 untaken_not config p r says built m h = absurd h
 
 -- Files.

@@ -262,10 +262,10 @@ abbrev pub count : Prepared → List Entry → ℕ
 count c rows = finished_count c (book_of c rows)
 
 finished_of : (c : Prepared) (rows : List Entry) → length c.campaign.mutations ≡ count c rows → IsFinished c.campaign (book_of c rows)
-finished_of c rows all m below = let place : 0 + m ≡ m = omega arith in subst (λ (j : ℕ). is_ended (ask_on j rows) ≡ true) place (all_counted 0 (length c.campaign.mutations) m rows (sym all) below)
+finished_of c rows all m below = let place : 0 + m ≡ m = omega arith in subst (λ (j : ℕ). is_ended (ask_on c.campaign j rows) ≡ true) place (all_counted c.campaign 0 (length c.campaign.mutations) m rows (sym all) below)
 
 count_of : (c : Prepared) (rows : List Entry) → IsFinished c.campaign (book_of c rows) → count c rows ≡ length c.campaign.mutations
-count_of c rows finished = counted_all 0 (length c.campaign.mutations) rows (λ k below. let place : k ≡ 0 + k = omega arith in subst (λ (j : ℕ). is_ended (ask_on j rows) ≡ true) place (finished k below))
+count_of c rows finished = counted_all c.campaign 0 (length c.campaign.mutations) rows (λ k below. let place : k ≡ 0 + k = omega arith in subst (λ (j : ℕ). is_ended (ask_on c.campaign j rows) ≡ true) place (finished k below))
 
 whole : (c : Prepared) (stop : Option ℕ) (start rows : List Entry) → Went c stop start rows → IsFinished c.campaign (book_of c rows) → Answers (Run stop) c (book_of c start) (book_of c rows) Done
 whole c stop start rows went finished = (
@@ -280,7 +280,7 @@ whole c stop start rows went finished = (
 stopped : (c : Prepared) (stop : Option ℕ) (start rows : List Entry) → Went c stop start rows → (length c.campaign.mutations ≢ count c rows) → Reached stop start rows → Answers (Run stop) c (book_of c start) (book_of c rows) (Unfinished (length c.campaign.mutations - count c rows))
 stopped c None start rows went some reached = absurd reached
 stopped c (Some k) start rows went some reached =
-    let few : count c rows ≤ length c.campaign.mutations = counted_few (length c.campaign.mutations) rows in (
+    let few : count c rows ≤ length c.campaign.mutations = counted_few c.campaign (length c.campaign.mutations) rows in (
       inr went.form,
       went.ran.form,
       record {

@@ -7,11 +7,12 @@ use Rattle.project_file.specs.declared.project.Project.{Project}
 use Rattle.project_file.specs.Projects.{design_files, IsProject}
 use Rattle.thin_source.specs.declared.thin.ThinModule.{ThinModule}
 use Rattle.result_book.specs.declared.campaign.Campaign.{Campaign}
-use Rattle.result_book.specs.Campaigns.{eq_kind}
+use Rattle.tag_script.specs.declared.script.Script.{Script}
+use Rattle.report_script.specs.declared.report.Report.{Report}
 use Rattle.mcy_top.specs.declared.prepared.Prepared.{Prepared}
 use Rattle.mcy_top.specs.Limits.{max_bytes}
 use Rattle.step_trials.specs.Inputs.{max_free_bits}
-use Rattle.mcy_top.specs.Projects.{change_tags, IsBuilt}
+use Rattle.mcy_top.specs.Projects.{AreBuilt, HasScripts, test_kinds, test_names}
 use Rattle.thin_source.specs.ThinModules.{IsSource, input_names}
 use Rattle.thin_source.specs.ThinNetlists.{netlist_of}
 use Rattle.mutation_sites.specs.SiteTexts.{site_text}
@@ -41,27 +42,32 @@ abbrev pub names_of : List SourceFile → List (List ℕ)
 names_of files = map (λ file. file.name) files
 
 -- The campaign of a project and its sources. The sites that are picked are its mutations.
-abbrev pub campaign_of : List ℕ → Project → List SourceFile → ThinModule → Campaign
-campaign_of config project files m = record {
+abbrev pub campaign_of : List ℕ → Project → Script → Report → List SourceFile → ThinModule → Campaign
+campaign_of config project script report files m = record {
   meta = meta_of config files;
   mutations = map (site_text (netlist_of m) (names_of files)) (picked_sites project (netlist_of m));
   lines = map (site_line (netlist_of m)) (picked_sites project (netlist_of m));
-  test_names = codes "same" ∷ [];
-  kinds = eq_kind ∷ [];
+  test_names = test_names project;
+  kinds = test_kinds project;
   expect = map (λ test. test.expect) project.tests;
-  tags = change_tags;
+  tags = project.tags;
+  script = script;
+  report = report;
 }
 
 -- a campaign, with the netlist of its sources, how many sites that has, and those of the mutations
 pub record IsPrepared (config : List ℕ) (files : List SourceFile) (c : Prepared) : Type 0 where
   pub project : Project
   pub says : IsProject config project
-  pub built : IsBuilt project
+  pub tests : AreBuilt project
+  pub script : Script
+  pub report : Report
+  pub scripts : HasScripts project script report
   pub names : names_of files ≡ design_files project
   pub parsed : ThinModule
   pub design : IsDesign project files parsed
   pub few : length (input_names parsed.ports) ≤ max_free_bits
-  pub campaign : c.campaign ≡ campaign_of config project files parsed
+  pub campaign : c.campaign ≡ campaign_of config project script report files parsed
   pub netlist : c.netlist ≡ netlist_of parsed
   pub count : c.site_count ≡ length (all_sites project (netlist_of parsed))
   pub places : c.sites ≡ picked_sites project (netlist_of parsed)

@@ -4,7 +4,7 @@ use Rattle.std.specs.Prelude.{◌≡◌, ℕ, ◌+◌, Bool, true, ◌==◌, ◌
 use Rattle.std.specs.Bool.{MatchBool}
 use Rattle.mcy_keeper.specs.declared.book.Entry.{Entry}
 use Rattle.result_book.specs.declared.script.TestWord.TheVariants.{Unknown}
-use Rattle.result_book.specs.declared.script.Ask.TheVariants.{Need}
+use Rattle.tag_script.specs.declared.answer.Ask.TheVariants.{Need}
 use Rattle.mcy_top.specs.declared.prepared.Prepared.{Prepared}
 use Rattle.result_book.specs.Scripts.{Answer, word_code, ask, is_ended}
 use Rattle.mcy_top.specs.Rows.{IsTrueWord}
@@ -30,8 +30,8 @@ IsWordOf c pairs m t word = MatchBool (is_given_up pairs m t) (word ≡ word_cod
 
 -- the script asks for each test on the answers before it, and each has its word; then it needs no test
 abbrev pub AreAnswers : Prepared → List Pair → ℕ → List Answer → List Answer → Type 0
-AreAnswers c pairs m earlier [] = is_ended (ask earlier) ≡ true
-AreAnswers c pairs m earlier (a ∷ more) = (ask earlier ≡ Need a.test) × IsWordOf c pairs m a.test a.word × AreAnswers c pairs m (earlier ++ a ∷ []) more
+AreAnswers c pairs m earlier [] = is_ended (ask c.campaign earlier) ≡ true
+AreAnswers c pairs m earlier (a ∷ more) = (ask c.campaign earlier ≡ Need a.test) × IsWordOf c pairs m a.test a.word × AreAnswers c pairs m (earlier ++ a ∷ []) more
 
 -- the answers of each mutation, from mutation m on
 abbrev pub AreAllAnswers : Prepared → List Pair → ℕ → List (List Answer) → Type 0

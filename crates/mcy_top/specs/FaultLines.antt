@@ -11,10 +11,12 @@ use Rattle.project_file.specs.declared.error.ProjectError.{ProjectError}
 use Rattle.project_file.specs.declared.error.ProjectError.TheVariants.{NotUtf8, BadLine, UnknownKey, Repeated, OutOfRange, UnsupportedCommand, Missing as Lacking, Memory as NoMemoryFor}
 use Rattle.project_file.specs.declared.error.What.{What}
 use Rattle.project_file.specs.declared.error.What.TheVariants.{Script, Read, Top, Logic, Kind as TestKind, Pass}
+use Rattle.tag_script.specs.declared.script.ScriptError.{ScriptError}
+use Rattle.tag_script.specs.declared.script.ScriptError.TheVariants as script
 use Rattle.mcy_top.specs.declared.outcome.SourceFault.{SourceFault}
 use Rattle.mcy_top.specs.declared.outcome.SourceFault.TheVariants.{TooMany}
 use Rattle.mcy_top.specs.declared.outcome.Outcome.{Outcome}
-use Rattle.mcy_top.specs.declared.outcome.Outcome.TheVariants.{Done, Unfinished, Usage, ProjectBad, SourceBad, Missing, TooLarge, NoCampaign, AlreadyBegun, BookBad, ReadFault, KeeperFault, WriteFault, Memory, Unbuilt}
+use Rattle.mcy_top.specs.declared.outcome.Outcome.TheVariants.{Done, Unfinished, Usage, ProjectBad, ScriptBad, SourceBad, Missing, TooLarge, NoCampaign, AlreadyBegun, BookBad, ReadFault, KeeperFault, WriteFault, Memory, Unbuilt}
 
 abbrev pub kind_name : Kind → List ℕ
 kind_name Tokens = codes "Tokens"
@@ -62,6 +64,14 @@ project_line (UnsupportedCommand number) = at_line number (codes "UnsupportedCom
 project_line (Lacking what) = missing_line what
 project_line NoMemoryFor = told_line (codes "no memory")
 
+abbrev pub script_line : ScriptError → List ℕ
+script_line (script.Indent number) = at_line number (codes "Indent")
+script_line (script.Bad number) = at_line number (codes "Bad")
+script_line (script.UnknownTest number) = at_line number (codes "UnknownTest")
+script_line (script.UnknownTag number) = at_line number (codes "UnknownTag")
+script_line (script.Unassigned number) = at_line number (codes "Unassigned")
+script_line script.Memory = told_line (codes "no memory")
+
 -- a line on a file: its name and what is the matter
 abbrev pub file_line : List ℕ → List ℕ → List ℕ
 file_line name matter = codes "mcy: " ++ (name ++ (codes ": " ++ (matter ++ codes "\n")))
@@ -88,6 +98,7 @@ fault_text Done = []
 fault_text (Unfinished left) = []
 fault_text Usage = told_line (codes "usage: mcy init | run [--stop-after N] | list | status")
 fault_text (ProjectBad error) = project_line error
+fault_text (ScriptBad error) = script_line error
 fault_text (SourceBad error) = source_line error.fault
 fault_text (Missing name) = file_line name (codes "missing")
 fault_text (TooLarge name) = file_line name (codes "too large")

@@ -10,10 +10,10 @@ use Rattle.mcy_outside.specs.Written.{Appends, AppendsPart}
 use Rattle.command_words.specs.declared.command.Command.{Command}
 use Rattle.command_words.specs.declared.command.Command.TheVariants.{Init, Run, List as Listing, Status}
 use Rattle.mcy_top.specs.declared.prepared.Prepared.{Prepared}
-use Rattle.mcy_top.specs.declared.outcome.Refusal.TheVariants.{ProjectBad as RefusedProject, SourceBad as RefusedSource, Missing as RefusedMissing, TooLarge as RefusedTooLarge, ReadFault as RefusedRead, Unbuilt as RefusedUnbuilt}
+use Rattle.mcy_top.specs.declared.outcome.Refusal.TheVariants.{ProjectBad as RefusedProject, ScriptBad as RefusedScript, SourceBad as RefusedSource, Missing as RefusedMissing, TooLarge as RefusedTooLarge, ReadFault as RefusedRead, Unbuilt as RefusedUnbuilt}
 use Rattle.mcy_top.specs.declared.outcome.BookRefusal.TheVariants.{NoCampaign as RefusedNone, AlreadyBegun as RefusedBegun, BookBad as RefusedBook}
 use Rattle.mcy_top.specs.declared.outcome.Outcome.{Outcome}
-use Rattle.mcy_top.specs.declared.outcome.Outcome.TheVariants.{Done, Unfinished, Usage, ProjectBad, SourceBad, Missing, TooLarge, NoCampaign, AlreadyBegun, BookBad, ReadFault, KeeperFault, WriteFault, Memory, Unbuilt}
+use Rattle.mcy_top.specs.declared.outcome.Outcome.TheVariants.{Done, Unfinished, Usage, ProjectBad, ScriptBad, SourceBad, Missing, TooLarge, NoCampaign, AlreadyBegun, BookBad, ReadFault, KeeperFault, WriteFault, Memory, Unbuilt}
 use Rattle.command_words.specs.Commands.{command_of}
 use Rattle.mcy_top.specs.Commands.{slots_of, stop_of, IsWithin, OnlyReads, Runs}
 use Rattle.mcy_top.specs.Campaigns.{IsMade}
@@ -43,6 +43,7 @@ Answered words held (TooLarge name) = Commands words × IsUnmade held (RefusedTo
 Answered words held (ReadFault name) = Commands words × IsUnmade held (RefusedRead name)
 Answered words held (Unbuilt part) = Commands words × IsUnmade held (RefusedUnbuilt part)
 Answered words held (ProjectBad error) = Commands words × IsUnmade held (RefusedProject error)
+Answered words held (ScriptBad error) = Commands words × IsUnmade held (RefusedScript error)
 Answered words held (SourceBad error) = Commands words × IsUnmade held (RefusedSource error)
 Answered words held Memory = ⊤
 Answered words held outcome = IsAccepted words held
@@ -55,6 +56,7 @@ EndsEarly (TooLarge name) = ⊤
 EndsEarly (ReadFault name) = ⊤
 EndsEarly (Unbuilt part) = ⊤
 EndsEarly (ProjectBad error) = ⊤
+EndsEarly (ScriptBad error) = ⊤
 EndsEarly (SourceBad error) = ⊤
 EndsEarly KeeperFault = ⊤
 EndsEarly Memory = ⊤
@@ -95,7 +97,7 @@ pub record IsWhole (c : Prepared) (loaded book : Book) (text : List ℕ) : Type 
 
 -- how many mutations are finished
 abbrev pub finished_count : Prepared → Book → ℕ
-finished_count c book = count_by (λ answers. is_ended (ask answers)) (groups c.campaign book.journal)
+finished_count c book = count_by (λ answers. is_ended (ask c.campaign answers)) (groups c.campaign book.journal)
 
 -- as many entries as were asked for were acknowledged, and so many mutations are left
 pub record IsStopped (command : Command) (c : Prepared) (loaded book : Book) (left : ℕ) : Type 0 where

@@ -1,11 +1,11 @@
 -- Outcomes, and their exit statuses.
 use Rattle.std.specs.Prelude.{ℕ}
 use Rattle.mcy_top.specs.declared.outcome.Refusal.{Refusal}
-use Rattle.mcy_top.specs.declared.outcome.Refusal.TheVariants.{ProjectBad as RefusedProject, SourceBad as RefusedSource, Missing as RefusedMissing, TooLarge as RefusedTooLarge, ReadFault as RefusedRead, Memory as RefusedMemory, Unbuilt as RefusedUnbuilt}
+use Rattle.mcy_top.specs.declared.outcome.Refusal.TheVariants.{ProjectBad as RefusedProject, ScriptBad as RefusedScript, SourceBad as RefusedSource, Missing as RefusedMissing, TooLarge as RefusedTooLarge, ReadFault as RefusedRead, Memory as RefusedMemory, Unbuilt as RefusedUnbuilt}
 use Rattle.mcy_top.specs.declared.outcome.BookRefusal.{BookRefusal}
 use Rattle.mcy_top.specs.declared.outcome.BookRefusal.TheVariants.{NoCampaign as RefusedNone, AlreadyBegun as RefusedBegun, BookBad as RefusedBook, Memory as NoMemory}
 use Rattle.mcy_top.specs.declared.outcome.Outcome.{Outcome}
-use Rattle.mcy_top.specs.declared.outcome.Outcome.TheVariants.{Done, Unfinished, Usage, ProjectBad, SourceBad, Missing, TooLarge, NoCampaign, AlreadyBegun, BookBad, ReadFault, KeeperFault, WriteFault, Memory, Unbuilt}
+use Rattle.mcy_top.specs.declared.outcome.Outcome.TheVariants.{Done, Unfinished, Usage, ProjectBad, ScriptBad, SourceBad, Missing, TooLarge, NoCampaign, AlreadyBegun, BookBad, ReadFault, KeeperFault, WriteFault, Memory, Unbuilt}
 
 -- the exit status (README.md)
 abbrev pub status_of : Outcome → ℕ
@@ -13,6 +13,7 @@ status_of Done = 0
 status_of (Unfinished left) = 1
 status_of Usage = 2
 status_of (ProjectBad error) = 3
+status_of (ScriptBad error) = 4
 status_of (SourceBad error) = 5
 status_of (Missing name) = 6
 status_of (TooLarge name) = 7
@@ -28,6 +29,7 @@ status_of (Unbuilt part) = 99
 -- the outcome of a call whose files are refused
 abbrev pub outcome_of : Refusal → Outcome
 outcome_of (RefusedProject error) = ProjectBad error
+outcome_of (RefusedScript error) = ScriptBad error
 outcome_of (RefusedSource error) = SourceBad error
 outcome_of (RefusedMissing name) = Missing name
 outcome_of (RefusedTooLarge name) = TooLarge name

@@ -1,41 +1,58 @@
--- Which projects are built so far, and the part of another one that is not (docs/PROFILE.md).
-use Rattle.std.specs.Prelude.{◌≡◌, ◌%◌, List, [], ◌∷◌, ℕ, codes, map}
+-- Which projects are built so far, and the part of another one that is not (docs/PROFILE.md); and their scripts.
+use Rattle.std.specs.Prelude.{◌≡◌, ◌≢◌, ◌⊎◌, ℕ, List, Result, Ok, Err, map}
+use Rattle.std.specs.List.{All}
 use Rattle.project_file.specs.declared.project.Project.{Project}
-use Rattle.project_file.specs.declared.project.TestPlan.{TestPlan}
+use Rattle.project_file.specs.declared.project.TestKind.{TestKind}
 use Rattle.project_file.specs.declared.project.TestKind.TheVariants.{Eq}
+use Rattle.tag_script.specs.declared.script.Script.{Script}
+use Rattle.tag_script.specs.declared.script.ScriptError.{ScriptError}
+use Rattle.tag_script.specs.declared.script.ScriptError.TheVariants.{Memory}
+use Rattle.tag_script.specs.Reading.{script_of}
+use Rattle.report_script.specs.declared.report.Report.{Report}
+use Rattle.report_script.specs.Reading.{report_of}
+use Rattle.result_book.specs.Campaigns.{eq_kind, sim_kind}
 use Rattle.mcy_top.specs.declared.outcome.Part.{Part}
-use Rattle.mcy_top.specs.declared.outcome.Part.TheVariants.{Tests, Logic}
+use Rattle.mcy_top.specs.declared.outcome.Part.TheVariants.{Tests}
 
--- the test `same` compares the mutant with the design, and PASS and FAIL, bits 0 and 1, are expected
-pub record IsSame (test : TestPlan) : Type 0 where
-  pub name : test.name ≡ codes "same"
-  pub kind : test.kind ≡ Eq
-  pub expect : test.expect % 4 ≡ 3
+-- each test compares the mutant with the design
+abbrev pub AreBuilt : Project → Type 0
+AreBuilt project = All (λ test. test.kind ≡ Eq) project.tests
 
--- it is the one test
-abbrev pub TestsSame : Project → Type 0
-TestsSame project = (test : TestPlan) × (project.tests ≡ test ∷ []) × IsSame test
-
-abbrev pub change_tags : List (List ℕ)
-change_tags = codes "CHANGED" ∷ codes "NOCHANGE" ∷ []
-
--- the script that tags by this test
-abbrev pub same_script : List (List ℕ)
-same_script = codes "if result(\"same\") == \"PASS\":" ∷ codes "    tag(\"NOCHANGE\")" ∷ codes "else:" ∷ codes "    tag(\"CHANGED\")" ∷ []
-
--- the script is that one, and there is no report
-pub record IsTagging (project : Project) : Type 0 where
-  pub tags : project.tags ≡ change_tags
-  pub logic : map (λ line. line.text) project.logic ≡ same_script
-  pub report : project.report ≡ []
-
--- the project is built
-pub record IsBuilt (project : Project) : Type 0 where
-  pub tests : TestsSame project
-  pub logic : IsTagging project
-
--- the first part of the project that is not built, in this order
+-- the part of the project that is not built
 abbrev pub IsUnbuilt : Project → Part → Type 0
-IsUnbuilt project Tests = ¬ TestsSame project
-IsUnbuilt project Logic = TestsSame project × (¬ IsTagging project)
+IsUnbuilt project Tests = ¬ AreBuilt project
 IsUnbuilt project part = ⊥
+
+-- the tests, by their names and by the codes of their kinds
+abbrev pub test_names : Project → List (List ℕ)
+test_names project = map (λ test. test.name) project.tests
+
+abbrev pub kind_of : TestKind → ℕ
+kind_of Eq = eq_kind
+kind_of other = sim_kind
+
+abbrev pub test_kinds : Project → List ℕ
+test_kinds project = map (λ test. kind_of test.kind) project.tests
+
+-- the reading of the logic, and that of the report
+abbrev pub logic_read : Project → Result Script ScriptError
+logic_read project = script_of (test_names project) project.tags project.logic
+
+abbrev pub report_read : Project → Result Report ScriptError
+report_read project = report_of project.tags project.report
+
+-- the tag script and the report of the project
+pub record HasScripts (project : Project) (script : Script) (printed : Report) : Type 0 where
+  pub logic : logic_read project ≡ Ok script
+  pub report : report_read project ≡ Ok printed
+
+-- the first fault of the logic, else of the report
+abbrev pub IsScriptFault : Project → ScriptError → Type 0
+IsScriptFault project error = (error ≢ Memory) × ((logic_read project ≡ Err error) ⊎ ((script : Script) × (logic_read project ≡ Ok script) × (report_read project ≡ Err error)))
+
+-- the project is built, and has these scripts
+pub record IsBuilt (project : Project) : Type 0 where
+  pub tests : AreBuilt project
+  pub script : Script
+  pub report : Report
+  pub scripts : HasScripts project script report

@@ -11,16 +11,24 @@ use Rattle.mcy_top.specs.declared.outcome.Part.TheVariants.{Source}
 use Rattle.mcy_top.specs.declared.outcome.SourceFault.TheVariants.{TooMany}
 use Rattle.mcy_top.specs.declared.outcome.SourceError.{SourceError}
 use Rattle.mcy_top.specs.declared.outcome.Refusal.{Refusal}
-use Rattle.mcy_top.specs.declared.outcome.Refusal.TheVariants.{ProjectBad, SourceBad, Missing, TooLarge, ReadFault, Memory, Unbuilt}
+use Rattle.mcy_top.specs.declared.outcome.Refusal.TheVariants.{ProjectBad, ScriptBad, SourceBad, Missing, TooLarge, ReadFault, Memory, Unbuilt}
 use Rattle.step_trials.specs.Inputs.{max_free_bits}
-use Rattle.mcy_top.specs.Projects.{IsBuilt, IsUnbuilt}
+use Rattle.mcy_top.specs.Projects.{AreBuilt, IsBuilt, IsScriptFault, IsUnbuilt}
 use Rattle.thin_source.specs.ThinModules.{input_names}
 use Rattle.mcy_top.specs.Campaigns.{config_name, Got, GotAll, IsDesign, Lacks, Exceeds}
+
+-- why a project is not built, or has no scripts
+abbrev pub IsUnscripted : Project → Refusal → Type 0
+IsUnscripted project (Unbuilt part) = IsUnbuilt project part
+IsUnscripted project (ScriptBad error) = AreBuilt project × IsScriptFault project error
+IsUnscripted project Memory = ⊤
+IsUnscripted project refusal = ⊥
 
 -- why bytes are no project that is built
 abbrev pub IsUntaken : List ℕ → Refusal → Type 0
 IsUntaken config (ProjectBad error) = IsFault config error
-IsUntaken config (Unbuilt part) = (project : Project) × IsProject config project × IsUnbuilt project part
+IsUntaken config (Unbuilt part) = (project : Project) × IsProject config project × IsUnscripted project (Unbuilt part)
+IsUntaken config (ScriptBad error) = (project : Project) × IsProject config project × IsUnscripted project (ScriptBad error)
 IsUntaken config Memory = ⊤
 IsUntaken config refusal = ⊥
 
@@ -74,6 +82,7 @@ pub record AtSources (held : Option Held) (refusal : Refusal) : Type 0 where
 -- why the files make no campaign
 abbrev pub IsUnmade : Option Held → Refusal → Type 0
 IsUnmade held (ProjectBad error) = AtProject held (ProjectBad error)
+IsUnmade held (ScriptBad error) = AtProject held (ScriptBad error)
 IsUnmade held (Missing name) = IsRead held name × Lacks held name
 IsUnmade held (TooLarge name) = IsRead held name × Exceeds held name
 IsUnmade held (ReadFault name) = IsRead held name

@@ -8,6 +8,7 @@ use mcy_keeper::Entry;
 use project_file::{ProjectError, What};
 use result_book::{BookError, RowFault};
 use std::alloc::{AllocError, Global};
+use tag_script::ScriptError;
 
 /// The line of an outcome, which begins with `mcy: ` and ends in a newline. Where the command was carried out, the
 /// text is empty.
@@ -21,6 +22,7 @@ pub fn fault_line(alloc: Global, outcome: &Outcome) -> Result<Bytes, AllocError>
             "usage: mcy init | run [--stop-after N] | list | status",
         ),
         Outcome::ProjectBad(error) => project_line(alloc, *error),
+        Outcome::ScriptBad(error) => script_line(alloc, *error),
         Outcome::SourceBad(error) => source_line(alloc, error.fault),
         Outcome::Missing(name) => file_line(alloc, name.as_str(), "missing"),
         Outcome::TooLarge(name) => file_line(alloc, name.as_str(), "too large"),
@@ -56,6 +58,20 @@ fn project_line(alloc: Global, error: ProjectError) -> Result<String, AllocError
         ProjectError::UnsupportedCommand(number) => at_line(alloc, number, "UnsupportedCommand"),
         ProjectError::Missing(what) => missing_line(alloc, what),
         ProjectError::Memory => told(alloc, "no memory"),
+    }
+}
+
+/// The line of a fault of the logic or the report.
+fn script_line(alloc: Global, error: ScriptError) -> Result<String, AllocError>
+    ensures { IfOk result (λ line. string_bytes line ≡ texts.script_line error) }
+{
+    match error {
+        ScriptError::Indent(number) => at_line(alloc, number, "Indent"),
+        ScriptError::Bad(number) => at_line(alloc, number, "Bad"),
+        ScriptError::UnknownTest(number) => at_line(alloc, number, "UnknownTest"),
+        ScriptError::UnknownTag(number) => at_line(alloc, number, "UnknownTag"),
+        ScriptError::Unassigned(number) => at_line(alloc, number, "Unassigned"),
+        ScriptError::Memory => told(alloc, "no memory"),
     }
 }
 

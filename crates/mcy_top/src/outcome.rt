@@ -5,16 +5,15 @@ ghost use Rattle.mcy_top.specs.Outcomes.{book_outcome, outcome_of, status_of};
 use mcy_base::{Kind, Text};
 use project_file::ProjectError;
 use result_book::BookError;
+use tag_script::ScriptError;
 
 /// A form of input that is not built yet.
 #[derive(Clone, Copy, Debug, PartialEq, Eq)]
 pub enum Part {
     /// The sources are not one file in the thin form whose module is the top.
     Source,
-    /// The tests are not one equivalence test `same`, of which PASS and FAIL are expected.
+    /// A test is a simulation.
     Tests,
-    /// The tags are not CHANGED and NOCHANGE, the logic is not the one that tags by that test, or there is a report.
-    Logic,
 }
 
 /// What is wrong with a source.
@@ -43,6 +42,8 @@ pub enum Outcome {
     Usage,
     /// The project file is refused.
     ProjectBad(ProjectError),
+    /// The logic is no tag script, or the report no report.
+    ScriptBad(ScriptError),
     /// The sources are refused.
     SourceBad(SourceError),
     /// There is no file of this name.
@@ -76,6 +77,7 @@ pub fn exit_status(outcome: &Outcome) -> u8
         Outcome::Unfinished(_) => 1,
         Outcome::Usage => 2,
         Outcome::ProjectBad(_) => 3,
+        Outcome::ScriptBad(_) => 4,
         Outcome::SourceBad(_) => 5,
         Outcome::Missing(_) => 6,
         Outcome::TooLarge(_) => 7,
@@ -94,6 +96,7 @@ pub fn exit_status(outcome: &Outcome) -> u8
 #[derive(Drop)]
 pub(crate) enum Refusal {
     ProjectBad(ProjectError),
+    ScriptBad(ScriptError),
     SourceBad(SourceError),
     Missing(Text),
     TooLarge(Text),
@@ -109,6 +112,7 @@ impl Refusal {
     {
         match self {
             Refusal::ProjectBad(error) => Outcome::ProjectBad(error),
+            Refusal::ScriptBad(error) => Outcome::ScriptBad(error),
             Refusal::SourceBad(error) => Outcome::SourceBad(error),
             Refusal::Missing(name) => Outcome::Missing(name),
             Refusal::TooLarge(name) => Outcome::TooLarge(name),

@@ -1,72 +1,99 @@
-//! Which projects are built so far: one test and one script.
-ghost use Rattle.std.specs.Prelude.{◌≡◌, ◌↔◌, IsTrue, MatchOption, map};
-ghost use Rattle.mcy_top.specs.Projects.{IsBuilt, IsSame, IsTagging, IsUnbuilt, TestsSame, change_tags, same_script};
+//! A project that is built, with its tag script and its report.
+ghost use Rattle.std.specs.Prelude.{◌≡◌, ◌≢◌, ◌↔◌, IfErr, IfOk, IsTrue, MatchOption, map};
+ghost use Rattle.std.specs.List.{All};
+ghost use Rattle.project_file.specs.declared.project.TestKind.TheVariants.{Eq};
+ghost use Rattle.tag_script.specs.Checks.{Reads};
+ghost use Rattle.mcy_top.specs.Projects.{AreBuilt, HasScripts, IsScriptFault, IsUnbuilt, kind_of, logic_read};
 
 use crate::outcome::Part;
-use mcy_base::{Line, Text};
+use mcy_base::{Text, TextList};
 use project_file::{Project, TestKind, TestPlan};
+use report_script::{Report, read_report};
+use result_book::{EQ_KIND, NumberList, SIM_KIND};
+use std::alloc::{AllocError, Global};
+use tag_script::{Script, ScriptError, read_script};
+
+/// A project, its tag script and its report.
+#[derive(Drop)]
+pub(crate) struct Scripted {
+    pub(crate) project: Project,
+    pub(crate) script: Script,
+    pub(crate) report: Report,
+}
+
+fn is_equal(test: &TestPlan) -> bool
+    ensures { IsTrue result ↔ (test.now.kind ≡ Eq) }
+{
+    matches!(test.kind, TestKind::Eq)
+}
+
+/// Whether each of the tests compares the mutant with the design.
+fn are_equal(tests: &[TestPlan]) -> bool
+    ensures { IsTrue result ↔ All (λ test. test.kind ≡ Eq) tests.now }
+{
+    tests.iter().all(is_equal)
+}
 
 /// The first part of the project that is not built, or nothing where the project is.
 pub(crate) fn unbuilt_part(project: &Project) -> Option<Part>
-    ensures { MatchOption result (IsBuilt project.now) (λ part. IsUnbuilt project.now part) }
+    ensures { MatchOption result (AreBuilt project.now) (λ part. IsUnbuilt project.now part) }
 {
-    if !tests_same(project) {
-        Some(Part::Tests)
-    } else if !is_tagging(project) {
-        Some(Part::Logic)
-    } else {
+    if are_equal(project.tests.as_slice()) {
         None
+    } else {
+        Some(Part::Tests)
     }
 }
 
-fn is_same(test: &TestPlan) -> bool
-    ensures { IsTrue result ↔ IsSame test.now }
+/// The names of tests.
+pub(crate) fn test_names(alloc: Global, tests: &[TestPlan]) -> Result<TextList, AllocError>
+    ensures { IfOk result (λ names. names ≡ map (λ test. test.name) tests.now) }
 {
-    test.name.as_str() == "same" && matches!(test.kind, TestKind::Eq) && test.expect % 4 == 3
+    let mut names = Vec::new(alloc);
+    for test in tests {
+        names.push(Text::copy(alloc, test.name.as_str())?)?;
+    }
+    Ok(TextList::from_vec(names))
 }
 
-fn tests_same(project: &Project) -> bool
-    ensures { IsTrue result ↔ TestsSame project.now }
+fn kind_of(kind: &TestKind) -> u32
+    ensures { result ≡ kind_of kind.now }
 {
-    match project.tests.as_slice() {
-        [test] => is_same(test),
-        _ => false,
+    match kind {
+        TestKind::Eq => EQ_KIND,
+        TestKind::Sim { .. } => SIM_KIND,
     }
 }
 
-fn are_change_tags(tags: &[Text]) -> bool
-    ensures { IsTrue result ↔ (tags.now ≡ change_tags) }
+/// The codes of the kinds of tests.
+pub(crate) fn test_kinds(alloc: Global, tests: &[TestPlan]) -> Result<NumberList, AllocError>
+    ensures { IfOk result (λ kinds. kinds ≡ map (λ test. kind_of test.kind) tests.now) }
 {
-    match tags {
-        [first, second] => first.as_str() == "CHANGED" && second.as_str() == "NOCHANGE",
-        _ => false,
+    let mut kinds = Vec::new(alloc);
+    for test in tests {
+        kinds.push(kind_of(&test.kind))?;
     }
+    Ok(NumberList::from_vec(kinds))
 }
 
-/// Whether two lines have these texts.
-fn are_lines(first: &Line, second: &Line, text: &str, next: &str) -> bool
-    ensures { IsTrue result ↔ ((first.now.text ≡ text.now) × (second.now.text ≡ next.now)) }
+/// The tag script of the project's logic.
+fn read_logic(alloc: Global, project: &Project) -> Result<Script, ScriptError>
+    ensures { Reads result (logic_read project.now) }
 {
-    first.text.as_str() == text && second.text.as_str() == next
+    let names = test_names(alloc, project.tests.as_slice())?;
+    read_script(alloc, &project.logic, &names, &project.tags)
 }
 
-fn is_same_script(logic: &[Line]) -> bool
-    ensures { IsTrue result ↔ (map (λ line. line.text) logic.now ≡ same_script) }
+/// The tag script and the report of the project.
+pub(crate) fn scripts_of(alloc: Global, project: &Project) -> Result<(Script, Report), ScriptError>
+    ensures scripts { IfOk result (λ read. HasScripts project.now read.0 read.1) }
+    ensures refused { IfErr result (λ error. error ≢ ScriptError.Memory → IsScriptFault project.now error) }
 {
-    let test = "if result(\"same\") == \"PASS\":";
-    match logic {
-        [first, second, third, fourth] => {
-            are_lines(first, second, test, "    tag(\"NOCHANGE\")")
-                && are_lines(third, fourth, "else:", "    tag(\"CHANGED\")")
-        }
-        _ => false,
+    match read_logic(alloc, project) {
+        Ok(script) => match read_report(alloc, &project.report, &project.tags) {
+            Ok(report) => Ok((script, report)),
+            Err(error) => Err(error),
+        },
+        Err(error) => Err(error),
     }
-}
-
-fn is_tagging(project: &Project) -> bool
-    ensures { IsTrue result ↔ IsTagging project.now }
-{
-    are_change_tags(project.tags.as_slice())
-        && is_same_script(project.logic.as_slice())
-        && project.report.as_slice().is_empty()
 }

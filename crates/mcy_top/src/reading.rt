@@ -7,19 +7,20 @@ ghost use Rattle.mcy_base.specs.Causes.{Rose};
 ghost use Rattle.project_file.specs.Projects.{design_files, IsProject};
 ghost use Rattle.mcy_top.specs.Limits.{max_bytes};
 ghost use Rattle.step_trials.specs.Inputs.{max_free_bits};
-ghost use Rattle.mcy_top.specs.Projects.{IsBuilt};
+ghost use Rattle.mcy_top.specs.Projects.{AreBuilt, HasScripts, IsBuilt};
 ghost use Rattle.thin_source.specs.ThinModules.{input_names};
 ghost use Rattle.mcy_top.specs.Campaigns.{config_name, Got, GotAll, IsDesign, IsMade};
 ghost use Rattle.mcy_top.specs.Reads.{IsUnmade, IsUnread, IsUnreadAmong, IsUntaken, IsUntakenDesign, HasReadCause, HasProject, GotSources};
 
 use crate::outcome::{Part, Refusal, SourceError, SourceFault};
 use crate::prepared::{CONFIG_NAME, MAX_BYTES, Prepared, prepare};
-use crate::project::unbuilt_part;
+use crate::project::{Scripted, scripts_of, unbuilt_part};
 use mcy_base::{Bytes, FileList, Kind, SourceFile, Text};
 use mcy_outside::{FileError, SourceFiles};
 use project_file::{Project, ProjectError, read_project};
 use std::alloc::{AllocError, Global};
 use step_trials::MAX_FREE_BITS;
+use tag_script::ScriptError;
 use thin_source::{ThinModule, input_count, read_source};
 
 impl From<AllocError> for Refusal {
@@ -50,36 +51,61 @@ fn read_file<F: SourceFiles>(alloc: Global, files: &mut F, name: &str) -> Result
     }
 }
 
-/// The project that the bytes say, which is built.
-fn take_project(alloc: Global, config: &[u8]) -> Result<Project, Refusal>
+/// The project with its scripts, if it is built.
+#[tactic(auto, using(crate::proofs::Takes::built_of))]
+fn take_scripts(alloc: Global, config: &[u8], project: Project) -> Result<Scripted, Refusal>
+    requires { IsProject config.now project }
+    ensures says { IfOk result (λ taken. IsProject config.now taken.project) }
+    ensures tests { IfOk result (λ taken. AreBuilt taken.project) }
+    ensures built { IfOk result (λ taken. IsBuilt taken.project) }
+    ensures scripts { IfOk result (λ taken. HasScripts taken.project taken.script taken.report) }
+    ensures refused { IfErr result (IsUntaken config.now) }
+{
+    if let Some(part) = unbuilt_part(&project) {
+        return Err(Refusal::Unbuilt(part));
+    }
+    match scripts_of(alloc, &project) {
+        Ok((script, report)) => Ok(Scripted {
+            project,
+            script,
+            report,
+        }),
+        Err(ScriptError::Memory) => Err(Refusal::Memory),
+        Err(error) => Err(Refusal::ScriptBad(error)),
+    }
+}
+
+/// The project that the bytes say, which is built, with its scripts.
+fn take_project(alloc: Global, config: &[u8]) -> Result<Scripted, Refusal>
     requires { length config.now ≤ max_bytes }
-    ensures says { IfOk result (λ project. IsProject config.now project) }
-    ensures built { IfOk result (λ project. IsBuilt project) }
+    ensures says { IfOk result (λ taken. IsProject config.now taken.project) }
+    ensures tests { IfOk result (λ taken. AreBuilt taken.project) }
+    ensures built { IfOk result (λ taken. IsBuilt taken.project) }
+    ensures scripts { IfOk result (λ taken. HasScripts taken.project taken.script taken.report) }
     ensures refused { IfErr result (IsUntaken config.now) }
 {
     match read_project(alloc, config) {
-        Ok(project) => match unbuilt_part(&project) {
-            None => Ok(project),
-            Some(part) => Err(Refusal::Unbuilt(part)),
-        },
+        Ok(project) => take_scripts(alloc, config, project),
         Err(ProjectError::Memory) => Err(Refusal::Memory),
         Err(error) => Err(Refusal::ProjectBad(error)),
     }
 }
 
-/// The project file's bytes, and the project that they say, which is built.
-fn read_config<F: SourceFiles>(alloc: Global, files: &mut F) -> Result<(Vec<u8>, Project), Refusal>
+/// The project file's bytes, and the project that they say, which is built, with its scripts.
+fn read_config<F: SourceFiles>(alloc: Global, files: &mut F) -> Result<(Vec<u8>, Scripted), Refusal>
     ensures same { F.held files.new ≡ F.held files.old }
     ensures got { IfOk result (λ read. Got (F.held files.old) config_name read.0.items) }
-    ensures says { IfOk result (λ read. IsProject read.0.items read.1) }
-    ensures built { IfOk result (λ read. IsBuilt read.1) }
+    ensures says { IfOk result (λ read. IsProject read.0.items read.1.project) }
+    ensures tests { IfOk result (λ read. AreBuilt read.1.project) }
+    ensures built { IfOk result (λ read. IsBuilt read.1.project) }
+    ensures scripts { IfOk result (λ read. HasScripts read.1.project read.1.script read.1.report) }
     ensures refused { IfErr result (IsUnmade (F.held files.old)) }
     ensures later { F.faults files.old ≤ F.faults files.new }
     ensures cause { IfErr result (HasReadCause (F.faults files.old) (F.faults files.new)) }
 {
     let config = read_file(alloc, files, CONFIG_NAME)?;
-    let project = take_project(alloc, &config)?;
-    Ok((config, project))
+    let taken = take_project(alloc, &config)?;
+    Ok((config, taken))
 }
 
 /// The file of this name.
@@ -196,8 +222,8 @@ pub(crate) fn read_campaign<F: SourceFiles>(
     ensures later { F.faults files.old ≤ F.faults files.new }
     ensures cause { IfErr result (HasReadCause (F.faults files.old) (F.faults files.new)) }
 {
-    let (config, project) = read_config(alloc, files)?;
-    let sources = read_sources(alloc, files, &project)?;
-    let parsed = take_design(alloc, &project, sources.as_slice())?;
-    Ok(prepare(alloc, &config, &project, sources.as_slice(), &parsed)?)
+    let (config, taken) = read_config(alloc, files)?;
+    let sources = read_sources(alloc, files, &taken.project)?;
+    let parsed = take_design(alloc, &taken.project, sources.as_slice())?;
+    Ok(prepare(alloc, &config, taken, sources.as_slice(), &parsed)?)
 }

@@ -2,7 +2,7 @@
 ghost use Rattle.std.specs.Prelude.{◌≡◌, ◌⊎◌, ◌+◌, ◌<◌, ◌≤◌, IsTrue, IfOk, OnOk, OnErr, IsErrOf, length};
 ghost use Rattle.mcy_base.specs.Causes.{Rose};
 ghost use Rattle.mcy_keeper.specs.Books.{Keeps};
-ghost use Rattle.result_book.specs.declared.script.Ask.TheVariants.{Need};
+ghost use Rattle.tag_script.specs.declared.answer.Ask.TheVariants.{Need};
 ghost use Rattle.result_book.specs.Scripts.{word_code};
 ghost use Rattle.result_book.specs.Rows.{ask_on, IsFinished};
 ghost use Rattle.result_book.specs.States.{IsStateOf};
@@ -14,10 +14,11 @@ ghost use Rattle.mcy_top.specs.Running.{book_of, AddsRow, Broke, LeavesNext, Ran
 use crate::prepared::Prepared;
 use mcy_base::Steps;
 use mcy_keeper::{KeepError, Keeper};
-use result_book::{Ask, State, TestWord};
+use result_book::{State, TestWord};
 use std::alloc::{AllocError, Global};
 use std::sync::ledger::Ledger;
 use step_trials::Design;
+use tag_script::Ask;
 
 /// What runs the tests of a campaign: its design is computed once for all mutations.
 #[derive(Drop)]
@@ -69,7 +70,7 @@ impl<'a> Tester<'a> {
         requires plan { IsPlan self.now.prepared.now }
         requires mutation { mutation < length self.now.prepared.now.campaign.mutations }
         requires state { IsStateOf self.now.prepared.now.campaign state.old.rows state.old }
-        requires asked { ask_on mutation state.old.rows ≡ Need test }
+        requires asked { ask_on self.now.prepared.now.campaign mutation state.old.rows ≡ Need test }
         requires kept { K.tells keeper.old → Keeps (K.holds keeper.old) (K.leaves keeper.old) (book_of self.now.prepared.now state.old.rows) }
         ensures tells { K.tells keeper.new → K.tells keeper.old }
         ensures settled { OnOk result (IsTrue (K.is_settled keeper.new)) }
@@ -90,8 +91,8 @@ impl<'a> Tester<'a> {
         Ok(())
     }
 
-    /// Runs tests in the order of the mutations, until every mutation is finished or as many rows were added as were
-    /// asked for.
+    /// Runs tests in the order of the mutations, for each those that its script needs one after the other, until every
+    /// mutation is finished or as many rows were added as were asked for.
     pub(crate) fn run_tests<K: Keeper, L: Ledger>(
         &self,
         stop_after: Option<u32>,
@@ -116,13 +117,16 @@ impl<'a> Tester<'a> {
     {
         let count = self.prepared.campaign.mutations.as_slice().len() as u32;
         let mut gained: u32 = 0;
-        'tests: for mutation in 0..count {
+        let mut mutation: u32 = 0;
+        'tests: while mutation < count {
             if stop_after == Some(gained) {
                 return Ok(());
             }
             if let Ask::Need(test) = state.ask_of(mutation) {
                 self.test_mutation(mutation, test, state, keeper, steps)?;
                 gained += 1;
+            } else {
+                mutation += 1;
             }
         }
         Ok(())

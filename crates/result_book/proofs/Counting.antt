@@ -7,7 +7,8 @@ use Rattle.std.proofs.lemmas.List.Folds.{sum_by-replicate}
 use Rattle.std.proofs.lemmas.List.Sums.{count_by-le-length, sum_by-cons, sum_by-set}
 use Rattle.mcy_keeper.specs.declared.book.Entry.{Entry}
 use Rattle.result_book.specs.declared.campaign.Campaign.{Campaign}
-use Rattle.result_book.specs.Scripts.{Answer, word_at, word_in, words_of}
+use Rattle.tag_script.specs.Outcomes.{word_at}
+use Rattle.result_book.specs.Scripts.{Answer, word_in, words_of}
 use Rattle.result_book.specs.Campaigns.{IsFit}
 use Rattle.result_book.specs.Rows.{answer_of, answers_of, groups, groups_from, AreRows, IsRow}
 use Rattle.result_book.proofs.Words.{length-words_of, word_at-words_of, words_of-more, words_of-none}
@@ -42,7 +43,7 @@ counted_none c = record {
 counted_words : (c : Campaign) (rows : List Entry) (e : Entry) → IsFit c → AreCounted c rows → IsRow c rows e → (m : ℕ) → length (answers_of m (rows ++ e ∷ [])) ≡ count_by is_some (words_of (answers_of m (rows ++ e ∷ [])))
 counted_words c rows e fit counted row m = elim (eqb_tells e.mutation m) [
   | inl h ↦ (let answers : List Answer = answers_of m rows in
-      let none : word_in answers e.test ≡ None = subst (λ (j : ℕ). word_in (answers_of j rows) e.test ≡ None) h.1 (need_new (answers_of e.mutation rows) e.test row.asked) in
+      let none : word_in answers e.test ≡ None = subst (λ (j : ℕ). word_in (answers_of j rows) e.test ≡ None) h.1 (need_new c (answers_of e.mutation rows) e.test fit row.asked) in
       let inside : e.test < 16 = omega (arith, row.test, fit.few_tests) in
       let long : length (words_of answers) ≡ 16 = length-words_of answers in
       let more : words_of (answers ++ answer_of e ∷ []) ≡ set (words_of answers) e.test (Some e.word) = words_of-more answers (answer_of e) inside none in

@@ -4,10 +4,11 @@ use Rattle.std.specs.List.{All, Any}
 use Rattle.std.proofs.Math.Seq.{split_at}
 use Rattle.mcy_keeper.specs.declared.book.Entry.{Entry}
 use Rattle.result_book.specs.declared.campaign.Campaign.{Campaign}
-use Rattle.result_book.specs.declared.script.Ask.{Ask}
+use Rattle.tag_script.specs.declared.answer.Ask.{Ask}
 use Rattle.result_book.specs.declared.check.RowFault.{RowFault}
 use Rattle.result_book.specs.declared.check.RowFault.TheVariants.{Mark, Tags}
-use Rattle.result_book.specs.Scripts.{Answer, ask, word_at, word_in, words_of, mark_of, tags_of}
+use Rattle.tag_script.specs.Outcomes.{word_at}
+use Rattle.result_book.specs.Scripts.{Answer, ask, word_in, words_of, mark_of, tags_of}
 use Rattle.result_book.specs.Campaigns.{IsFit, IsWordOf}
 use Rattle.result_book.specs.Rows.{answer_of, answers_of, ask_on, IsPair, IsRow}
 use Rattle.result_book.specs.BookFaults.{IsAnswered, IsAsked, IsFirstFault, IsPlaced, IsRowFault}
@@ -42,14 +43,14 @@ pub old_by_word : (c : Campaign) (rows : List Entry) (s : Progress) (e : Entry) 
 old_by_word c rows s e words None fit state placed at is has = cc
 old_by_word c rows s e words (Some word) fit state placed at is has = old_pair e.mutation e.test word rows (sym (word_known c rows s e words fit state placed at) ∙ sym is)
 
-pub ask_known : (c : Campaign) (rows : List Entry) (s : Progress) (e : Entry) (stands : Ask) → IsStateOf c rows s → IsPlaced c rows e → slice_get s.asks e.mutation ≡ Some stands → stands ≡ ask_on e.mutation rows
-ask_known c rows s e stands state placed at = let known : slice_get s.asks e.mutation ≡ Some (ask_on e.mutation rows) = asks-at c rows s e.mutation state placed.mutation in cc
+pub ask_known : (c : Campaign) (rows : List Entry) (s : Progress) (e : Entry) (stands : Ask) → IsStateOf c rows s → IsPlaced c rows e → slice_get s.asks e.mutation ≡ Some stands → stands ≡ ask_on c e.mutation rows
+ask_known c rows s e stands state placed at = let known : slice_get s.asks e.mutation ≡ Some (ask_on c e.mutation rows) = asks-at c rows s e.mutation state placed.mutation in cc
 
 -- how the script stands after a row does not depend on the row's number, mark and tags
-pub ask_on-same : (rows : List Entry) (e f : Entry) → f.mutation ≡ e.mutation → f.test ≡ e.test → f.word ≡ e.word → ask_on f.mutation (rows ++ f ∷ []) ≡ ask_on e.mutation (rows ++ e ∷ [])
-ask_on-same rows e f mutation test word =
+pub ask_on-same : (c : Campaign) (rows : List Entry) (e f : Entry) → f.mutation ≡ e.mutation → f.test ≡ e.test → f.word ≡ e.word → ask_on c f.mutation (rows ++ f ∷ []) ≡ ask_on c e.mutation (rows ++ e ∷ [])
+ask_on-same c rows e f mutation test word =
     let answer : answer_of f ≡ answer_of e = cc in
-    ap (λ (m : ℕ). ask_on m (rows ++ f ∷ [])) mutation ∙ ap ask (answers_of-same e.mutation rows f mutation) ∙ ap (λ (a : Answer). ask (answers_of e.mutation rows ++ a ∷ [])) answer ∙ sym (ap ask (answers_of-same e.mutation rows e refl))
+    ap (λ (m : ℕ). ask_on c m (rows ++ f ∷ [])) mutation ∙ ap (ask c) (answers_of-same e.mutation rows f mutation) ∙ ap (λ (a : Answer). ask c (answers_of e.mutation rows ++ a ∷ [])) answer ∙ sym (ap (ask c) (answers_of-same e.mutation rows e refl))
 
 -- a row that no test of its pair finds a fault with, and whose word is one of its kind of test
 pub is_answered : (c : Campaign) (rows : List Entry) (e : Entry) (fault : Option RowFault) → MatchOption fault (IsAsked c rows e) (IsRowFault c rows e) → false ≡ is_some fault → IsWordOf c e.test e.word → IsAnswered c rows e
@@ -58,14 +59,14 @@ is_answered c rows e (Some fault) tells none word = cc
 
 -- a row of which the next row for its word has another mark
 pub mark_fault : (c : Campaign) (rows : List Entry) (e next : Entry) → IsAnswered c rows e → IsRow c rows next → IsPair e.mutation e.test next → next.word ≡ e.word → e.mark ≢ next.mark → IsRowFault c rows e (Mark next.mark)
-mark_fault c rows e next answered row pair word other = (answered, row.mark ∙ ap mark_of (ask_on-same rows e next pair.0 pair.1 word), other)
+mark_fault c rows e next answered row pair word other = (answered, row.mark ∙ ap mark_of (ask_on-same c rows e next pair.0 pair.1 word), other)
 
 -- or only other tags
 pub tags_fault : (c : Campaign) (rows : List Entry) (e next : Entry) → IsAnswered c rows e → IsRow c rows next → IsPair e.mutation e.test next → next.word ≡ e.word → e.mark ≡ next.mark → e.tags ≢ next.tags → IsRowFault c rows e (Tags next.tags)
 tags_fault c rows e next answered row pair word mark other = (
   answered,
-  mark ∙ row.mark ∙ ap mark_of (ask_on-same rows e next pair.0 pair.1 word),
-  row.tags ∙ ap tags_of (ask_on-same rows e next pair.0 pair.1 word),
+  mark ∙ row.mark ∙ ap mark_of (ask_on-same c rows e next pair.0 pair.1 word),
+  row.tags ∙ ap tags_of (ask_on-same c rows e next pair.0 pair.1 word),
   other,
 )
 

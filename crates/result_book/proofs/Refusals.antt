@@ -4,7 +4,7 @@ use Rattle.std.specs.List.{All, Any}
 use Rattle.mcy_keeper.specs.declared.book.Entry.{Entry}
 use Rattle.mcy_keeper.specs.declared.book.Book.{Book}
 use Rattle.result_book.specs.declared.campaign.Campaign.{Campaign}
-use Rattle.result_book.specs.declared.script.Ask.TheVariants.{Need}
+use Rattle.tag_script.specs.declared.answer.Ask.TheVariants.{Need}
 use Rattle.result_book.specs.declared.check.RowFault.{RowFault}
 use Rattle.result_book.specs.declared.check.RowFault.TheVariants.{Seq, NoMutation, NoTest, Twice, NotAsked, BadWord, Mark, Tags}
 use Rattle.result_book.specs.declared.check.BookError.{BookError}
@@ -50,9 +50,9 @@ entry seq mutation test word mark tags = record { seq = seq; mutation = mutation
 -- the next row of a mutation is determined by its word
 pub one_row : (c : Campaign) (earlier : List Entry) (e f : Entry) → IsRow c earlier e → IsRow c earlier f → e.mutation ≡ f.mutation → e.word ≡ f.word → e ≡ f
 one_row c earlier e f row row' mutation word =
-    let asked : Need e.test ≡ Need f.test = sym row.asked ∙ ap (λ (m : ℕ). ask_on m earlier) mutation ∙ row'.asked in
+    let asked : Need e.test ≡ Need f.test = sym row.asked ∙ ap (λ (m : ℕ). ask_on c m earlier) mutation ∙ row'.asked in
     let test : e.test ≡ f.test = cc in
-    let stands : ask_on e.mutation (earlier ++ e ∷ []) ≡ ask_on f.mutation (earlier ++ f ∷ []) = ask_on-same earlier f e mutation test word in
+    let stands : ask_on c e.mutation (earlier ++ e ∷ []) ≡ ask_on c f.mutation (earlier ++ f ∷ []) = ask_on-same c earlier f e mutation test word in
     let seq : e.seq ≡ f.seq = row.seq ∙ sym row'.seq in
     let mark : e.mark ≡ f.mark = row.mark ∙ ap mark_of stands ∙ sym row'.mark in
     let tags : e.tags ≡ f.tags = row.tags ∙ ap tags_of stands ∙ sym row'.tags in

@@ -1,7 +1,8 @@
 -- The words of a mutation's answers, one more at the end.
 use Rattle.std.proofs.Common.{◌≡◌, ◌≢◌, inl, inr, arith, ℕ, zero, suc, ◌+◌, ◌<◌, List, [], ◌∷◌, ◌++◌, set, None, Some, refl, sym, ◌∙◌, ap, length, replicate}
 use Rattle.std.proofs.lemmas.Bool.Decides.{eqb_tells}
-use Rattle.result_book.specs.Scripts.{Answer, word_at, word_in, words_from, words_of}
+use Rattle.tag_script.specs.Outcomes.{word_at}
+use Rattle.result_book.specs.Scripts.{Answer, word_in, words_from, words_of}
 
 -- the first word of a test counts
 pub word_in-same : (answers : List Answer) (a : Answer) → word_in answers a.test ≡ None → word_in (answers ++ a ∷ []) a.test ≡ Some a.word

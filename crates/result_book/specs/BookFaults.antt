@@ -4,7 +4,7 @@ use Rattle.std.specs.List.{All, Any}
 use Rattle.mcy_keeper.specs.declared.book.Entry.{Entry}
 use Rattle.mcy_keeper.specs.declared.book.Book.{Book}
 use Rattle.result_book.specs.declared.campaign.Campaign.{Campaign}
-use Rattle.result_book.specs.declared.script.Ask.TheVariants.{Need}
+use Rattle.tag_script.specs.declared.answer.Ask.TheVariants.{Need}
 use Rattle.result_book.specs.declared.check.RowFault.{RowFault}
 use Rattle.result_book.specs.declared.check.RowFault.TheVariants.{Seq, NoMutation, NoTest, Twice, NotAsked, BadWord, Mark, Tags}
 use Rattle.result_book.specs.declared.check.BookError.{BookError}
@@ -31,7 +31,7 @@ pub record IsPlaced (c : Campaign) (earlier : List Entry) (e : Entry) : Type 0 w
 pub record IsAsked (c : Campaign) (earlier : List Entry) (e : Entry) : Type 0 where
   pub placed : IsPlaced c earlier e
   pub new : All (λ row. ¬ IsPair e.mutation e.test row) earlier
-  pub asked : ask_on e.mutation earlier ≡ Need e.test
+  pub asked : ask_on c e.mutation earlier ≡ Need e.test
 
 -- and its word is one of its kind of test
 pub record IsAnswered (c : Campaign) (earlier : List Entry) (e : Entry) : Type 0 where
@@ -44,11 +44,11 @@ IsRowFault c earlier e (Seq n) = (n ≡ length earlier) × (e.seq ≢ n)
 IsRowFault c earlier e NoMutation = (e.seq ≡ length earlier) × (length c.mutations ≤ e.mutation)
 IsRowFault c earlier e NoTest = (e.seq ≡ length earlier) × (e.mutation < length c.mutations) × (length c.kinds ≤ e.test)
 IsRowFault c earlier e Twice = IsPlaced c earlier e × Any (IsPair e.mutation e.test) earlier
-IsRowFault c earlier e NotAsked = IsPlaced c earlier e × All (λ row. ¬ IsPair e.mutation e.test row) earlier × (ask_on e.mutation earlier ≢ Need e.test)
+IsRowFault c earlier e NotAsked = IsPlaced c earlier e × All (λ row. ¬ IsPair e.mutation e.test row) earlier × (ask_on c e.mutation earlier ≢ Need e.test)
 IsRowFault c earlier e BadWord = IsAsked c earlier e × (¬ IsWordOf c e.test e.word)
-IsRowFault c earlier e (Mark n) = IsAnswered c earlier e × (n ≡ mark_of (ask_on e.mutation (earlier ++ e ∷ []))) × (e.mark ≢ n)
+IsRowFault c earlier e (Mark n) = IsAnswered c earlier e × (n ≡ mark_of (ask_on c e.mutation (earlier ++ e ∷ []))) × (e.mark ≢ n)
 IsRowFault c earlier e (Tags n) =
-    IsAnswered c earlier e × (e.mark ≡ mark_of (ask_on e.mutation (earlier ++ e ∷ []))) × (n ≡ tags_of (ask_on e.mutation (earlier ++ e ∷ []))) × (e.tags ≢ n)
+    IsAnswered c earlier e × (e.mark ≡ mark_of (ask_on c e.mutation (earlier ++ e ∷ []))) × (n ≡ tags_of (ask_on c e.mutation (earlier ++ e ∷ []))) × (e.tags ≢ n)
 
 -- the row is the first of these rows that has a fault
 pub record IsFirstFault (c : Campaign) (rows : List Entry) (e : Entry) (fault : RowFault) : Type 0 where

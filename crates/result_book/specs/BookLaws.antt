@@ -6,7 +6,8 @@ use Rattle.mcy_keeper.specs.Books.{IsNext, with_entry}
 use Rattle.result_book.specs.declared.campaign.Campaign.{Campaign}
 use Rattle.result_book.specs.declared.check.BookError.{BookError}
 use Rattle.result_book.specs.declared.check.BookError.TheVariants.{Memory}
-use Rattle.result_book.specs.Scripts.{is_ended}
+use Rattle.tag_script.specs.Outcomes.{AreAmong, script_outcome, told}
+use Rattle.result_book.specs.Scripts.{Answer, ask, is_ended, words_of}
 use Rattle.result_book.specs.Campaigns.{IsFit}
 use Rattle.result_book.specs.Rows.{answers_of, AreRows, IsFinished, IsRow, IsWellFormed}
 use Rattle.result_book.specs.BookFaults.{IsRefused}
@@ -35,3 +36,7 @@ RowsAreFew = (c : Campaign) (rows : List Entry) → IsFit c → AreRows c [] row
 -- A book is finished exactly where its state counts each mutation as finished.
 abbrev pub FinishedBooksAreCounted : Type 0
 FinishedBooksAreCounted = (c : Campaign) (book : Book) (s : Progress) → IsStateOf c book.journal s → (count_by is_ended s.asks ≡ length c.mutations) ↔ IsFinished c book
+
+-- Whatever the words are of the tests that have none yet, the script asks for the same.
+abbrev pub MissingWordsPlayNoPart : Type 0
+MissingWordsPlayNoPart = (c : Campaign) (answers : List Answer) (words : List ℕ) → AreAmong (words_of answers) words → ask c answers ≡ told (words_of answers) (script_outcome c.expect words c.script)

@@ -4,8 +4,8 @@ use Rattle.std.specs.List.{All}
 use Rattle.mcy_keeper.specs.declared.book.Entry.{Entry}
 use Rattle.mcy_keeper.specs.declared.book.Book.{Book}
 use Rattle.result_book.specs.declared.campaign.Campaign.{Campaign}
-use Rattle.result_book.specs.declared.script.Ask.{Ask}
-use Rattle.result_book.specs.declared.script.Ask.TheVariants.{Need}
+use Rattle.tag_script.specs.declared.answer.Ask.{Ask}
+use Rattle.tag_script.specs.declared.answer.Ask.TheVariants.{Need}
 use Rattle.result_book.specs.Scripts.{Answer, ask, is_ended, mark_of, tags_of}
 use Rattle.result_book.specs.Campaigns.{IsWordOf}
 
@@ -18,8 +18,8 @@ answers_of m [] = []
 answers_of m (e ∷ more) = if e.mutation == m then answer_of e ∷ answers_of m more else answers_of m more
 
 -- what the script asks for on a mutation after these rows, or how it ended
-abbrev pub ask_on : ℕ → List Entry → Ask
-ask_on m rows = ask (answers_of m rows)
+abbrev pub ask_on : Campaign → ℕ → List Entry → Ask
+ask_on c m rows = ask c (answers_of m rows)
 
 -- the row is of this pair of mutation and test
 abbrev pub IsPair : ℕ → ℕ → Entry → Type 0
@@ -32,10 +32,10 @@ pub record IsRow (c : Campaign) (earlier : List Entry) (e : Entry) : Type 0 wher
   pub mutation : e.mutation < length c.mutations
   pub test : e.test < length c.kinds
   pub new : All (λ row. ¬ IsPair e.mutation e.test row) earlier
-  pub asked : ask_on e.mutation earlier ≡ Need e.test
+  pub asked : ask_on c e.mutation earlier ≡ Need e.test
   pub word : IsWordOf c e.test e.word
-  pub mark : e.mark ≡ mark_of (ask_on e.mutation (earlier ++ e ∷ []))
-  pub tags : e.tags ≡ tags_of (ask_on e.mutation (earlier ++ e ∷ []))
+  pub mark : e.mark ≡ mark_of (ask_on c e.mutation (earlier ++ e ∷ []))
+  pub tags : e.tags ≡ tags_of (ask_on c e.mutation (earlier ++ e ∷ []))
 
 -- each row may come next after those before it
 abbrev pub AreRows : Campaign → List Entry → List Entry → Type 0
@@ -50,7 +50,7 @@ pub record IsWellFormed (c : Campaign) (book : Book) : Type 0 where
 
 -- the script needs no test on any mutation's rows
 abbrev pub IsFinished : Campaign → Book → Type 0
-IsFinished c book = (m : ℕ) → m < length c.mutations → is_ended (ask_on m book.journal) ≡ true
+IsFinished c book = (m : ℕ) → m < length c.mutations → is_ended (ask_on c m book.journal) ≡ true
 
 -- the answers of so many mutations among rows, from mutation m on
 abbrev pub groups_from : ℕ → ℕ → List Entry → List (List Answer)

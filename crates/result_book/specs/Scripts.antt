@@ -1,10 +1,11 @@
--- The tag script: which test it asks for on a mutation, and how it ends. One script is built so far, that of the and-gate
--- project.
-use Rattle.std.specs.Prelude.{ℕ, zero, suc, ◌+◌, Bool, true, false, ◌==◌, List, [], ◌∷◌, Option, None, Some, slice_get, unwrap_or, if◌then◌else◌, bit_and}
+-- What a campaign's tag script asks for on a mutation, how it ends, and what a row tells of that.
+use Rattle.std.specs.Prelude.{ℕ, zero, suc, ◌+◌, ◌-◌, ◌^◌, Bool, true, false, ◌==◌, List, [], ◌∷◌, Option, None, Some, map, min, unwrap_or, if◌then◌else◌, bit_and}
+use Rattle.tag_script.specs.declared.answer.Ask.{Ask}
+use Rattle.tag_script.specs.declared.answer.Ask.TheVariants.{Need, Done, AssertFailed, Unexpected}
+use Rattle.tag_script.specs.Outcomes.{script_outcome, told}
+use Rattle.result_book.specs.declared.campaign.Campaign.{Campaign}
 use Rattle.result_book.specs.declared.script.TestWord.{TestWord}
 use Rattle.result_book.specs.declared.script.TestWord.TheVariants.{Pass, Fail, Hang, Unknown}
-use Rattle.result_book.specs.declared.script.Ask.{Ask}
-use Rattle.result_book.specs.declared.script.Ask.TheVariants.{Need, Done, AssertFailed, Unexpected}
 
 -- the code of a word in a row
 abbrev pub word_code : TestWord → ℕ
@@ -32,19 +33,18 @@ words_from test (suc n) answers = word_in answers test ∷ words_from (test + 1)
 unfoldable pub words_of : List Answer → List (Option ℕ)
 words_of answers = words_from 0 16 answers
 
--- the word of a test in such a list
-abbrev pub word_at : List (Option ℕ) → ℕ → Option ℕ
-word_at words test = unwrap_or (slice_get words test) None
+-- These words, with PASS for each test that has none. Any other would do: see `MissingWordsPlayNoPart`.
+abbrev pub filled : List (Option ℕ) → List ℕ
+filled words = map (λ word. unwrap_or word (word_code Pass)) words
 
--- how the script stands by the word of its test, `if result("same") == "PASS": tag("NOCHANGE") else: tag("CHANGED")`
--- where the project expects PASS and FAIL, test 0 is `same`, tag 0 is CHANGED and tag 1 is NOCHANGE
-abbrev pub ask_by : Option ℕ → Ask
-ask_by None = Need 0
-ask_by (Some word) = if word == word_code Pass then Done 2 else (if word == word_code Fail then Done 1 else Unexpected 0)
+-- What the script asks for where the tests of a mutation have these words: the first test that it asks and that has none, or
+-- how it ended.
+unfoldable pub ask_by : Campaign → List (Option ℕ) → Ask
+ask_by c words = told words (script_outcome c.expect (filled words) c.script)
 
 -- what the script asks for where a mutation's tests have given these answers, or how it ended
-abbrev pub ask : List Answer → Ask
-ask answers = ask_by (word_in answers 0)
+abbrev pub ask : Campaign → List Answer → Ask
+ask c answers = ask_by c (words_of answers)
 
 -- the script needs no test
 abbrev pub is_ended : Ask → Bool
@@ -56,12 +56,13 @@ abbrev pub has_tag : ℕ → Ask → Bool
 has_tag bit (Done tags) = bit_and tags bit == bit
 has_tag bit ask = false
 
--- The mark and the tags of a row, from how the script stands after it.
+-- The mark and the tags of a row, from how the script stands after it. No project file has so many lines that the limit
+-- of `u32` matters.
 abbrev pub mark_of : Ask → ℕ
 mark_of (Need test) = 0
 mark_of (Done tags) = 1
 mark_of (Unexpected test) = 2
-mark_of (AssertFailed line) = 16 + line
+mark_of (AssertFailed line) = min (16 + line) (2 ^ 32 - 1)
 
 abbrev pub tags_of : Ask → ℕ
 tags_of (Done tags) = tags

@@ -2,7 +2,7 @@
 use Rattle.std.specs.Prelude.{◌≡◌, ℕ, ◌+◌, ◌<◌, ◌≤◌, ◌^◌, List, [], map, Option}
 use Rattle.mcy_keeper.specs.declared.book.Entry.{Entry}
 use Rattle.result_book.specs.declared.campaign.Campaign.{Campaign}
-use Rattle.result_book.specs.declared.script.Ask.{Ask}
+use Rattle.tag_script.specs.declared.answer.Ask.{Ask}
 use Rattle.result_book.specs.Scripts.{ask, words_of}
 use Rattle.result_book.specs.Rows.{groups, AreRows}
 
@@ -29,4 +29,4 @@ pub record IsStateOf (c : Campaign) (rows : List Entry) (s : Progress) : Type 0 
   pub rows_are : s.rows ≡ rows
   pub form : AreRows c [] rows
   pub results : s.results ≡ map words_of (groups c rows)
-  pub asks : s.asks ≡ map ask (groups c rows)
+  pub asks : s.asks ≡ map (ask c) (groups c rows)

@@ -1,5 +1,5 @@
 //! Laws of books and their rows, each as the contract of a function that does nothing.
-ghost use Rattle.result_book.specs.BookLaws.{BooksGrowByRows, FinishedBooksAreCounted, FirstPartsAreRows, RefusedBooksAreIllFormed, RowsAreFew, WordsDetermineRows};
+ghost use Rattle.result_book.specs.BookLaws.{BooksGrowByRows, FinishedBooksAreCounted, FirstPartsAreRows, MissingWordsPlayNoPart, RefusedBooksAreIllFormed, RowsAreFew, WordsDetermineRows};
 
 /// A book that is refused for another cause than memory is not well-formed.
 pub fn refused_books_are_ill_formed()
@@ -29,4 +29,9 @@ pub fn rows_are_few()
 /// A book is finished exactly where its state counts each mutation as finished.
 pub fn finished_books_are_counted()
     ensures { FinishedBooksAreCounted }
+{}
+
+/// Whatever the words are of the tests that have none yet, the script asks for the same.
+pub fn missing_words_play_no_part()
+    ensures { MissingWordsPlayNoPart }
 {}

@@ -2,12 +2,15 @@
 //!
 //! `meta` and `mutations` are what the book keeps of it. `lines` has an element for each mutation;
 //! `test_names`, `kinds` and `expect` have one for each test. Each number that names a mutation, a test
-//! or a tag counts from 0 in the order of its list.
+//! or a tag counts from 0 in the order of its list, in the script and the report too.
 ghost use Rattle.std.specs.Prelude.{◌≡◌, ◌<◌, ◌↔◌, IsTrue, length};
 ghost use Rattle.result_book.specs.Campaigns.{IsWordOf, IsWordOfKind};
+ghost use Rattle.result_book.specs.Scripts.{ask_by};
 
 use crate::script::TestWord;
 use mcy_base::{BytesList, Items, TextList};
+use report_script::Report;
+use tag_script::{Ask, Results, Script, ask};
 
 /// The code of an equivalence test among kinds.
 pub const EQ_KIND: u32 = 0;
@@ -36,6 +39,10 @@ pub struct Campaign {
     pub expect: NumberList,
     /// The names of the tags.
     pub tags: TextList,
+    /// Which tests are asked on a mutation, and the tags that their words give.
+    pub script: Script,
+    /// What the status tells of the counts of tags.
+    pub report: Report,
 }
 
 /// Whether the word with this code is one of this kind of test.
@@ -57,5 +64,12 @@ impl Campaign {
         ensures { IsTrue result ↔ IsWordOf self.now test word }
     {
         is_word_of_kind(self.kinds.as_slice()[test as usize], word)
+    }
+
+    /// What the script asks for where the tests of a mutation have these words, or how it ended. It takes no memory.
+    pub fn ask_by(&self, results: &Results) -> Ask
+        ensures { result ≡ ask_by self.now results.now }
+    {
+        ask(&self.script, self.expect.as_slice(), results)
     }
 }

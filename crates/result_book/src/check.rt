@@ -10,6 +10,7 @@ ghost use Rattle.result_book.specs.Rows.{IsRow, IsWellFormed};
 ghost use Rattle.result_book.specs.States.{IsStateOf};
 
 use crate::campaign::Campaign;
+use crate::script::needs;
 use crate::state::State;
 use mcy_base::Bytes;
 use mcy_keeper::{Book, Entry};
@@ -142,7 +143,7 @@ fn pair_fault(campaign: &Campaign, state: &State, row: &Entry) -> Option<RowFaul
     if state.results(row.mutation).word(row.test).is_some() {
         return Some(RowFault::Twice);
     }
-    if !state.ask_of(row.mutation).needs(row.test) {
+    if !needs(state.ask_of(row.mutation), row.test) {
         return Some(RowFault::NotAsked);
     }
     None

@@ -4,12 +4,10 @@
 pub mod book_laws;
 mod campaign;
 mod check;
-mod results;
 mod script;
 mod state;
 
 pub use campaign::{Campaign, EQ_KIND, NumberList, PlaceList, SIM_KIND};
 pub use check::{BookError, RowFault, check_book};
-pub use results::{MAX_TESTS, Results};
-pub use script::{Ask, TestWord};
+pub use script::{TestWord, has_tag};
 pub use state::State;

@@ -5,18 +5,18 @@
 //! that capacity. There are fewer than 2^32 rows and mutations, so a `u32` counts them. Contracts see the
 //! four fields; `IsStateOf` ties them to a campaign.
 ghost use Rattle.std.specs.Prelude.{◌≡◌, ◌+◌, ◌<◌, ◌≤◌, ◌++◌, ◌∷◌, [], Some, IfOk, OnOk, OnErr, length, slice_get, count_by, max};
-ghost use Rattle.result_book.specs.declared.script.Ask.TheVariants.{Need};
+ghost use Rattle.tag_script.specs.declared.answer.Ask.TheVariants.{Need};
 ghost use Rattle.result_book.specs.Scripts.{is_ended};
 ghost use Rattle.result_book.specs.Campaigns.{IsFit, IsWordOf};
 ghost use Rattle.result_book.specs.Rows.{ask_on, IsPair, IsRow};
 ghost use Rattle.result_book.specs.States.{IsStateOf};
 
 use crate::campaign::Campaign;
-use crate::results::Results;
-use crate::script::Ask;
+use crate::script::{is_ended, mark, tags};
 use mcy_keeper::Entry;
 use std::alloc::{AllocError, Global};
 use std::marker::Model;
+use tag_script::{Ask, Results};
 
 /// The rows of a campaign's book, and what they say of each mutation.
 #[derive(Drop)]
@@ -49,7 +49,7 @@ impl State {
         Ok(State {
             rows: Vec::new(alloc),
             results: vec![in alloc; none; count]?,
-            asks: vec![in alloc; Ask::after(&none); count]?,
+            asks: vec![in alloc; campaign.ask_by(&none); count]?,
             spare: 0,
         })
     }
@@ -83,7 +83,7 @@ impl State {
     pub fn finished(&self) -> u32
         ensures { result ≡ count_by is_ended self.now.asks }
     {
-        self.asks.iter().filter(|ask| ask.is_ended()).count() as u32
+        self.asks.iter().filter(|ask| is_ended(**ask)).count() as u32
     }
 
     /// The words of a mutation's tests.
@@ -107,21 +107,21 @@ impl State {
         requires fit { IsFit campaign.now }
         requires state { IsStateOf campaign.now self.now.rows self.now }
         requires mutation { mutation < length campaign.now.mutations }
-        requires asked { ask_on mutation self.now.rows ≡ Need test }
+        requires asked { ask_on campaign.now mutation self.now.rows ≡ Need test }
         requires word { IsWordOf campaign.now test word }
         ensures row { IsRow campaign.now self.now.rows result }
         ensures pair { IsPair mutation test result }
         ensures word { result.word ≡ word }
     {
         let results = self.results(mutation).set_word(test, word);
-        let ask = Ask::after(&results);
+        let ask = campaign.ask_by(&results);
         Entry {
             seq: self.len(),
             mutation,
             test,
             word,
-            mark: ask.mark(),
-            tags: ask.tags(),
+            mark: mark(ask),
+            tags: tags(ask),
         }
     }
 
@@ -137,7 +137,7 @@ impl State {
         let mutation = entry.mutation as usize;
         let results = self.results[mutation].set_word(entry.test, entry.word);
         self.results[mutation] = results;
-        self.asks[mutation] = Ask::after(&results);
+        self.asks[mutation] = campaign.ask_by(&results);
         let added = self.rows.push(*entry).is_ok();
         prove!(added);
         self.spare -= 1;

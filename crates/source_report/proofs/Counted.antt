@@ -1,11 +1,13 @@
 -- What is counted over a state's lists, and what is counted over the answers that they come from.
-use Rattle.std.proofs.Common.{◌≡◌, arith, ℕ, zero, suc, ◌+◌, ◌<◌, Bool, true, false, List, [], ◌∷◌, length, map, take, slice_get, cond, count_by, Some, refl, sym, ◌∙◌, ap}
+use Rattle.std.proofs.Common.{◌≡◌, ℕ, zero, suc, ◌+◌, ◌<◌, Bool, true, false, List, [], ◌∷◌, length, map, take, slice_get, cond, count_by, Some, refl, sym, ◌∙◌, ap}
 use Rattle.std.proofs.lemmas.List.Sums.{count_by_more_no, count_by_more_yes, sum_by-cons}
 use Rattle.std.proofs.lemmas.Option.{get_or_from_slice_get, slice_get_within}
 use Rattle.mcy_keeper.specs.declared.book.Entry.{Entry}
 use Rattle.result_book.specs.declared.script.TestWord.{TestWord}
-use Rattle.result_book.specs.Scripts.{Answer, word_at, word_in, words_from, words_of}
+use Rattle.tag_script.specs.Outcomes.{word_at}
+use Rattle.result_book.specs.Scripts.{Answer, word_in, words_of}
 use Rattle.result_book.specs.Rows.{groups_from}
+use Rattle.result_book.proofs.Words.{word_at-words_of}
 use Rattle.source_report.specs.Texts.{is_word, word_count}
 
 pub length-groups_from : (m n : ℕ) (rows : List Entry) → length (groups_from m n rows) ≡ n
@@ -33,15 +35,7 @@ count-map p q f same (x ∷ xs) =
     ∙ ap (λ b. cond b 1 0 + count_by q xs) (same x)
     ∙ sym (count-cons q x xs)
 
-word_at-words_from : (test n k : ℕ) (answers : List Answer) → k < n → word_at (words_from test n answers) k ≡ word_in answers (test + k)
-word_at-words_from test zero k answers inside = absurd (omega arith)
-word_at-words_from test (suc n) zero answers inside = let here : test + 0 ≡ test = omega arith in rw here refl
-word_at-words_from test (suc n) (suc k) answers inside =
-    let place : (test + 1) + k ≡ test + suc k = omega arith in
-    word_at-words_from (test + 1) n k answers (omega arith) ∙ ap (word_in answers) place
-
 pub words_counted : (word : TestWord) (test : ℕ) (groups : List (List Answer)) → test < 16 → count_by (λ words. is_word word (word_at words test)) (map words_of groups) ≡ word_count groups test word
-unfolding words_of
 words_counted word test groups inside =
     count-map (λ words. is_word word (word_at words test)) (λ answers. is_word word (word_in answers test)) words_of
-    (λ answers. ap (is_word word) (word_at-words_from 0 16 test answers inside ∙ ap (word_in answers) (let place : 0 + test ≡ test = omega arith in place))) groups
+    (λ answers. ap (is_word word) (word_at-words_of answers test inside)) groups

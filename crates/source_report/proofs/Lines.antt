@@ -7,17 +7,25 @@ use Rattle.result_book.specs.Scripts.{Answer}
 use Rattle.result_book.specs.Rows.{answers_of, groups_from}
 use Rattle.source_report.specs.Lists.{list_line, list_lines}
 use Rattle.source_report.specs.declared.counts.End.TheVariants.{Tag}
-use Rattle.source_report.specs.Texts.{end_count, tag_line, tag_lines}
+use Rattle.source_report.specs.Texts.{end_count, tag_counts, tag_line, tag_lines}
 
 -- a text with the line of the next tag, and the lines after it, is the text with all these lines
-pub tag_lines-more : (groups : List (List Answer)) (tag : ℕ) (names : List (List ℕ)) (name text : List ℕ) (count : ℕ) → tag < length names → name ≡ get_or names tag name → count ≡ end_count groups (Tag (2 ^ tag))
-    → (text ++ tag_line name count) ++ tag_lines groups (tag + 1) (drop (tag + 1) names) ≡ text ++ tag_lines groups tag (drop tag names)
-tag_lines-more groups tag names name text count inside at is =
-    let rest : List ℕ = tag_lines groups (tag + 1) (drop (tag + 1) names) in
+pub tag_lines-more : (c : Campaign) (groups : List (List Answer)) (tag : ℕ) (names : List (List ℕ)) (name text : List ℕ) (count : ℕ) → tag < length names → name ≡ get_or names tag name → count ≡ end_count c groups (Tag (2 ^ tag))
+    → (text ++ tag_line name count) ++ tag_lines c groups (tag + 1) (drop (tag + 1) names) ≡ text ++ tag_lines c groups tag (drop tag names)
+tag_lines-more c groups tag names name text count inside at is =
+    let rest : List ℕ = tag_lines c groups (tag + 1) (drop (tag + 1) names) in
     append_assoc text (tag_line name count) rest
     ∙ ap (λ n. text ++ (tag_line name n ++ rest)) is
-    ∙ ap (λ n. text ++ (tag_line n (end_count groups (Tag (2 ^ tag))) ++ rest)) at
-    ∙ ap (λ ns. text ++ tag_lines groups tag ns) (sym (drop_more names tag name inside))
+    ∙ ap (λ n. text ++ (tag_line n (end_count c groups (Tag (2 ^ tag))) ++ rest)) at
+    ∙ ap (λ ns. text ++ tag_lines c groups tag ns) (sym (drop_more names tag name inside))
+
+-- counts with the count of the next tag, and the counts after it, are all these counts
+pub tag_counts-more : (c : Campaign) (groups : List (List Answer)) (tag : ℕ) (names : List (List ℕ)) (counts : List ℕ) (count : ℕ) → tag < length names → count ≡ end_count c groups (Tag (2 ^ tag))
+    → (counts ++ count ∷ []) ++ tag_counts c groups (tag + 1) (drop (tag + 1) names) ≡ counts ++ tag_counts c groups tag (drop tag names)
+tag_counts-more c groups tag names counts count inside is =
+    append_assoc counts (count ∷ []) (tag_counts c groups (tag + 1) (drop (tag + 1) names))
+    ∙ ap (λ n. counts ++ (n ∷ tag_counts c groups (tag + 1) (drop (tag + 1) names))) is
+    ∙ ap (λ ns. counts ++ tag_counts c groups tag ns) (sym (drop_more names tag [] inside))
 
 -- six texts, one after another
 pub joined : (t u v w x y z a b c d e f : List ℕ) → t ≡ [] → u ≡ t ++ a → v ≡ u ++ b → w ≡ v ++ c → x ≡ w ++ d → y ≡ x ++ e → z ≡ y ++ f → z ≡ a ++ (b ++ (c ++ (d ++ (e ++ f))))

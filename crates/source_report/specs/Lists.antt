@@ -4,8 +4,8 @@ use Rattle.std.specs.Prelude.{◌≡◌, ⊤, ℕ, zero, suc, ◌+◌, ◌^◌, 
 use Rattle.mcy_keeper.specs.declared.book.Entry.{Entry}
 use Rattle.result_book.specs.declared.campaign.Campaign.{Campaign}
 use Rattle.result_book.specs.declared.script.TestWord.TheVariants.{Pass, Fail, Hang, Unknown}
-use Rattle.result_book.specs.declared.script.Ask.{Ask}
-use Rattle.result_book.specs.declared.script.Ask.TheVariants.{Need, Done, AssertFailed, Unexpected}
+use Rattle.tag_script.specs.declared.answer.Ask.{Ask}
+use Rattle.tag_script.specs.declared.answer.Ask.TheVariants.{Need, Done, AssertFailed, Unexpected}
 use Rattle.result_book.specs.Scripts.{Answer, ask, has_tag, word_code}
 use Rattle.result_book.specs.Rows.{groups}
 use Rattle.source_report.specs.Texts.{word_name}
@@ -43,7 +43,7 @@ end_text tags (Unexpected test) = codes " !unexpected"
 abbrev pub list_line : Campaign → ℕ → List ℕ → List Answer → List ℕ
 list_line c number site answers =
     (decimal (number + 1) ++ codes ": ") ++ (site ++ (codes " [" ++ (answers_text [] c.test_names answers
-    ++ (codes "]" ++ (end_text c.tags (ask answers) ++ codes "\n")))))
+    ++ (codes "]" ++ (end_text c.tags (ask c answers) ++ codes "\n")))))
 
 -- the lines of mutations at these sites and with these answers, numbered from this one on
 abbrev pub list_lines : Campaign → ℕ → List (List ℕ) → List (List Answer) → List ℕ

@@ -1,12 +1,13 @@
--- The text of the status, from the answers of each mutation in the order of the mutations. The order of rows of
--- different mutations plays no part.
+-- The text of the status, from the answers of each mutation in the order of the mutations: counts, and the project's report
+-- on the counts of tags. The order of rows of different mutations plays no part.
 use Rattle.std.specs.Prelude.{ℕ, ◌+◌, ◌^◌, Bool, true, false, ◌==◌, List, [], ◌∷◌, ◌++◌, length, count_by, Option, None, Some, codes, decimal, if◌then◌else◌}
 use Rattle.mcy_keeper.specs.declared.book.Entry.{Entry}
+use Rattle.report_script.specs.Texts.{report_text}
 use Rattle.result_book.specs.declared.campaign.Campaign.{Campaign}
 use Rattle.result_book.specs.declared.script.TestWord.{TestWord}
 use Rattle.result_book.specs.declared.script.TestWord.TheVariants.{Pass, Fail, Hang, Unknown}
-use Rattle.result_book.specs.declared.script.Ask.{Ask}
-use Rattle.result_book.specs.declared.script.Ask.TheVariants.{AssertFailed, Unexpected}
+use Rattle.tag_script.specs.declared.answer.Ask.{Ask}
+use Rattle.tag_script.specs.declared.answer.Ask.TheVariants.{AssertFailed, Unexpected}
 use Rattle.result_book.specs.Campaigns.{eq_kind}
 use Rattle.result_book.specs.Scripts.{Answer, ask, has_tag, is_ended, word_code, word_in}
 use Rattle.result_book.specs.Rows.{groups}
@@ -33,8 +34,8 @@ abbrev pub word_count : List (List Answer) → ℕ → TestWord → ℕ
 word_count groups test word = count_by (λ answers. is_word word (word_in answers test)) groups
 
 -- how many mutations' scripts need no more test
-abbrev pub finished_count : List (List Answer) → ℕ
-finished_count groups = count_by (λ answers. is_ended (ask answers)) groups
+abbrev pub finished_count : Campaign → List (List Answer) → ℕ
+finished_count c groups = count_by (λ answers. is_ended (ask c answers)) groups
 
 -- a script ended in this way
 abbrev pub is_end : End → Ask → Bool
@@ -44,8 +45,8 @@ is_end Word (Unexpected test) = true
 is_end end ask = false
 
 -- how many mutations' scripts ended in this way
-abbrev pub end_count : List (List Answer) → End → ℕ
-end_count groups end = count_by (λ answers. is_end end (ask answers)) groups
+abbrev pub end_count : Campaign → List (List Answer) → End → ℕ
+end_count c groups end = count_by (λ answers. is_end end (ask c answers)) groups
 
 -- a line of a name and a number
 abbrev pub number_line : List ℕ → ℕ → List ℕ
@@ -67,18 +68,27 @@ abbrev pub tag_line : List ℕ → ℕ → List ℕ
 tag_line name n = number_line (codes "Tag " ++ name) n
 
 -- the lines of tags with these names, numbered from this one on
-abbrev pub tag_lines : List (List Answer) → ℕ → List (List ℕ) → List ℕ
-tag_lines groups tag [] = []
-tag_lines groups tag (name ∷ names) = tag_line name (end_count groups (Tag (2 ^ tag))) ++ tag_lines groups (tag + 1) names
+abbrev pub tag_lines : Campaign → List (List Answer) → ℕ → List (List ℕ) → List ℕ
+tag_lines c groups tag [] = []
+tag_lines c groups tag (name ∷ names) = tag_line name (end_count c groups (Tag (2 ^ tag))) ++ tag_lines c groups (tag + 1) names
+
+-- the lines of the counts
+unfoldable pub count_lines : Campaign → List (List Answer) → List ℕ
+count_lines c groups =
+    number_line (codes "Mutations") (length groups)
+    ++ (number_line (codes "Finished") (finished_count c groups)
+    ++ (test_lines groups 0 c.test_names c.kinds
+    ++ (tag_lines c groups 0 c.tags
+    ++ (number_line (codes "Asserts") (end_count c groups Assert)
+    ++ number_line (codes "Unexpected") (end_count c groups Word)))))
+
+-- on how many mutations the script ended with each tag of this list, numbered from this one on
+abbrev pub tag_counts : Campaign → List (List Answer) → ℕ → List (List ℕ) → List ℕ
+tag_counts c groups tag [] = []
+tag_counts c groups tag (name ∷ names) = end_count c groups (Tag (2 ^ tag)) ∷ tag_counts c groups (tag + 1) names
 
 unfoldable pub lines : Campaign → List (List Answer) → List ℕ
-lines c groups =
-    number_line (codes "Mutations") (length groups)
-    ++ (number_line (codes "Finished") (finished_count groups)
-    ++ (test_lines groups 0 c.test_names c.kinds
-    ++ (tag_lines groups 0 c.tags
-    ++ (number_line (codes "Asserts") (end_count groups Assert)
-    ++ number_line (codes "Unexpected") (end_count groups Word)))))
+lines c groups = count_lines c groups ++ report_text c.report (tag_counts c groups 0 c.tags)
 
 -- the text of the status of a campaign whose journal has these rows
 abbrev pub status_text : Campaign → List Entry → List ℕ

@@ -2,11 +2,12 @@
 ghost use Rattle.std.specs.Prelude.{◌≡◌, ◌<◌, count_by, length};
 ghost use Rattle.result_book.specs.Campaigns.{IsFit};
 ghost use Rattle.result_book.specs.Rows.{groups};
-ghost use Rattle.result_book.specs.Scripts.{word_at};
+ghost use Rattle.tag_script.specs.Outcomes.{word_at};
 ghost use Rattle.result_book.specs.States.{IsStateOf};
 ghost use Rattle.source_report.specs.Texts.{end_count, finished_count, is_end, is_word, word_count};
 
-use result_book::{Ask, Campaign, Results, State, TestWord};
+use result_book::{Campaign, State, TestWord, has_tag};
+use tag_script::{Ask, Results};
 
 /// How a mutation's script ended, as far as the status tells it.
 #[derive(Clone, Copy, Debug, PartialEq, Eq)]
@@ -25,7 +26,7 @@ impl End {
         ensures { result ≡ is_end self ask }
     {
         match self {
-            End::Tag(bit) => ask.has_tag(bit),
+            End::Tag(bit) => has_tag(ask, bit),
             End::Assert => matches!(ask, Ask::AssertFailed(_)),
             End::Word => matches!(ask, Ask::Unexpected(_)),
         }
@@ -58,7 +59,7 @@ pub(crate) fn mutation_count(campaign: &Campaign, state: &State) -> u32
 pub(crate) fn finished_count(campaign: &Campaign, state: &State) -> u32
     requires fit { IsFit campaign.now }
     requires state { IsStateOf campaign.now state.now.rows state.now }
-    ensures { result ≡ finished_count (groups campaign.now state.now.rows) }
+    ensures { result ≡ finished_count campaign.now (groups campaign.now state.now.rows) }
 {
     state.finished()
 }
@@ -83,7 +84,7 @@ pub(crate) fn word_count(campaign: &Campaign, state: &State, test: u32, word: Te
 pub(crate) fn end_count(campaign: &Campaign, state: &State, end: End) -> u32
     requires fit { IsFit campaign.now }
     requires state { IsStateOf campaign.now state.now.rows state.now }
-    ensures { result ≡ end_count (groups campaign.now state.now.rows) end }
+    ensures { result ≡ end_count campaign.now (groups campaign.now state.now.rows) end }
 {
     let mut count = 0;
     for mutation in 0..mutation_count(campaign, state) {

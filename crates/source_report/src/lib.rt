@@ -8,6 +8,3 @@ mod status;
 
 pub use list::list_text;
 pub use status::{add_number, status_text};
-
-#[cfg(test)]
-mod tests;

@@ -11,8 +11,9 @@ use crate::chains::Chains;
 use crate::status::{tag_bit, word_name};
 use mcy_base::{Bytes, TextList};
 use mcy_keeper::Entry;
-use result_book::{Ask, Campaign, State, TestWord};
+use result_book::{Campaign, State, TestWord, has_tag};
 use std::alloc::{AllocError, Global};
+use tag_script::Ask;
 
 /// The mutations of a campaign, a line each: its number, counted from 1, its site, the words of its tests in the order in
 /// which they were given, and its tags, or how else its script stands.
@@ -153,7 +154,7 @@ fn add_tags(text: &mut Vec<u8>, tags: &TextList, ask: Ask) -> Result<(), AllocEr
     ensures { OnOk result (text.new.items ≡ text.old.items ++ lists.tags_text ask 0 tags.now) }
 {
     for (tag, name) in tags.as_slice().iter().enumerate() {
-        if ask.has_tag(tag_bit(tag)) {
+        if has_tag(ask, tag_bit(tag)) {
             add(text, b" ")?;
             add(text, name.as_str().as_bytes())?;
         }

@@ -1,4 +1,4 @@
-//! The text of the status, line by line.
+//! The text of the status: the lines of the counts, and the project's report.
 ghost use Rattle.std.specs.Prelude.{◌≡◌, ◌<◌, ◌^◌, ◌++◌, IfOk, OnOk, string_bytes};
 ghost use Rattle.result_book.specs.Campaigns.{IsFit};
 ghost use Rattle.result_book.specs.Rows.{groups};
@@ -7,15 +7,31 @@ ghost use Rattle.source_report.specs.Texts as texts;
 
 use crate::counts::{End, end_count, finished_count, mutation_count, word_count};
 use mcy_base::Bytes;
+use report_script::report_text;
 use result_book::{Campaign, EQ_KIND, State, TestWord};
 use std::alloc::{AllocError, Global};
 
 /// The status of a campaign, as a text of lines: how many mutations there are and are finished, how often each test
-/// gave each word, how many mutations ended with each tag, at an assertion and at a word that is not expected.
+/// gave each word, how many mutations ended with each tag, at an assertion and at a word that is not expected; then what
+/// the project's report prints for the counts of tags.
+#[tactic(auto, unfolding(crate::specs::Texts::lines))]
 pub fn status_text(alloc: Global, campaign: &Campaign, state: &State) -> Result<Bytes, AllocError>
     requires fit { IsFit campaign.now }
     requires state { IsStateOf campaign.now state.now.rows state.now }
     ensures { IfOk result (λ text. text ≡ texts.status_text campaign.now state.now.rows) }
+{
+    let counts = tag_counts(alloc, campaign, state)?;
+    let report = report_text(alloc, &campaign.report, &counts)?;
+    let mut text = count_lines(alloc, campaign, state)?;
+    text.extend_from_slice(report.as_slice())?;
+    Ok(Bytes::from_vec(text))
+}
+
+/// The lines of the counts.
+fn count_lines(alloc: Global, campaign: &Campaign, state: &State) -> Result<Vec<u8>, AllocError>
+    requires fit { IsFit campaign.now }
+    requires state { IsStateOf campaign.now state.now.rows state.now }
+    ensures { IfOk result (λ text. text.items ≡ texts.count_lines campaign.now (groups campaign.now state.now.rows)) }
 {
     let asserts = end_count(campaign, state, End::Assert);
     let unexpected = end_count(campaign, state, End::Word);
@@ -34,7 +50,20 @@ pub fn status_text(alloc: Global, campaign: &Campaign, state: &State) -> Result<
     add_tags(&mut text, campaign, state)?;
     add_number(&mut text, "Asserts", asserts as usize)?;
     add_number(&mut text, "Unexpected", unexpected as usize)?;
-    Ok(Bytes::from_vec(text.into_bytes()))
+    Ok(text.into_bytes())
+}
+
+/// On how many mutations the script ended with each tag.
+fn tag_counts(alloc: Global, campaign: &Campaign, state: &State) -> Result<Vec<u32>, AllocError>
+    requires fit { IsFit campaign.now }
+    requires state { IsStateOf campaign.now state.now.rows state.now }
+    ensures { IfOk result (λ counts. counts.items ≡ texts.tag_counts campaign.now (groups campaign.now state.now.rows) 0 campaign.now.tags) }
+{
+    let mut counts = Vec::new(alloc);
+    for tag in 0..campaign.tags.as_slice().len() {
+        counts.push(end_count(campaign, state, End::Tag(tag_bit(tag))))?;
+    }
+    Ok(counts)
 }
 
 /// Adds a line of a name and a number.
@@ -121,7 +150,7 @@ fn add_tags(text: &mut String, campaign: &Campaign, state: &State) -> Result<(),
     requires fit { IsFit campaign.now }
     requires state { IsStateOf campaign.now state.now.rows state.now }
     ensures { OnOk result (string_bytes text.new ≡ string_bytes text.old
-        ++ texts.tag_lines (groups campaign.now state.now.rows) 0 campaign.now.tags) }
+        ++ texts.tag_lines campaign.now (groups campaign.now state.now.rows) 0 campaign.now.tags) }
 {
     for (tag, name) in campaign.tags.as_slice().iter().enumerate() {
         let count = end_count(campaign, state, End::Tag(tag_bit(tag)));

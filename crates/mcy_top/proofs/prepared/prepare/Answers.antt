@@ -13,7 +13,7 @@ use Rattle.mcy_top.proofs.prepared.prepare.Goals as goal
 
 pub picked_sites-requires-clause-few : goal.picked_sites-requires-clause-few
 picked_sites-requires-clause-few c =
-    let project : Project = c.args.project.now in
+    let project : Project = c.args.taken.project in
     let parsed : ThinModule = c.args.parsed.now in
     let netlist : RawNetlist = c.netlist-netlist.result.now.raw in
     let raw : netlist ≡ netlist_of parsed = c.netlist-netlist.ensures ∙ c.in_ok-checked.ensures in
@@ -24,7 +24,7 @@ picked_sites-requires-clause-few c =
 
 pub site_texts-requires : goal.site_texts-requires
 site_texts-requires c =
-    let project : Project = c.args.project.now in
+    let project : Project = c.args.taken.project in
     let parsed : ThinModule = c.args.parsed.now in
     let netlist : RawNetlist = c.netlist-netlist.result.now.raw in
     let raw : netlist ≡ netlist_of parsed = c.netlist-netlist.ensures ∙ c.in_ok-checked.ensures in

@@ -20,4 +20,4 @@ pub returns : goal.returns
 returns c =
     c.loop-mutation.invariant.0
     ∙ ap (count_by (is_end c.args.end)) (take_all c.loop-mutation.mutation c.args.state.now.asks (omega arith) ∙ c.requires.state.asks)
-    ∙ count-map (is_end c.args.end) (λ answers. is_end c.args.end (ask answers)) ask (λ answers. refl) (groups c.args.campaign.now c.args.state.now.rows)
+    ∙ count-map (is_end c.args.end) (λ answers. is_end c.args.end (ask c.args.campaign.now answers)) (ask c.args.campaign.now) (λ answers. refl) (groups c.args.campaign.now c.args.state.now.rows)

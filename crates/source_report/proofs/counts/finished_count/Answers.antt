@@ -8,4 +8,4 @@ pub returns : goal.returns
 returns c =
     c.finished.ensures
     ∙ ap (count_by is_ended) c.requires.state.asks
-    ∙ count-map is_ended (λ answers. is_ended (ask answers)) ask (λ answers. refl) (groups c.args.campaign.now c.args.state.now.rows)
+    ∙ count-map is_ended (λ answers. is_ended (ask c.args.campaign.now answers)) (ask c.args.campaign.now) (λ answers. refl) (groups c.args.campaign.now c.args.state.now.rows)

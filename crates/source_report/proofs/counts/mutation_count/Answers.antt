@@ -15,4 +15,4 @@ pub returns-clause-results : goal.returns-clause-results
 returns-clause-results c = mutations c ∙ sym (ap length c.requires.state.results ∙ length-map (groups c.args.campaign.now c.args.state.now.rows) words_of)
 
 pub returns-clause-asks : goal.returns-clause-asks
-returns-clause-asks c = mutations c ∙ sym (ap length c.requires.state.asks ∙ length-map (groups c.args.campaign.now c.args.state.now.rows) ask)
+returns-clause-asks c = mutations c ∙ sym (ap length c.requires.state.asks ∙ length-map (groups c.args.campaign.now c.args.state.now.rows) (ask c.args.campaign.now))

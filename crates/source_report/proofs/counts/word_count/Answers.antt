@@ -1,6 +1,6 @@
 use Rattle.std.proofs.Common.{ℕ, List, Option, count_by, ap, sym, ◌∙◌, arith}
 use Rattle.std.proofs.lemmas.List.{take_all}
-use Rattle.result_book.specs.Scripts.{word_at}
+use Rattle.tag_script.specs.Outcomes.{word_at}
 use Rattle.result_book.specs.Rows.{groups}
 use Rattle.source_report.specs.Texts.{is_word}
 use Rattle.source_report.proofs.Counted.{count_no, count_yes, words_counted}

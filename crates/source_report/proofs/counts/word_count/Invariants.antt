@@ -1,5 +1,5 @@
 use Rattle.std.proofs.Common.{◌≡◌, ◌≤◌, take, count_by}
-use Rattle.result_book.specs.Scripts.{word_at}
+use Rattle.tag_script.specs.Outcomes.{word_at}
 use Rattle.source_report.specs.Texts.{is_word}
 use Rattle.source_report.proofs.counts.word_count.Given as goal
 

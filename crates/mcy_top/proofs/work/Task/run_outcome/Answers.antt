@@ -9,12 +9,12 @@ overflow_cast-mutations c = omega (arith, ap length c.as_slice.ensures, (plan_fi
 
 pub overflow_sub-mutations : goal.overflow_sub-mutations
 overflow_sub-mutations c =
-    let few = counted_few (length c.args.self.now.prepared.now.campaign.mutations) c.args.state.now.rows in
+    let few = counted_few c.args.self.now.prepared.now.campaign (length c.args.self.now.prepared.now.campaign.mutations) c.args.state.now.rows in
     let counted = finished_is c.args.self.now.prepared.now.campaign c.args.state.now.rows c.args.state.now.asks c.requires.state.asks in
     omega (arith, ap length c.as_slice.ensures, c.finished.ensures, counted, few)
 
 pub returns-in-0 : goal.returns-in-0
 returns-in-0 c =
-    let few = counted_few (length c.args.self.now.prepared.now.campaign.mutations) c.args.state.now.rows in
+    let few = counted_few c.args.self.now.prepared.now.campaign (length c.args.self.now.prepared.now.campaign.mutations) c.args.state.now.rows in
     let counted = finished_is c.args.self.now.prepared.now.campaign c.args.state.now.rows c.args.state.now.asks c.requires.state.asks in
     outcome_done c.args.self.now.prepared.now c.args.state.now.rows (omega (arith, ap length c.as_slice.ensures, c.finished.ensures, counted, few, c.in-0.is))

@@ -1,16 +1,12 @@
 use Rattle.std.proofs.Common.{◌++◌, ap, codes, string_bytes, ◌∙◌}
-use Rattle.result_book.specs.Rows.{groups}
-use Rattle.source_report.specs.Texts.{lines, number_line}
+use Rattle.source_report.specs.Texts.{count_lines, number_line}
 use Rattle.source_report.proofs.Lines.{joined}
-use Rattle.source_report.proofs.status.status_text.Goals as goal
+use Rattle.source_report.proofs.status.count_lines.Goals as goal
 
 pub returns : goal.returns
-unfolding lines
+unfolding count_lines
 returns c =
-    let campaign = c.args.campaign.now in
-    let answers = groups c.args.campaign.now c.args.state.now.rows in
-    c.from_vec.ensures
-    ∙ ap (λ vec. vec.items) c.into_bytes.ensures.value
+    ap (λ vec. vec.items) c.into_bytes.ensures.value
     ∙ joined (string_bytes c.new-text.result) (string_bytes c.add_number.new.text) (string_bytes c.add_number-2.new.text) (string_bytes c.add_tests.new.text) (string_bytes c.add_tags.new.text) (string_bytes c.add_number-3.new.text) (string_bytes c.add_number-4.new.text)
     _ _ _ _ _ _
     c.new-text.ensures.bytes
