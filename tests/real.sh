@@ -300,6 +300,12 @@ finished_folder() {
     chmod 666 mcy.db*
 }
 
+# Projects with a test by a bench are read, and are not built yet.
+for name in serial arbiter processor; do
+    rm -rf "$room/here" && cp -r "$root/examples/$name" "$room/here" && cd "$room/here" && chmod -R go+rX . && chmod 777 . || exit 1
+    refuses 99 "mcy: not built" "" run
+done
+
 # Databases that are none, and one whose tables have no constraints, which is taken.
 tables='CREATE TABLE meta(item INTEGER PRIMARY KEY, body BLOB NOT NULL) STRICT;
 CREATE TABLE mutations(number INTEGER PRIMARY KEY, place BLOB NOT NULL) STRICT;
