@@ -102,8 +102,7 @@ place_of map (RefusedRead name) why whole = absurd (whole tt)
 place_of map RefusedMemory why whole = absurd (whole tt)
 place_of map (RefusedProject error) at whole = inl (record { found = Bytes at.config; is = at.got; why = record { some = λ is. cc; cause = at.why } })
 place_of map (RefusedScript error) at whole = inl (record { found = Bytes at.config; is = at.got; why = record { some = λ is. cc; cause = at.why } })
-place_of map (RefusedUnbuilt part) (inl at) whole = inl (record { found = Bytes at.config; is = at.got; why = record { some = λ is. cc; cause = at.why } })
-place_of map (RefusedUnbuilt part) (inr at) whole = inr (inr (record { some = λ is. cc; at = at }))
+place_of map (RefusedUnbuilt part) at whole = inl (record { found = Bytes at.config; is = at.got; why = record { some = λ is. cc; cause = at.why } })
 place_of map (RefusedSource error) at whole = inr (inr (record { some = λ is. cc; at = at }))
 
 config_once : (found : Found) (r q : Refusal) → RefusesFile config_name found (λ config. IsRefusal r (IsUntaken config r)) r → RefusesFile config_name found (λ config. IsRefusal q (IsUntaken config q)) q → r ≡ q
@@ -170,8 +169,9 @@ readable_of map c made = record {
   project = made.made.project;
   files = made.files;
   got = record { before = record { config = made.config; got = made.got_config; says = made.made.says; built = built_of made.made.project made.made.script made.made.report made.made.tests made.made.scripts }; names = made.made.names; got = made.got_files };
-  parsed = made.made.parsed;
+  netlist = c.netlist;
   design = made.made.design;
+  few_sites = made.made.few_sites;
   few = made.made.few;
 }
 

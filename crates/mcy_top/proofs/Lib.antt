@@ -1,6 +1,8 @@
 pub mod Takes
+pub mod Within
 pub mod Chosen
-pub mod ThinSites
+pub mod FreeBits
+pub mod Placed
 pub mod Crashes
 pub mod Asking
 pub mod Growing

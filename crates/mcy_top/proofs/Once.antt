@@ -9,16 +9,17 @@ use Rattle.tag_script.specs.declared.answer.Ask.TheVariants.{Need}
 use Rattle.mcy_base.specs.declared.file.SourceFile.{SourceFile}
 use Rattle.project_file.specs.declared.project.Project.{Project}
 use Rattle.project_file.specs.Projects.{design_files, IsProject}
-use Rattle.thin_source.specs.ThinNetlists.{netlist_of}
+use Rattle.project_sources.specs.Netlists.{HasNetlist}
+use Rattle.project_sources.proofs.OneAnswer.{netlists_are_one}
 use Rattle.mcy_top.specs.Mutations.{all_sites, picked_sites}
 use Rattle.result_book.specs.Scripts.{Answer, ask, is_ended}
-use Rattle.mcy_top.specs.Campaigns.{campaign_of, file_item, meta_of, IsDesign, IsPlan}
+use Rattle.mcy_top.specs.Campaigns.{campaign_of, file_item, meta_of, IsPlan}
 use Rattle.result_book.specs.Rows.{IsWellFormed}
 use Rattle.mcy_top.specs.Rows.{AreTrue, IsBlankOrGood, IsTrueWord, IsTrueWordAt}
 use Rattle.source_report.specs.Texts.{lines, status_text}
 use Rattle.mcy_top.specs.Defined.{given_up, is_given_up, AreAllAnswers, AreAnswers, IsFinalText, IsWordOf, Pair}
 use Rattle.mcy_top.specs.Once.{GaveUpSame, IsEnded}
-use Rattle.mcy_top.proofs.Takes.{design_once, files_kept, project_once, report_once, script_once}
+use Rattle.mcy_top.proofs.Takes.{files_kept, project_once, report_once, script_once}
 use Rattle.mcy_top.proofs.Plans.{plan_meta}
 use Rattle.mcy_top.proofs.Finishing.{final_is}
 
@@ -33,14 +34,13 @@ plan_once c d one two same =
     let script : one.made.script ≡ two.made.script = script_once one.made.project two.made.project _ _ _ _ project one.made.scripts two.made.scripts in
     let report : one.made.report ≡ two.made.report = report_once one.made.project two.made.project _ _ _ _ project one.made.scripts two.made.scripts in
     let files : one.files ≡ two.files = files_kept one.files two.files (one.made.names ∙ ap design_files project ∙ sym two.made.names) items in
-    let design : IsDesign two.made.project two.files one.made.parsed = subst (λ (p : Project). IsDesign p two.files one.made.parsed) project (subst (λ (fs : List SourceFile). IsDesign one.made.project fs one.made.parsed) files one.made.design) in
-    let parsed : one.made.parsed ≡ two.made.parsed = design_once two.made.project two.files one.made.parsed two.made.parsed design two.made.design in
-    let netlist : c.netlist ≡ d.netlist = one.made.netlist ∙ ap netlist_of parsed ∙ sym two.made.netlist in
-    let picked : picked_sites one.made.project (netlist_of one.made.parsed) ≡ picked_sites two.made.project (netlist_of two.made.parsed) = λ i. picked_sites (project i) (netlist_of (parsed i)) in
+    let design : HasNetlist two.files two.made.project.top c.netlist = subst (λ (p : Project). HasNetlist two.files p.top c.netlist) project (subst (λ (fs : List SourceFile). HasNetlist fs one.made.project.top c.netlist) files one.made.design) in
+    let netlist : c.netlist ≡ d.netlist = netlists_are_one two.files two.made.project.top c.netlist d.netlist design two.made.design in
+    let picked : picked_sites one.made.project c.netlist ≡ picked_sites two.made.project d.netlist = λ i. picked_sites (project i) (netlist i) in
     let places : c.sites ≡ d.sites = one.made.places ∙ picked ∙ sym two.made.places in
-    let counted : length (all_sites one.made.project (netlist_of one.made.parsed)) ≡ length (all_sites two.made.project (netlist_of two.made.parsed)) = λ i. length (all_sites (project i) (netlist_of (parsed i))) in
+    let counted : length (all_sites one.made.project c.netlist) ≡ length (all_sites two.made.project d.netlist) = λ i. length (all_sites (project i) (netlist i)) in
     let count : c.site_count ≡ d.site_count = one.made.count ∙ counted ∙ sym two.made.count in
-    let derived : campaign_of one.config one.made.project one.made.script one.made.report one.files one.made.parsed ≡ campaign_of two.config two.made.project two.made.script two.made.report two.files two.made.parsed = λ i. campaign_of (config i) (project i) (script i) (report i) (files i) (parsed i) in
+    let derived : campaign_of one.config one.made.project one.made.script one.made.report one.files c.netlist ≡ campaign_of two.config two.made.project two.made.script two.made.report two.files d.netlist = λ i. campaign_of (config i) (project i) (script i) (report i) (files i) (netlist i) in
     let campaign : c.campaign ≡ d.campaign = one.made.campaign ∙ derived ∙ sym two.made.campaign in
     λ i. record { campaign = campaign i; site_count = count i; sites = places i; netlist = netlist i }
 

@@ -1,14 +1,11 @@
 -- The netlists of campaigns.
-use Rattle.std.proofs.Common.{sym, subst}
 use Rattle.netlist_core.specs.Checked.{Plan}
 use Rattle.netlist_core.specs.Solutions.{OrderSettles, OneAnswerBySight}
-use Rattle.thin_source.specs.Runnable.{CanRun}
 use Rattle.mcy_top.specs.NetlistLaws.{CampaignsAreSound, CampaignsHaveOneSolution}
 use Rattle.step_trials.proofs.Solved.{designs_solved, mutants_solved}
-use Rattle.thin_source.proofs.ThinSound.{CanRun-netlist_of}
 
 pub campaigns_sound : CampaignsAreSound
-campaigns_sound c plan = subst CanRun (sym plan.made.netlist) (CanRun-netlist_of plan.made.parsed plan.made.design.text.thin plan.made.few)
+campaigns_sound c plan = plan.made.design.elaborated.has_netlist.runnable
 
 pub campaigns_solved : OrderSettles → OneAnswerBySight → CampaignsHaveOneSolution
 campaigns_solved settles answers c plan inputs state fit fit_state =

@@ -2,14 +2,16 @@
 use Rattle.std.proofs.Common.{◌≡◌, ℕ, zero, suc, ◌<◌, ◌≤◌, List, [], ◌∷◌, length, map, get_or, slice_get, true, Option, None, Some, Ok, inl, inr, refl, sym, ◌∙◌, ap, subst, arith}
 use Rattle.std.proofs.lemmas.List.{length-map}
 use Rattle.std.proofs.lemmas.Option.{slice_get-get_or}
-use Rattle.thin_source.specs.declared.thin.ThinModule.{ThinModule}
 use Rattle.mutation_sites.specs.declared.site.Site.{Site}
 use Rattle.mcy_top.specs.declared.prepared.Prepared.{Prepared}
-use Rattle.thin_source.specs.ThinNetlists.{netlist_of}
 use Rattle.step_trials.specs.Inputs.{free_list}
 use Rattle.step_trials.specs.Equal.{OneStepEqual, design, mutant}
 use Rattle.mcy_top.specs.Rows.{IsTrueWord, IsTrueWordAt}
-use Rattle.mcy_top.proofs.ThinSites.{length-free_list, few-sites, placed-sites}
+use Rattle.mcy_top.proofs.Placed.{sites-placed}
+use Rattle.project_limits.proofs.Files.{files_few}
+use Rattle.project_limits.proofs.Sizes.{size_within}
+use Rattle.hier_once.proofs.OneAnswer.{netlist_cells}
+use Rattle.mcy_top.proofs.FreeBits.{length-free_list}
 use Rattle.std.specs.List.{All}
 use Rattle.std.specs.Prelude.{IsSomeAnd}
 use Rattle.netlist_core.specs.declared.raw.RawNetlist.{RawNetlist}
@@ -18,9 +20,8 @@ use Rattle.result_book.specs.Campaigns.{eq_kind, IsEqWord, IsFit, IsWordOf, IsWo
 use Rattle.mutation_sites.specs.SiteTexts.{site_text}
 use Rattle.mutation_sites.specs.Mutants.{IsSite}
 use Rattle.netlist_core.specs.Checked.{net_bits}
-use Rattle.thin_source.proofs.ThinSound.{few-nets}
 use Rattle.mcy_top.specs.Mutations.{mode_set, picked_sites, site_line}
-use Rattle.mcy_top.proofs.Chosen.{few-picked, All-picked}
+use Rattle.mcy_top.proofs.Chosen.{within-size, All-picked}
 use Rattle.mcy_base.specs.declared.file.SourceFile.{SourceFile}
 use Rattle.project_file.specs.declared.project.Project.{Project}
 use Rattle.project_file.specs.declared.project.TestPlan.{TestPlan}
@@ -38,21 +39,20 @@ use Rattle.report_script.specs.Fits.{report_fits}
 use Rattle.report_script.specs.Reading.{report_of}
 use Rattle.report_script.proofs.Fitting.{reads_fit as report_reads_fit}
 use Rattle.mcy_top.specs.Projects.{AreBuilt, HasScripts, kind_of, test_kinds, test_names}
-use Rattle.mcy_top.specs.Campaigns.{campaign_of, meta_of, names_of, IsPlan}
+use Rattle.mcy_top.specs.Campaigns.{campaign_of, file_item, meta_of, names_of, IsPlan}
 
 pub plan_small : (c : Prepared) → IsPlan c → length (free_list c.netlist) ≤ 8
-plan_small c plan = subst (λ (netlist : RawNetlist). length (free_list netlist) ≤ 8) (sym plan.made.netlist) (omega (arith, length-free_list plan.made.parsed, plan.made.few))
+plan_small c plan = omega (arith, length-free_list c.netlist, plan.made.few)
 
 -- it has few cells and bits
-pub plan_nets : (c : Prepared) → IsPlan c → (length c.netlist.cells ≤ 3) × (net_bits c.netlist ≤ 14)
-plan_nets c plan = subst (λ (netlist : RawNetlist). (length netlist.cells ≤ 3) × (net_bits netlist ≤ 14)) (sym plan.made.netlist) (few-nets plan.made.parsed plan.made.design.text.thin plan.made.few)
+pub plan_nets : (c : Prepared) → IsPlan c → (length c.netlist.cells ≤ 65535) × (net_bits c.netlist ≤ 1048576)
+plan_nets c plan = (netlist_cells plan.made.design.modules plan.made.project.top c.netlist plan.made.design.elaborated, plan.made.design.elaborated.has_netlist.within.nets)
 
 -- there is a bit at the site of each mutation
 pub plan_site : (c : Prepared) (m : ℕ) (d : Site) → IsPlan c → m < length c.sites → IsSite c.netlist (get_or c.sites m d)
 plan_site c m d plan below =
-    let netlist : RawNetlist = netlist_of plan.made.parsed in
-    let placed : All (IsSite netlist) (picked_sites plan.made.project netlist) = All-picked (IsSite netlist) plan.made.project netlist (placed-sites (mode_set plan.made.project.modes) plan.made.parsed) in
-    let here : All (IsSite c.netlist) c.sites = subst (λ (list : List Site). All (IsSite c.netlist) list) (sym plan.made.places) (subst (λ (netlist : RawNetlist). All (IsSite netlist) (picked_sites plan.made.project (netlist_of plan.made.parsed))) (sym plan.made.netlist) placed) in
+    let placed : All (IsSite c.netlist) (picked_sites plan.made.project c.netlist) = All-picked (IsSite c.netlist) plan.made.project c.netlist (sites-placed (mode_set plan.made.project.modes) c.netlist) in
+    let here : All (IsSite c.netlist) c.sites = subst (λ (list : List Site). All (IsSite c.netlist) list) (sym plan.made.places) placed in
     here m d below
 
 -- the true word of a mutation, from what the equivalence test found
@@ -67,11 +67,17 @@ true_fail c list m d is below differ =
 pub plan_meta : (c : Prepared) (plan : IsPlan c) → c.campaign.meta ≡ meta_of plan.config plan.files
 plan_meta c plan = ap (λ (k : Campaign). k.meta) plan.made.campaign
 
+-- it has few items
+pub plan_items : (c : Prepared) → IsPlan c → length c.campaign.meta ≤ 66
+plan_items c plan =
+    let few = files_few plan.config plan.made.project plan.made.says in
+    let items : length c.campaign.meta ≡ suc (suc (length (map file_item plan.files))) = ap length (plan_meta c plan) in
+    omega (arith, few, items, length-map plan.files file_item, length-map plan.files (λ (file : SourceFile). file.name), ap length plan.made.names)
+
 -- each mutation has its site
 pub plan_count : (c : Prepared) → IsPlan c → length c.campaign.mutations ≡ length c.sites
 plan_count c plan =
-    let parsed : ThinModule = plan.made.parsed in
-    ap (λ (k : Campaign). length k.mutations) plan.made.campaign ∙ length-map (picked_sites plan.made.project (netlist_of parsed)) (site_text (netlist_of parsed) (names_of plan.files)) ∙ sym (ap length plan.made.places)
+    ap (λ (k : Campaign). length k.mutations) plan.made.campaign ∙ length-map (picked_sites plan.made.project c.netlist) (site_text c.netlist (names_of plan.files)) ∙ sym (ap length plan.made.places)
 
 -- the scripts of a project name only its tests and tags
 script_fit : (p : Project) (s : Script) (r : Report) → HasScripts p s r → script_fits (length (test_names p)) (length p.tags) s ≡ true
@@ -87,11 +93,11 @@ equal_kinds [] all k d below = absurd (omega (arith, below))
 equal_kinds (t ∷ tests) all zero d below = ap kind_of (all zero t (omega arith))
 equal_kinds (t ∷ tests) all (suc k) d below = equal_kinds tests (λ j e inside. all (suc j) e (omega (arith, inside))) k d (omega (arith, below))
 
-fit_of : (config : List ℕ) (p : Project) (s : Script) (r : Report) (files : List SourceFile) (m : ThinModule) → IsProject config p → AreBuilt p → HasScripts p s r → length (picked_sites p (netlist_of m)) ≤ 45 → IsFit (campaign_of config p s r files m)
-fit_of config p s r files m says tests has few =
-    let picked : List Site = picked_sites p (netlist_of m) in
-    let mutations : length (map (site_text (netlist_of m) (names_of files)) picked) ≡ length picked = length-map picked (site_text (netlist_of m) (names_of files)) in
-    let lines : length (map (site_line (netlist_of m)) picked) ≡ length picked = length-map picked (site_line (netlist_of m)) in
+fit_of : (config : List ℕ) (p : Project) (s : Script) (r : Report) (files : List SourceFile) (netlist : RawNetlist) → IsProject config p → AreBuilt p → HasScripts p s r → length (picked_sites p netlist) ≤ 10000 → IsFit (campaign_of config p s r files netlist)
+fit_of config p s r files netlist says tests has few =
+    let picked : List Site = picked_sites p netlist in
+    let mutations : length (map (site_text netlist (names_of files)) picked) ≡ length picked = length-map picked (site_text netlist (names_of files)) in
+    let lines : length (map (site_line netlist) picked) ≡ length picked = length-map picked (site_line netlist) in
     let names : length (test_names p) ≡ length p.tests = length-map p.tests (λ (t : TestPlan). t.name) in
     let kinds : length (test_kinds p) ≡ length p.tests = length-map p.tests (λ (t : TestPlan). kind_of t.kind) in
     let expects : length (map (λ (t : TestPlan). t.expect) p.tests) ≡ length p.tests = length-map p.tests (λ (t : TestPlan). t.expect) in
@@ -110,9 +116,8 @@ fit_of config p s r files m says tests has few =
 
 pub plan_fit : (c : Prepared) → IsPlan c → IsFit c.campaign
 plan_fit c plan =
-    let parsed : ThinModule = plan.made.parsed in
-    let few : length (picked_sites plan.made.project (netlist_of parsed)) ≤ 45 = omega (arith, few-picked plan.made.project (netlist_of parsed), few-sites (mode_set plan.made.project.modes) parsed plan.made.design.text.thin) in
-    subst IsFit (sym plan.made.campaign) (fit_of plan.config plan.made.project plan.made.script plan.made.report plan.files parsed plan.made.says plan.made.tests plan.made.scripts few)
+    let few : length (picked_sites plan.made.project c.netlist) ≤ 10000 = omega (arith, within-size plan.made.project c.netlist, (size_within plan.config plan.made.project plan.made.says)) in
+    subst IsFit (sym plan.made.campaign) (fit_of plan.config plan.made.project plan.made.script plan.made.report plan.files c.netlist plan.made.says plan.made.tests plan.made.scripts few)
 
 verdict : (netlist : RawNetlist) (site : Option Site) (word : ℕ) → IsTrueWordAt netlist site word → IsEqWord word
 verdict netlist None word right = absurd right

@@ -1,32 +1,39 @@
 -- Projects and their sources: each has one answer, and those that are taken have no other.
-use Rattle.std.proofs.Common.{◌≡◌, ◌≢◌, inl, inr, arith, ℕ, ◌<◌, ◌≤◌, List, [], ◌∷◌, ◌++◌, get_or, length, map, codes, refl, sym, ap, subst, ◌∙◌, ◌⊎◌, Option, None, Some, Result, Ok, Err}
+use Rattle.std.proofs.Common.{◌≡◌, ◌≢◌, inl, inr, arith, ℕ, ◌≤◌, List, [], ◌∷◌, ◌++◌, get_or, length, map, codes, refl, sym, ap, subst, ◌∙◌, ◌⊎◌, Option, None, Some, Result, Ok, Err}
 use Rattle.std.specs.Str.{IsUtf8}
 use Rattle.std.proofs.Math.Seq.{take-length}
 use Rattle.std.proofs.lemmas.Str.{utf8_valid_len-IsValidUpTo}
-use Rattle.std.proofs.lemmas.List.{append_cancel_left}
+use Rattle.std.proofs.lemmas.List.{append_cancel_left, length-map}
 use Rattle.std.proofs.lemmas.List.Elements.{All-head, All-tail}
 use Rattle.mcy_base.specs.declared.file.SourceFile.{SourceFile}
 use Rattle.mcy_outside.specs.Files.{Held, Gives}
+use Rattle.project_limits.proofs.Files.{files_few}
 use Rattle.project_file.specs.declared.error.ProjectError.{ProjectError}
 use Rattle.project_file.specs.declared.error.ProjectError.TheVariants.{NotUtf8}
 use Rattle.project_file.specs.declared.project.Project.{Project}
 use Rattle.project_file.specs.Projects.{design_files, IsCut, IsFault, IsProject}
 use Rattle.mcy_top.specs.declared.outcome.Part.{Part}
-use Rattle.mcy_top.specs.declared.outcome.Part.TheVariants.{Source, Tests}
+use Rattle.mcy_top.specs.declared.outcome.Part.TheVariants.{Tests}
 use Rattle.mcy_top.specs.declared.outcome.Refusal.{Refusal}
 use Rattle.mcy_top.specs.declared.outcome.Refusal.TheVariants.{ProjectBad, ScriptBad, SourceBad, Memory, Unbuilt}
 use Rattle.tag_script.specs.declared.script.Script.{Script}
 use Rattle.tag_script.specs.declared.script.ScriptError.{ScriptError}
 use Rattle.report_script.specs.declared.report.Report.{Report}
-use Rattle.thin_source.specs.declared.thin.ThinModule.{ThinModule}
-use Rattle.mcy_top.specs.Limits.{max_bytes}
+use Rattle.mcy_top.specs.Limits.{max_bytes, max_sites}
+use Rattle.mcy_top.specs.Mutations.{all_sites}
 use Rattle.step_trials.specs.Inputs.{max_free_bits}
 use Rattle.mcy_top.specs.Projects.{AreBuilt, HasScripts, IsBuilt, IsUnbuilt, logic_read, report_read}
-use Rattle.thin_source.specs.ThinModules.{IsSource, input_names}
 use Rattle.mcy_top.specs.declared.prepared.Prepared.{Prepared}
-use Rattle.mcy_top.specs.Campaigns.{config_name, file_item, names_of, Got, GotAll, IsDesign, IsMade, IsPrepared}
-use Rattle.mcy_top.specs.Reads.{GotSources, HasProject, IsNext, IsRead, IsUnmade, IsUnscripted, IsUntaken, IsUntakenDesign}
-use Rattle.thin_source.proofs.ThinText.{source_once}
+use Rattle.mcy_top.specs.Campaigns.{config_name, file_item, names_of, Got, GotAll, IsMade, IsPrepared}
+use Rattle.mcy_top.specs.Reads.{GotSources, HasProject, IsExcess, IsNext, IsRead, IsRefusedAsLarge, IsSourceBad, IsTooLarge, IsUnmade, IsUnscripted, IsUntaken, IsUntakenDesign}
+use Rattle.mcy_base.specs.declared.kind.Kind.{Kind}
+use Rattle.mcy_base.specs.declared.kind.Kind.TheVariants.{FreeBits, Sites}
+use Rattle.netlist_core.specs.declared.raw.RawNetlist.{RawNetlist}
+use Rattle.netlist_core.specs.Checked.{free_bits}
+use Rattle.source_faults.specs.declared.fault.SourceError.{SourceError}
+use Rattle.source_faults.specs.Faults.{too_many}
+use Rattle.project_sources.specs.Netlists.{HasNetlist}
+use Rattle.project_sources.proofs.OneAnswer.{faults_are_one, netlist_without_fault, netlists_are_one}
 
 -- A list of one, by what is read of it.
 
@@ -61,8 +68,6 @@ project_not_fault config p e h (inr k) = let is : None ≡ Some e = sym h.faultl
 
 unbuilt_once : (p : Project) (a b : Part) → IsUnbuilt p a → IsUnbuilt p b → a ≡ b
 unbuilt_once p Tests Tests h k = refl
-unbuilt_once p Source b h k = absurd h
-unbuilt_once p a Source h k = absurd k
 
 -- Scripts.
 
@@ -102,9 +107,7 @@ unscripted_once p Memory q m n h k = absurd (m refl)
 unscripted_once p r Memory m n h k = absurd (n refl)
 unscripted_once p (Unbuilt a) (Unbuilt b) m n h k = ap Unbuilt (unbuilt_once p a b h k)
 unscripted_once p (Unbuilt Tests) (ScriptBad f) m n h k = absurd (h k.0)
-unscripted_once p (Unbuilt Source) (ScriptBad f) m n h k = absurd h
 unscripted_once p (ScriptBad e) (Unbuilt Tests) m n h k = absurd (k h.0)
-unscripted_once p (ScriptBad e) (Unbuilt Source) m n h k = absurd k
 unscripted_once p (ScriptBad e) (ScriptBad f) m n h k = ap ScriptBad (fault_of_once p e f h.1.1 k.1.1)
 unscripted_once p (Unbuilt a) q m n h k = absurd k
 unscripted_once p (ScriptBad e) q m n h k = absurd k
@@ -113,7 +116,6 @@ unscripted_once p r q m n h k = absurd h
 built_not_unscripted : (p : Project) (r : Refusal) → IsBuilt p → r ≢ Memory → ¬ IsUnscripted p r
 built_not_unscripted p Memory built m h = m refl
 built_not_unscripted p (Unbuilt Tests) built m h = h built.tests
-built_not_unscripted p (Unbuilt Source) built m h = absurd h
 built_not_unscripted p (ScriptBad e) built m h = fault_of_none p built.script built.report e built.scripts h.1.1
 built_not_unscripted p r built m h = absurd h
 
@@ -232,38 +234,60 @@ read_there told p files name got (inr (q, has, next)) = source_there told p q fi
 
 -- Designs.
 
-pub design_once : (p : Project) (files : List SourceFile) (m n : ThinModule) → IsDesign p files m → IsDesign p files n → m ≡ n
-design_once p files m n h k =
-    let one : h.file ∷ [] ≡ k.file ∷ [] = sym h.one ∙ k.one in
-    let file : h.file ≡ k.file = cc in
-    source_once k.file.bytes m n (subst (λ (f : SourceFile). IsSource f.bytes m) file h.text) k.text
+-- there is too much of one thing
+excess_once : (sites bits : ℕ) (k j : Kind) → IsExcess sites bits k → IsExcess sites bits j → k ≡ j
+excess_once sites bits Sites Sites h g = refl
+excess_once sites bits Sites FreeBits h g = absurd (omega (arith, h, g.0))
+excess_once sites bits FreeBits Sites h g = absurd (omega (arith, h.0, g))
+excess_once sites bits FreeBits FreeBits h g = refl
+excess_once sites bits Sites j h g = absurd g
+excess_once sites bits FreeBits j h g = absurd g
+excess_once sites bits k j h g = absurd h
+
+no_excess : (sites bits : ℕ) (k : Kind) → sites ≤ max_sites → bits ≤ max_free_bits → ¬ IsExcess sites bits k
+no_excess sites bits Sites few small h = omega (arith, few, h)
+no_excess sites bits FreeBits few small h = omega (arith, small, h.1)
+no_excess sites bits k few small h = absurd h
+
+large_once : (p : Project) (netlist : RawNetlist) (x y : SourceError) → IsTooLarge p netlist x → IsTooLarge p netlist y → x ≡ y
+large_once p netlist x y (k, h, is) (j, g, are) = is ∙ ap too_many (excess_once (length (all_sites p netlist)) (free_bits netlist) k j h g) ∙ sym are
+
+bad_once : (p : Project) (files : List SourceFile) (x y : SourceError) → IsSourceBad p files x → IsSourceBad p files y → x ≡ y
+bad_once p files x y (inl h) (inl k) = faults_are_one files p.top x y h k
+bad_once p files x y (inl h) (inr (netlist, has, large)) = absurd (netlist_without_fault files p.top netlist x has h)
+bad_once p files x y (inr (netlist, has, large)) (inl k) = absurd (netlist_without_fault files p.top netlist y has k)
+bad_once p files x y (inr (n, has, large)) (inr (m, also, bulky)) =
+    large_once p n x y large (subst (λ netlist. IsTooLarge p netlist y) (netlists_are_one files p.top m n also has) bulky)
 
 -- the sources are refused for one thing,
 pub untaken_design_once : (p : Project) (files : List SourceFile) (r q : Refusal) → r ≢ Memory → q ≢ Memory → IsUntakenDesign p files r → IsUntakenDesign p files q → r ≡ q
 untaken_design_once p files Memory q m n h k = absurd (m refl)
 untaken_design_once p files r Memory m n h k = absurd (n refl)
-untaken_design_once p files (Unbuilt Source) (Unbuilt Source) m n h k = refl
-untaken_design_once p files (Unbuilt Source) (SourceBad e) m n h (d, is, wide) = absurd (h d is)
-untaken_design_once p files (SourceBad e) (Unbuilt Source) m n (d, is, wide) k = absurd (k d is)
-untaken_design_once p files (SourceBad e) (SourceBad f) m n (d, is, wide) (d', is', wide') = ap SourceBad (wide.is ∙ sym wide'.is)
-untaken_design_once p files (Unbuilt Source) q m n h k = absurd k
+untaken_design_once p files (SourceBad e) (SourceBad f) m n h k = ap SourceBad (bad_once p files e f h k)
 untaken_design_once p files (SourceBad e) q m n h k = absurd k
 untaken_design_once p files r q m n h k = absurd h
 
 -- and those that are taken for none
-pub untaken_design_not : (p : Project) (files : List SourceFile) (m : ThinModule) (r : Refusal) → IsDesign p files m → length (input_names m.ports) ≤ max_free_bits → r ≢ Memory → ¬ IsUntakenDesign p files r
-untaken_design_not p files m Memory is few some h = some refl
-untaken_design_not p files m (Unbuilt Source) is few some h = h m is
-untaken_design_not p files m (SourceBad e) is few some (d, is', wide) =
-    let same : d ≡ m = design_once p files d m is' is in
-    let many : max_free_bits < length (input_names m.ports) = subst (λ (d : ThinModule). max_free_bits < length (input_names d.ports)) same wide.many in
-    omega arith
-untaken_design_not p files m r is few some h = absurd h
+pub untaken_design_not : (p : Project) (files : List SourceFile) (netlist : RawNetlist) (r : Refusal) → HasNetlist files p.top netlist → length (all_sites p netlist) ≤ max_sites → free_bits netlist ≤ max_free_bits → r ≢ Memory → ¬ IsUntakenDesign p files r
+untaken_design_not p files netlist Memory has few small some h = some refl
+untaken_design_not p files netlist (SourceBad e) has few small some (inl h) = netlist_without_fault files p.top netlist e has h
+untaken_design_not p files netlist (SourceBad e) has few small some (inr (other, also, (kind, excess, is))) =
+    no_excess (length (all_sites p netlist)) (free_bits netlist) kind few small (subst (λ n. IsExcess (length (all_sites p n)) (free_bits n) kind) (netlists_are_one files p.top other netlist also has) excess)
+untaken_design_not p files netlist r has few small some h = absurd h
+
+-- A project has few files.
+pub sources_few : (held : Option Held) (config : List ℕ) (p : Project) (files : List SourceFile) → IsProject config p → GotSources held p files → length files ≤ 64
+sources_few held config p files says got = omega (arith, files_few config p says, ap length got.names, length-map files (λ (file : SourceFile). file.name))
+
+-- A netlist that is too large is a fault of the sources.
+pub large_untaken : (p : Project) (files : List SourceFile) (netlist : RawNetlist) (r : Refusal) → HasNetlist files p.top netlist → IsRefusedAsLarge p netlist r → IsUntakenDesign p files r
+large_untaken p files netlist (SourceBad e) has large = inr (netlist, has, large)
+large_untaken p files netlist Memory has large = tt
+large_untaken p files netlist r has large = absurd large
 
 -- Where the sources are refused, the files make no campaign,
 pub untaken_unmade : (held : Option Held) (p : Project) (files : List SourceFile) (r : Refusal) → GotSources held p files → IsUntakenDesign p files r → IsUnmade held r
 untaken_unmade held p files Memory got why = tt
-untaken_unmade held p files (Unbuilt part) got why = inr (record { project = p; files = files; got = got; why = why })
 untaken_unmade held p files (SourceBad e) got why = record { project = p; files = files; got = got; why = why }
 untaken_unmade held p files r got why = absurd why
 

@@ -1,32 +1,25 @@
 -- The campaign of a project and its sources.
-use Rattle.std.specs.Prelude.{◌≡◌, ℕ, ◌≤◌, List, [], ◌∷◌, ◌++◌, length, map, codes, ⊤, Option, None, Some}
+use Rattle.std.specs.Prelude.{◌≡◌, ℕ, ◌≤◌, List, ◌∷◌, ◌++◌, length, map, codes, ⊤, Option, None, Some}
 use Rattle.std.specs.List.{All}
 use Rattle.mcy_base.specs.declared.file.SourceFile.{SourceFile}
 use Rattle.mcy_outside.specs.Files.{Held, Gives, IsLarge}
 use Rattle.project_file.specs.declared.project.Project.{Project}
 use Rattle.project_file.specs.Projects.{design_files, IsProject}
-use Rattle.thin_source.specs.declared.thin.ThinModule.{ThinModule}
+use Rattle.netlist_core.specs.declared.raw.RawNetlist.{RawNetlist}
 use Rattle.result_book.specs.declared.campaign.Campaign.{Campaign}
 use Rattle.tag_script.specs.declared.script.Script.{Script}
 use Rattle.report_script.specs.declared.report.Report.{Report}
 use Rattle.mcy_top.specs.declared.prepared.Prepared.{Prepared}
-use Rattle.mcy_top.specs.Limits.{max_bytes}
+use Rattle.mcy_top.specs.Limits.{max_bytes, max_sites}
+use Rattle.netlist_core.specs.Checked.{free_bits}
 use Rattle.step_trials.specs.Inputs.{max_free_bits}
 use Rattle.mcy_top.specs.Projects.{AreBuilt, HasScripts, test_kinds, test_names}
-use Rattle.thin_source.specs.ThinModules.{IsSource, input_names}
-use Rattle.thin_source.specs.ThinNetlists.{netlist_of}
+use Rattle.project_sources.specs.Netlists.{HasNetlist}
 use Rattle.mutation_sites.specs.SiteTexts.{site_text}
 use Rattle.mcy_top.specs.Mutations.{all_sites, picked_sites, site_line}
 
 abbrev pub config_name : List ℕ
 config_name = codes "config.mcy"
-
--- The sources of a project that are built: one file, the text of a module in the thin form, which is the top.
-pub record IsDesign (project : Project) (files : List SourceFile) (m : ThinModule) : Type 0 where
-  pub top : project.top ≡ codes "g"
-  pub file : SourceFile
-  pub one : files ≡ file ∷ []
-  pub text : IsSource file.bytes m
 
 -- what a book keeps of a file: its name and its bytes
 abbrev pub file_item : SourceFile → List ℕ
@@ -42,11 +35,11 @@ abbrev pub names_of : List SourceFile → List (List ℕ)
 names_of files = map (λ file. file.name) files
 
 -- The campaign of a project and its sources. The sites that are picked are its mutations.
-abbrev pub campaign_of : List ℕ → Project → Script → Report → List SourceFile → ThinModule → Campaign
-campaign_of config project script report files m = record {
+abbrev pub campaign_of : List ℕ → Project → Script → Report → List SourceFile → RawNetlist → Campaign
+campaign_of config project script report files netlist = record {
   meta = meta_of config files;
-  mutations = map (site_text (netlist_of m) (names_of files)) (picked_sites project (netlist_of m));
-  lines = map (site_line (netlist_of m)) (picked_sites project (netlist_of m));
+  mutations = map (site_text netlist (names_of files)) (picked_sites project netlist);
+  lines = map (site_line netlist) (picked_sites project netlist);
   test_names = test_names project;
   kinds = test_kinds project;
   expect = map (λ test. test.expect) project.tests;
@@ -64,13 +57,12 @@ pub record IsPrepared (config : List ℕ) (files : List SourceFile) (c : Prepare
   pub report : Report
   pub scripts : HasScripts project script report
   pub names : names_of files ≡ design_files project
-  pub parsed : ThinModule
-  pub design : IsDesign project files parsed
-  pub few : length (input_names parsed.ports) ≤ max_free_bits
-  pub campaign : c.campaign ≡ campaign_of config project script report files parsed
-  pub netlist : c.netlist ≡ netlist_of parsed
-  pub count : c.site_count ≡ length (all_sites project (netlist_of parsed))
-  pub places : c.sites ≡ picked_sites project (netlist_of parsed)
+  pub design : HasNetlist files project.top c.netlist
+  pub few_sites : length (all_sites project c.netlist) ≤ max_sites
+  pub few : free_bits c.netlist ≤ max_free_bits
+  pub campaign : c.campaign ≡ campaign_of config project script report files c.netlist
+  pub count : c.site_count ≡ length (all_sites project c.netlist)
+  pub places : c.sites ≡ picked_sites project c.netlist
 
 -- that of some project and sources
 pub record IsPlan (c : Prepared) : Type 0 where

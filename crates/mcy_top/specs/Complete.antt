@@ -7,14 +7,17 @@ use Rattle.mcy_outside.specs.Files.{Held}
 use Rattle.project_file.specs.declared.project.Project.{Project}
 use Rattle.command_words.specs.declared.command.Command.{Command}
 use Rattle.mcy_top.specs.declared.prepared.Prepared.{Prepared}
-use Rattle.thin_source.specs.declared.thin.ThinModule.{ThinModule}
+use Rattle.netlist_core.specs.declared.raw.RawNetlist.{RawNetlist}
 use Rattle.mcy_top.specs.declared.outcome.Outcome.{Outcome}
 use Rattle.mcy_top.specs.declared.outcome.Outcome.TheVariants.{Done, Unfinished, Memory}
+use Rattle.netlist_core.specs.Checked.{free_bits}
 use Rattle.step_trials.specs.Inputs.{max_free_bits}
 use Rattle.command_words.specs.Commands.{command_of}
 use Rattle.mcy_top.specs.Commands.{stop_of}
-use Rattle.thin_source.specs.ThinModules.{input_names}
-use Rattle.mcy_top.specs.Campaigns.{IsDesign, IsMade}
+use Rattle.project_sources.specs.Netlists.{HasNetlist}
+use Rattle.mcy_top.specs.Limits.{max_sites}
+use Rattle.mcy_top.specs.Mutations.{all_sites}
+use Rattle.mcy_top.specs.Campaigns.{IsMade}
 use Rattle.mcy_top.specs.Reads.{GotSources}
 use Rattle.mcy_top.specs.Life.{Takes}
 
@@ -25,9 +28,10 @@ pub record IsReadable (held : Option Held) : Type 0 where
   pub project : Project
   pub files : List SourceFile
   pub got : GotSources (Some map) project files
-  pub parsed : ThinModule
-  pub design : IsDesign project files parsed
-  pub few : length (input_names parsed.ports) ≤ max_free_bits
+  pub netlist : RawNetlist
+  pub design : HasNetlist files project.top netlist
+  pub few_sites : length (all_sites project netlist) ≤ max_sites
+  pub few : free_bits netlist ≤ max_free_bits
 
 -- the command is given, the files are there, and each book that a load may give is one that the command takes
 pub record IsReady (words : List (List ℕ)) (held : Option Held) (holds : Book → Type 0) (leaves : Option Book → Type 0) (command : Command) : Type 0 where

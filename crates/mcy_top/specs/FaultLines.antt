@@ -1,7 +1,5 @@
 -- The line that tells a person why a call was refused, or what failed.
 use Rattle.std.specs.Prelude.{ℕ, List, [], ◌++◌, codes, decimal}
-use Rattle.mcy_base.specs.declared.kind.Kind.{Kind}
-use Rattle.mcy_base.specs.declared.kind.Kind.TheVariants.{Tokens, LoopTurns, Cells, NetBits, RegisterBits, Sites, Gates, FreeBits}
 use Rattle.mcy_keeper.specs.declared.book.Entry.{Entry}
 use Rattle.result_book.specs.declared.check.RowFault.{RowFault}
 use Rattle.result_book.specs.declared.check.RowFault.TheVariants.{Seq}
@@ -13,23 +11,9 @@ use Rattle.project_file.specs.declared.error.What.{What}
 use Rattle.project_file.specs.declared.error.What.TheVariants.{Script, Read, Top, Logic, Kind as TestKind, Pass}
 use Rattle.tag_script.specs.declared.script.ScriptError.{ScriptError}
 use Rattle.tag_script.specs.declared.script.ScriptError.TheVariants as script
-use Rattle.mcy_top.specs.declared.outcome.SourceFault.{SourceFault}
-use Rattle.mcy_top.specs.declared.outcome.SourceFault.TheVariants.{TooMany}
+use Rattle.source_faults.specs.Lines.{source_line}
 use Rattle.mcy_top.specs.declared.outcome.Outcome.{Outcome}
 use Rattle.mcy_top.specs.declared.outcome.Outcome.TheVariants.{Done, Unfinished, Usage, ProjectBad, ScriptBad, SourceBad, Missing, TooLarge, NoCampaign, AlreadyBegun, BookBad, ReadFault, KeeperFault, WriteFault, Memory, Unbuilt}
-
-abbrev pub kind_name : Kind → List ℕ
-kind_name Tokens = codes "Tokens"
-kind_name LoopTurns = codes "LoopTurns"
-kind_name Cells = codes "Cells"
-kind_name NetBits = codes "NetBits"
-kind_name RegisterBits = codes "RegisterBits"
-kind_name Sites = codes "Sites"
-kind_name Gates = codes "Gates"
-kind_name FreeBits = codes "FreeBits"
-
-abbrev pub source_line : SourceFault → List ℕ
-source_line (TooMany kind) = codes "mcy: TooMany " ++ (kind_name kind ++ codes "\n")
 
 -- a line of these words
 abbrev pub told_line : List ℕ → List ℕ
@@ -99,7 +83,7 @@ fault_text (Unfinished left) = []
 fault_text Usage = told_line (codes "usage: mcy init | run [--stop-after N] | list | status")
 fault_text (ProjectBad error) = project_line error
 fault_text (ScriptBad error) = script_line error
-fault_text (SourceBad error) = source_line error.fault
+fault_text (SourceBad error) = source_line error
 fault_text (Missing name) = file_line name (codes "missing")
 fault_text (TooLarge name) = file_line name (codes "too large")
 fault_text NoCampaign = told_line (codes "no campaign")

@@ -21,7 +21,6 @@ AreBuilt project = All (λ test. test.kind ≡ Eq) project.tests
 -- the part of the project that is not built
 abbrev pub IsUnbuilt : Project → Part → Type 0
 IsUnbuilt project Tests = ¬ AreBuilt project
-IsUnbuilt project part = ⊥
 
 -- the tests, by their names and by the codes of their kinds
 abbrev pub test_names : Project → List (List ℕ)

@@ -1,21 +1,24 @@
 -- What is read, in its order, and why the files make no campaign.
-use Rattle.std.specs.Prelude.{◌≡◌, ◌⊎◌, ℕ, ◌<◌, List, [], ◌∷◌, length, map, ⊤, Option}
+use Rattle.std.specs.Prelude.{◌≡◌, ◌⊎◌, ℕ, ◌<◌, ◌≤◌, List, [], ◌∷◌, length, map, ⊤, Option}
 use Rattle.mcy_base.specs.declared.file.SourceFile.{SourceFile}
-use Rattle.mcy_base.specs.declared.kind.Kind.TheVariants.{FreeBits}
+use Rattle.mcy_base.specs.declared.kind.Kind.{Kind}
+use Rattle.mcy_base.specs.declared.kind.Kind.TheVariants.{FreeBits, Sites}
 use Rattle.mcy_base.specs.Causes.{Rose}
 use Rattle.mcy_outside.specs.Files.{Held}
 use Rattle.project_file.specs.declared.project.Project.{Project}
 use Rattle.project_file.specs.Projects.{design_files, IsFault, IsProject}
-use Rattle.thin_source.specs.declared.thin.ThinModule.{ThinModule}
-use Rattle.mcy_top.specs.declared.outcome.Part.TheVariants.{Source}
-use Rattle.mcy_top.specs.declared.outcome.SourceFault.TheVariants.{TooMany}
-use Rattle.mcy_top.specs.declared.outcome.SourceError.{SourceError}
+use Rattle.netlist_core.specs.declared.raw.RawNetlist.{RawNetlist}
+use Rattle.source_faults.specs.declared.fault.SourceError.{SourceError}
+use Rattle.source_faults.specs.Faults.{too_many}
+use Rattle.project_sources.specs.Netlists.{HasNetlist, HasNoNetlist}
 use Rattle.mcy_top.specs.declared.outcome.Refusal.{Refusal}
 use Rattle.mcy_top.specs.declared.outcome.Refusal.TheVariants.{ProjectBad, ScriptBad, SourceBad, Missing, TooLarge, ReadFault, Memory, Unbuilt}
+use Rattle.netlist_core.specs.Checked.{free_bits}
 use Rattle.step_trials.specs.Inputs.{max_free_bits}
 use Rattle.mcy_top.specs.Projects.{AreBuilt, IsBuilt, IsScriptFault, IsUnbuilt}
-use Rattle.thin_source.specs.ThinModules.{input_names}
-use Rattle.mcy_top.specs.Campaigns.{config_name, Got, GotAll, IsDesign, Lacks, Exceeds}
+use Rattle.mcy_top.specs.Limits.{max_sites}
+use Rattle.mcy_top.specs.Mutations.{all_sites}
+use Rattle.mcy_top.specs.Campaigns.{config_name, Got, GotAll, Lacks, Exceeds}
 
 -- why a project is not built, or has no scripts
 abbrev pub IsUnscripted : Project → Refusal → Type 0
@@ -54,15 +57,29 @@ pub record GotSources (held : Option Held) (project : Project) (files : List Sou
   pub names : map (λ file. file.name) files ≡ design_files project
   pub got : GotAll held files
 
--- there are more free bits than the equivalence test takes
-pub record IsTooWide (m : ThinModule) (error : SourceError) : Type 0 where
-  pub many : max_free_bits < length (input_names m.ports)
-  pub is : error ≡ record { file = []; fault = TooMany FreeBits }
+-- there are more sites than the limit, or else more free bits than the equivalence test takes
+abbrev pub IsExcess : (sites bits : ℕ) → Kind → Type 0
+IsExcess sites bits Sites = max_sites < sites
+IsExcess sites bits FreeBits = (sites ≤ max_sites) × (max_free_bits < bits)
+IsExcess sites bits kind = ⊥
+
+-- the netlist is too large
+abbrev pub IsTooLarge : Project → RawNetlist → SourceError → Type 0
+IsTooLarge project netlist error = (kind : Kind) × IsExcess (length (all_sites project netlist)) (free_bits netlist) kind × (error ≡ too_many kind)
+
+abbrev pub IsRefusedAsLarge : Project → RawNetlist → Refusal → Type 0
+IsRefusedAsLarge project netlist (SourceBad error) = IsTooLarge project netlist error
+IsRefusedAsLarge project netlist Memory = ⊤
+IsRefusedAsLarge project netlist refusal = ⊥
+
+-- the files of a design have no netlist, or one that is too large
+abbrev pub IsSourceBad : Project → List SourceFile → SourceError → Type 0
+IsSourceBad project files error =
+    HasNoNetlist files project.top error ⊎ ((netlist : RawNetlist) × HasNetlist files project.top netlist × IsTooLarge project netlist error)
 
 -- why the files of a design make no campaign
 abbrev pub IsUntakenDesign : Project → List SourceFile → Refusal → Type 0
-IsUntakenDesign project files (Unbuilt Source) = (m : ThinModule) → ¬ IsDesign project files m
-IsUntakenDesign project files (SourceBad error) = (m : ThinModule) × IsDesign project files m × IsTooWide m error
+IsUntakenDesign project files (SourceBad error) = IsSourceBad project files error
 IsUntakenDesign project files Memory = ⊤
 IsUntakenDesign project files refusal = ⊥
 
@@ -86,7 +103,7 @@ IsUnmade held (ScriptBad error) = AtProject held (ScriptBad error)
 IsUnmade held (Missing name) = IsRead held name × Lacks held name
 IsUnmade held (TooLarge name) = IsRead held name × Exceeds held name
 IsUnmade held (ReadFault name) = IsRead held name
-IsUnmade held (Unbuilt part) = AtProject held (Unbuilt part) ⊎ AtSources held (Unbuilt part)
+IsUnmade held (Unbuilt part) = AtProject held (Unbuilt part)
 IsUnmade held (SourceBad error) = AtSources held (SourceBad error)
 IsUnmade held Memory = ⊤
 

@@ -2,11 +2,12 @@
 ghost use Rattle.std.specs.Prelude.{◌≡◌, IfOk, string_bytes};
 ghost use Rattle.mcy_top.specs.FaultLines as texts;
 
-use crate::outcome::{Outcome, SourceFault};
-use mcy_base::{Bytes, Kind};
+use crate::outcome::Outcome;
+use mcy_base::Bytes;
 use mcy_keeper::Entry;
 use project_file::{ProjectError, What};
 use result_book::{BookError, RowFault};
+use source_faults::source_line;
 use std::alloc::{AllocError, Global};
 use tag_script::ScriptError;
 
@@ -23,7 +24,7 @@ pub fn fault_line(alloc: Global, outcome: &Outcome) -> Result<Bytes, AllocError>
         ),
         Outcome::ProjectBad(error) => project_line(alloc, *error),
         Outcome::ScriptBad(error) => script_line(alloc, *error),
-        Outcome::SourceBad(error) => source_line(alloc, error.fault),
+        Outcome::SourceBad(error) => source_line(alloc, error),
         Outcome::Missing(name) => file_line(alloc, name.as_str(), "missing"),
         Outcome::TooLarge(name) => file_line(alloc, name.as_str(), "too large"),
         Outcome::NoCampaign => told(alloc, "no campaign"),
@@ -107,30 +108,6 @@ fn missing_line(alloc: Global, what: What) -> Result<String, AllocError>
         What::Logic => in_project(alloc, "Missing Logic"),
         What::Kind(test) => in_project_at(alloc, "Missing Kind", test),
         What::Pass(test) => in_project_at(alloc, "Missing Pass", test),
-    }
-}
-
-/// The line of a fault of a source.
-fn source_line(alloc: Global, fault: SourceFault) -> Result<String, AllocError>
-    ensures { IfOk result (λ line. string_bytes line ≡ texts.source_line fault) }
-{
-    let SourceFault::TooMany(kind) = fault;
-    let kind = kind_name(kind);
-    format!(in alloc; "mcy: TooMany {kind}\n")
-}
-
-fn kind_name(kind: Kind) -> &'static str
-    ensures { result.now ≡ texts.kind_name kind }
-{
-    match kind {
-        Kind::Tokens => "Tokens",
-        Kind::LoopTurns => "LoopTurns",
-        Kind::Cells => "Cells",
-        Kind::NetBits => "NetBits",
-        Kind::RegisterBits => "RegisterBits",
-        Kind::Sites => "Sites",
-        Kind::Gates => "Gates",
-        Kind::FreeBits => "FreeBits",
     }
 }
 

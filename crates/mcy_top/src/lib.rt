@@ -16,4 +16,5 @@ mod work;
 pub use command_words::{Command, read_words};
 pub use fault_lines::fault_line;
 pub use main_call::{mcy_call, mcy_main};
-pub use outcome::{Outcome, Part, SourceError, SourceFault, exit_status};
+pub use outcome::{Outcome, Part, exit_status};
+pub use source_faults::{SourceError, SourceFault};

@@ -8,7 +8,7 @@ ghost use Rattle.mcy_top.specs.Mutations.{all_sites, mode_set, pick_of, picked_s
 
 use mcy_base::{BytesList, SourceFile, Text, TextList};
 use mutation_select::{Pick, select};
-use mutation_sites::{ModeSet, Site, site_text, sites, span_at};
+use mutation_sites::{ModeSet, Site, site_count, site_text, sites, span_at};
 use netlist_core::Netlist;
 use project_file::{ModeFlags, Project};
 use result_book::PlaceList;
@@ -32,6 +32,13 @@ fn pick_of(even: bool) -> Pick
     ensures { result ≡ pick_of even }
 {
     if even { Pick::Even } else { Pick::Plain }
+}
+
+/// How many sites a project's modes have at a netlist.
+pub(crate) fn site_total(project: &Project, netlist: &Netlist) -> u64
+    ensures { result ≡ length (all_sites project.now netlist.now.raw) }
+{
+    site_count(netlist, mode_set(project.modes))
 }
 
 /// The sites of a project's modes at a netlist.

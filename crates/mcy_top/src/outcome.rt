@@ -2,33 +2,17 @@
 ghost use Rattle.std.specs.Prelude.{◌≡◌};
 ghost use Rattle.mcy_top.specs.Outcomes.{book_outcome, outcome_of, status_of};
 
-use mcy_base::{Kind, Text};
+use mcy_base::Text;
 use project_file::ProjectError;
 use result_book::BookError;
+use source_faults::SourceError;
 use tag_script::ScriptError;
 
 /// A form of input that is not built yet.
 #[derive(Clone, Copy, Debug, PartialEq, Eq)]
 pub enum Part {
-    /// The sources are not one file in the thin form whose module is the top.
-    Source,
     /// A test is a simulation.
     Tests,
-}
-
-/// What is wrong with a source.
-#[derive(Clone, Copy, Debug, PartialEq, Eq)]
-pub enum SourceFault {
-    /// There are more of these than the limit.
-    TooMany(Kind),
-}
-
-/// What is wrong with the sources, and the file that it is in. No file is named where the fault is of all sources
-/// together.
-#[derive(Drop)]
-pub struct SourceError {
-    pub file: Text,
-    pub fault: SourceFault,
 }
 
 /// How a call ended.

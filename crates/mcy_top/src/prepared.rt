@@ -2,21 +2,24 @@
 //!
 //! `campaign` is what the book and the texts are made of. Mutation n of it is `netlist` broken at site n of `sites`, which
 //! are picked of the `site_count` sites that there are.
-ghost use Rattle.std.specs.Prelude.{◌≡◌, ◌≤◌, IfOk, length, map};
+ghost use Rattle.std.specs.Prelude.{◌≡◌, ◌≤◌, All, IfOk, length, map};
 ghost use Rattle.project_file.specs.Projects.{design_files, IsProject};
+ghost use Rattle.netlist_core.specs.Checked.{free_bits};
 ghost use Rattle.step_trials.specs.Inputs.{max_free_bits};
 ghost use Rattle.mcy_top.specs.Projects.{AreBuilt, HasScripts};
-ghost use Rattle.thin_source.specs.ThinModules.{input_names};
-ghost use Rattle.thin_source.specs.ThinNetlists.{netlist_of};
+ghost use Rattle.project_sources.specs.Netlists.{HasNetlist};
+ghost use Rattle.mutation_sites.specs.Mutants.{IsSite};
+ghost use Rattle.mcy_top.specs.Limits.{max_sites};
+ghost use Rattle.mcy_top.specs.Mutations.{all_sites as sites_at};
 
-use crate::mutations::{all_sites, picked_sites, site_lines, site_texts};
+use crate::mutations::{picked_sites, site_lines, site_texts};
 use crate::project::{Scripted, test_kinds, test_names};
 use mcy_base::{Bytes, BytesList, Items, SourceFile};
 use mutation_sites::Site;
 use project_file::TestPlan;
+use project_sources::CheckedNetlist;
 use result_book::{Campaign, NumberList};
 use std::alloc::{AllocError, Global};
-use thin_source::{CheckedNetlist, ThinModule, lower};
 
 /// The name of the project file.
 pub(crate) const CONFIG_NAME: &str = "config.mcy";
@@ -36,7 +39,7 @@ pub struct Prepared {
     pub netlist: CheckedNetlist,
 }
 
-ghost use Rattle.mcy_top.specs.Campaigns.{campaign_of, file_item, meta_of, names_of, IsDesign, IsPrepared};
+ghost use Rattle.mcy_top.specs.Campaigns.{campaign_of, file_item, meta_of, names_of, IsPrepared};
 
 /// What a book keeps of a file.
 fn file_item(alloc: Global, file: &SourceFile) -> Result<Bytes, AllocError>
@@ -68,20 +71,24 @@ fn expected(alloc: Global, tests: &[TestPlan]) -> Result<NumberList, AllocError>
     Ok(NumberList::from_vec(tests.iter().map(|test| test.expect).collect(alloc)?))
 }
 
-/// The campaign of a project with its scripts and its sources, which are built, and its netlist with the sites of the mutations.
+/// The campaign of a project with its scripts and its sources, which are built, from their netlist and all sites that it has.
 pub(crate) fn prepare(
     alloc: Global,
     config: &[u8],
     taken: Scripted,
     files: &[SourceFile],
-    parsed: &ThinModule,
+    checked: CheckedNetlist,
+    all: &[Site],
 ) -> Result<Prepared, AllocError>
     requires says { IsProject config.now taken.project }
     requires tests { AreBuilt taken.project }
     requires scripts { HasScripts taken.project taken.script taken.report }
     requires names { names_of files.now ≡ design_files taken.project }
-    requires design { IsDesign taken.project files.now parsed.now }
-    requires few { length (input_names parsed.now.ports) ≤ max_free_bits }
+    requires design { HasNetlist files.now taken.project.top checked }
+    requires sites { all.now ≡ sites_at taken.project checked }
+    requires placed { All (IsSite checked) all.now }
+    requires few_sites { length all.now ≤ max_sites }
+    requires few { free_bits checked ≤ max_free_bits }
     ensures { IfOk result (λ prepared. IsPrepared config.now files.now prepared) }
 {
     let Scripted {
@@ -89,10 +96,8 @@ pub(crate) fn prepare(
         script,
         report,
     } = taken;
-    let checked = lower(alloc, parsed)?;
     let netlist = checked.netlist();
-    let all = all_sites(alloc, &project, netlist)?;
-    let sites = picked_sites(alloc, &project, netlist, &all)?;
+    let sites = picked_sites(alloc, &project, netlist, all)?;
     let tests = project.tests.as_slice();
     let campaign = Campaign {
         meta: make_meta(alloc, config, files)?,

@@ -2,26 +2,36 @@
 //!
 //! The project file is read first, and has to be a project that is built. Then all files of its design are read, in their
 //! order and each once, and then they are judged.
-ghost use Rattle.std.specs.Prelude.{◌≡◌, ◌≤◌, [], length, map, IfOk, IfErr, MatchOption};
+ghost use Rattle.std.specs.Prelude.{◌≡◌, ◌≤◌, length, map, All, IfOk, IfErr, MatchOption, OnOk};
 ghost use Rattle.mcy_base.specs.Causes.{Rose};
 ghost use Rattle.project_file.specs.Projects.{design_files, IsProject};
-ghost use Rattle.mcy_top.specs.Limits.{max_bytes};
+ghost use Rattle.mcy_top.specs.Limits.{max_bytes, max_sites};
+ghost use Rattle.mutation_sites.specs.Mutants.{IsSite};
+ghost use Rattle.netlist_core.specs.Checked.{free_bits};
 ghost use Rattle.step_trials.specs.Inputs.{max_free_bits};
 ghost use Rattle.mcy_top.specs.Projects.{AreBuilt, HasScripts, IsBuilt};
-ghost use Rattle.thin_source.specs.ThinModules.{input_names};
-ghost use Rattle.mcy_top.specs.Campaigns.{config_name, Got, GotAll, IsDesign, IsMade};
-ghost use Rattle.mcy_top.specs.Reads.{IsUnmade, IsUnread, IsUnreadAmong, IsUntaken, IsUntakenDesign, HasReadCause, HasProject, GotSources};
+ghost use Rattle.project_sources.specs.Netlists.{HasNetlist};
+ghost use Rattle.mcy_top.specs.Mutations.{all_sites as sites_at};
+ghost use Rattle.mcy_top.specs.Campaigns.{config_name, Got, GotAll, IsMade};
+ghost use Rattle.mcy_top.specs.Reads.{IsExcess, IsRefusedAsLarge, IsUnmade, IsUnread, IsUnreadAmong, IsUntaken, IsUntakenDesign, HasReadCause, HasProject, GotSources};
 
-use crate::outcome::{Part, Refusal, SourceError, SourceFault};
+use crate::mutations::{all_sites, site_total};
+use crate::outcome::Refusal;
 use crate::prepared::{CONFIG_NAME, MAX_BYTES, Prepared, prepare};
 use crate::project::{Scripted, scripts_of, unbuilt_part};
 use mcy_base::{Bytes, FileList, Kind, SourceFile, Text};
 use mcy_outside::{FileError, SourceFiles};
+use mutation_sites::Site;
+use netlist_core::Netlist;
 use project_file::{Project, ProjectError, read_project};
+use project_sources::{CheckedNetlist, NetlistError, read_netlist};
+use source_faults::too_many;
 use std::alloc::{AllocError, Global};
 use step_trials::MAX_FREE_BITS;
 use tag_script::ScriptError;
-use thin_source::{ThinModule, input_count, read_source};
+
+/// How many sites a netlist may have.
+const MAX_SITES: u64 = 2_000_000;
 
 impl From<AllocError> for Refusal {
     ghost use Rattle.mcy_top.specs.declared.outcome.Refusal.TheVariants.{Memory};
@@ -117,6 +127,7 @@ fn read_source_file<F: SourceFiles>(
     ensures same { F.held files.new ≡ F.held files.old }
     ensures name { IfOk result (λ file. file.name ≡ name.now) }
     ensures got { IfOk result (λ file. Got (F.held files.old) file.name file.bytes) }
+    ensures few { IfOk result (λ file. length file.bytes ≤ max_bytes) }
     ensures refused { IfErr result (IsUnread (F.held files.old) name.now) }
     ensures later { F.faults files.old ≤ F.faults files.new }
     ensures cause { IfErr result (HasReadCause (F.faults files.old) (F.faults files.new)) }
@@ -137,6 +148,7 @@ fn read_files<F: SourceFiles>(
     ensures same { F.held files.new ≡ F.held files.old }
     ensures names { IfOk result (λ read. map (λ file. file.name) read ≡ map (λ name. name.now) names.now) }
     ensures got { IfOk result (GotAll (F.held files.old)) }
+    ensures few { IfOk result (λ read. All (λ file. length file.bytes ≤ max_bytes) read) }
     ensures refused { IfErr result (IsUnreadAmong (F.held files.old) (map (λ name. name.now) names.now)) }
     ensures later { F.faults files.old ≤ F.faults files.new }
     ensures cause { IfErr result (HasReadCause (F.faults files.old) (F.faults files.new)) }
@@ -158,6 +170,7 @@ fn read_sources<F: SourceFiles>(
     requires { HasProject (F.held files.old) project.now }
     ensures same { F.held files.new ≡ F.held files.old }
     ensures got { IfOk result (GotSources (F.held files.old) project.now) }
+    ensures few { IfOk result (λ read. All (λ file. length file.bytes ≤ max_bytes) read) }
     ensures refused { IfErr result (IsUnmade (F.held files.old)) }
     ensures later { F.faults files.old ≤ F.faults files.new }
     ensures cause { IfErr result (HasReadCause (F.faults files.old) (F.faults files.new)) }
@@ -166,49 +179,49 @@ fn read_sources<F: SourceFiles>(
     read_files(alloc, files, &names)
 }
 
-/// The design that the files say, or nothing where they are none of the form that is built.
-fn design_of(
+/// The netlist that the files have.
+fn take_netlist(
     alloc: Global,
     project: &Project,
     files: &[SourceFile],
-) -> Result<Option<ThinModule>, AllocError>
-    ensures { IfOk result (λ found. MatchOption found
-        ((m : ThinModule) → ¬ IsDesign project.now files.now m)
-        (λ m. IsDesign project.now files.now m)) }
-{
-    match files {
-        [file] if project.top.as_str() == "g" => read_source(alloc, file.bytes.as_slice()),
-        _ => Ok(None),
-    }
-}
-
-/// The sources have too many free bits together.
-fn too_many_free_bits(alloc: Global) -> Result<SourceError, AllocError>
-    ensures { IfOk result (λ error. error ≡ record { file = []; fault = SourceFault.TooMany Kind.FreeBits }) }
-{
-    Ok(SourceError {
-        file: Text::copy(alloc, "")?,
-        fault: SourceFault::TooMany(Kind::FreeBits),
-    })
-}
-
-/// The design that the files say, with few free bits.
-fn take_design(
-    alloc: Global,
-    project: &Project,
-    files: &[SourceFile],
-) -> Result<ThinModule, Refusal>
-    ensures design { IfOk result (λ m. IsDesign project.now files.now m) }
-    ensures few { IfOk result (λ m. length (input_names m.ports) ≤ max_free_bits) }
+) -> Result<CheckedNetlist, Refusal>
+    requires few { length files.now ≤ 65536 }
+    requires short { All (λ file. length file.bytes ≤ max_bytes) files.now }
+    ensures netlist { IfOk result (HasNetlist files.now project.now.top) }
     ensures refused { IfErr result (IsUntakenDesign project.now files.now) }
 {
-    let Some(parsed) = design_of(alloc, project, files)? else {
-        return Err(Refusal::Unbuilt(Part::Source));
-    };
-    if input_count(parsed.ports.as_slice()) > MAX_FREE_BITS {
-        return Err(Refusal::SourceBad(too_many_free_bits(alloc)?));
+    match read_netlist(alloc, files, project.top.as_str()) {
+        Ok(netlist) => Ok(netlist),
+        Err(NetlistError::Source(error)) => Err(Refusal::SourceBad(error)),
+        Err(NetlistError::Memory) => Err(Refusal::Memory),
     }
-    Ok(parsed)
+}
+
+/// What there is too much of, if anything is: sites, or else free bits.
+fn excess(sites: u64, bits: u32) -> Option<Kind>
+    ensures { MatchOption result ((sites ≤ max_sites) × (bits ≤ max_free_bits)) (IsExcess sites bits) }
+{
+    if sites > MAX_SITES {
+        Some(Kind::Sites)
+    } else if bits as usize > MAX_FREE_BITS {
+        Some(Kind::FreeBits)
+    } else {
+        None
+    }
+}
+
+/// All sites of a netlist that is not too large.
+fn take_sites(alloc: Global, project: &Project, netlist: &Netlist) -> Result<Vec<Site>, Refusal>
+    ensures sites { IfOk result (λ list. list.items ≡ sites_at project.now netlist.now.raw) }
+    ensures placed { IfOk result (λ list. All (IsSite netlist.now.raw) list.items) }
+    ensures few_sites { OnOk result (length (sites_at project.now netlist.now.raw) ≤ max_sites) }
+    ensures few { OnOk result (free_bits netlist.now.raw ≤ max_free_bits) }
+    ensures refused { IfErr result (IsRefusedAsLarge project.now netlist.now.raw) }
+{
+    match excess(site_total(project, netlist), netlist.free_bits()) {
+        None => Ok(all_sites(alloc, project, netlist)?),
+        Some(kind) => Err(Refusal::SourceBad(too_many(alloc, kind)?)),
+    }
 }
 
 /// Reads the project and its sources, and makes the campaign.
@@ -224,6 +237,7 @@ pub(crate) fn read_campaign<F: SourceFiles>(
 {
     let (config, taken) = read_config(alloc, files)?;
     let sources = read_sources(alloc, files, &taken.project)?;
-    let parsed = take_design(alloc, &taken.project, sources.as_slice())?;
-    Ok(prepare(alloc, &config, taken, sources.as_slice(), &parsed)?)
+    let netlist = take_netlist(alloc, &taken.project, sources.as_slice())?;
+    let all = take_sites(alloc, &taken.project, netlist.netlist())?;
+    Ok(prepare(alloc, &config, taken, sources.as_slice(), netlist, &all)?)
 }

@@ -1,5 +1,6 @@
-use Rattle.std.proofs.Common.{◌≡◌, ◌≤◌, ℕ, List, drop, map, take}
+use Rattle.std.proofs.Common.{◌≡◌, ◌≤◌, ℕ, All, List, drop, length, map, take}
 use Rattle.mcy_top.specs.Campaigns.{GotAll}
+use Rattle.mcy_top.specs.Limits.{max_bytes}
 use Rattle.mcy_top.specs.Reads.{IsNext}
 use Rattle.mcy_top.proofs.reading.read_files.Given as goal
 
@@ -8,6 +9,7 @@ invariant-loop-name g l = record {
   same : g.F.SourceFiles.held l.files ≡ g.F.SourceFiles.held l.initial.files;
   names : map (λ file. file.name) l.read ≡ map (λ name. name.now) (take l.name-index l.names);
   got : GotAll (g.F.SourceFiles.held l.initial.files) l.read;
+  few : All (λ file. length file.bytes ≤ max_bytes) l.read;
   next : (name : List ℕ) → IsNext (g.F.SourceFiles.held l.initial.files) (map (λ name. name.now) (drop l.name-index l.names)) name → IsNext (g.F.SourceFiles.held l.initial.files) (map (λ name. name.now) l.names) name;
   later : g.F.SourceFiles.faults l.initial.files ≤ g.F.SourceFiles.faults l.files;
 }

@@ -1,7 +1,0 @@
-use Rattle.std.proofs.Common.{rules}
-use Rattle.std.specs.Str.{IsUtf8}
-use Rattle.thin_source.proofs.ThinNames.{IsUtf8-name}
-use Rattle.thin_source.proofs.lowering.text_of.Goals as goal
-
-pub unwrap-requires : goal.unwrap-requires
-unwrap-requires c = let text : IsUtf8 c.args.name.now = IsUtf8-name c.args.name.now c.requires in search rules
