@@ -23,7 +23,7 @@ pub count_no : {X : Type 0} (p : X → Bool) (xs : List X) (i : ℕ) (x : X) →
 count_no p xs i x at is =
     count_by_more_no p xs i x (slice_get_within xs i x at) (ap p (get_or_from_slice_get xs i x x at) ∙ is)
 
-count-cons : {X : Type 0} (p : X → Bool) (x : X) (xs : List X) → count_by p (x ∷ xs) ≡ cond (p x) 1 0 + count_by p xs
+pub count-cons : {X : Type 0} (p : X → Bool) (x : X) (xs : List X) → count_by p (x ∷ xs) ≡ cond (p x) 1 0 + count_by p xs
 count-cons p x xs = sum_by-cons (λ y. cond (p y) 1 0) x xs
 
 -- the count over what a function gives is that of a test that agrees on it

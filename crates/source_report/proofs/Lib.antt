@@ -1,3 +1,5 @@
 pub mod Counted
+pub mod FileLines
+pub mod LineCounting
 pub mod Lines
 pub mod Threads

@@ -1,12 +1,14 @@
 -- The lines of a text, one after another.
 use Rattle.std.proofs.Common.{◌≡◌, ℕ, suc, ◌+◌, ◌-◌, ◌<◌, ◌^◌, List, [], ◌∷◌, ◌++◌, arith, length, get_or, drop, sym, ◌∙◌, ap, append_assoc}
 use Rattle.std.proofs.lemmas.List.{drop_more}
+use Rattle.mcy_base.specs.declared.file.SourceFile.{SourceFile}
 use Rattle.mcy_keeper.specs.declared.book.Entry.{Entry}
 use Rattle.result_book.specs.declared.campaign.Campaign.{Campaign}
 use Rattle.result_book.specs.Scripts.{Answer}
 use Rattle.result_book.specs.Rows.{answers_of, groups_from}
 use Rattle.source_report.specs.Lists.{list_line, list_lines}
 use Rattle.source_report.specs.declared.counts.End.TheVariants.{Tag}
+use Rattle.source_report.specs.Sources.{answers_at, file_text, file_texts, line_text, source_lines}
 use Rattle.source_report.specs.Texts.{end_count, tag_counts, tag_line, tag_lines}
 
 -- a text with the line of the next tag, and the lines after it, is the text with all these lines
@@ -51,3 +53,26 @@ list_lines-more c number sites site text rows inside at =
     ∙ ap (λ s. text ++ (list_line c number s answers ++ rest)) at
     ∙ ap (λ k. text ++ list_lines c number (get_or sites number site ∷ drop (number + 1) sites) (groups_from number k rows)) left
     ∙ ap (λ ss. text ++ list_lines c number ss (groups_from number (length sites - number) rows)) (sym (drop_more sites number site inside))
+
+-- a text with the next line of a file, and the lines after it, is the text with all these lines
+pub source_lines-more : (c : Campaign) (groups : List (List Answer)) (file number mutations : ℕ) (counts text more line : List ℕ) (lines rest : List (List ℕ)) → lines ≡ line ∷ rest
+    → mutations ≡ length (answers_at file number c.lines groups) → counts ≡ tag_counts c (answers_at file number c.lines groups) 0 c.tags → more ≡ text ++ line_text number mutations counts line
+    → more ++ source_lines c groups file (number + 1) rest ≡ text ++ source_lines c groups file number lines
+source_lines-more c groups file number mutations counts text more line lines rest are many given is =
+    let here : List (List Answer) = answers_at file number c.lines groups in
+    let behind : List ℕ = source_lines c groups file (number + 1) rest in
+    ap (λ t. t ++ behind) is
+    ∙ append_assoc text (line_text number mutations counts line) behind
+    ∙ ap (λ n. text ++ (line_text number n counts line ++ behind)) many
+    ∙ ap (λ ns. text ++ (line_text number (length here) ns line ++ behind)) given
+    ∙ ap (λ ls. text ++ source_lines c groups file number ls) (sym are)
+
+-- a text with the next file, and the files after it, is the text with all these files
+pub file_texts-more : (c : Campaign) (groups : List (List Answer)) (number : ℕ) (files : List SourceFile) (file : SourceFile) (text more : List ℕ) → number < length files → file ≡ get_or files number file → more ≡ text ++ file_text c groups number file
+    → more ++ file_texts c groups (number + 1) (drop (number + 1) files) ≡ text ++ file_texts c groups number (drop number files)
+file_texts-more c groups number files file text more inside at is =
+    let behind : List ℕ = file_texts c groups (number + 1) (drop (number + 1) files) in
+    ap (λ t. t ++ behind) is
+    ∙ append_assoc text (file_text c groups number file) behind
+    ∙ ap (λ (f : SourceFile). text ++ (file_text c groups number f ++ behind)) at
+    ∙ ap (λ (fs : List SourceFile). text ++ file_texts c groups number fs) (sym (drop_more files number file inside))

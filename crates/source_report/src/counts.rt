@@ -22,7 +22,7 @@ pub(crate) enum End {
 
 impl End {
     /// Whether a script that stands so ended in this way.
-    fn is_of(self, ask: Ask) -> bool
+    pub(crate) fn is_of(self, ask: Ask) -> bool
         ensures { result ≡ is_end self ask }
     {
         match self {

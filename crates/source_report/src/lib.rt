@@ -3,8 +3,12 @@
 
 mod chains;
 mod counts;
+mod file_lines;
+mod line_counts;
 mod list;
+mod source;
 mod status;
 
 pub use list::list_text;
+pub use source::source_text;
 pub use status::{add_number, status_text};
