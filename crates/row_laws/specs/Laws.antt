@@ -1,0 +1,25 @@
+-- What the rows of a good book say: a row of an equivalence test is about the mutant at the site of its mutation.
+use Rattle.std.specs.Prelude.{◌≡◌, ℕ, Some, slice_get}
+use Rattle.std.specs.List.{Contains}
+use Rattle.mutation_sites.specs.declared.site.Site.{Site}
+use Rattle.mcy_keeper.specs.declared.book.Book.{Book}
+use Rattle.mcy_keeper.specs.declared.book.Entry.{Entry}
+use Rattle.step_trials.specs.Equal.{EqualOnAllRuns, Machine, OneStepEqual, design, mutant}
+use Rattle.result_book.specs.declared.script.TestWord.TheVariants.{Pass, Fail}
+use Rattle.result_book.specs.Scripts.{word_code}
+use Rattle.mcy_top.specs.declared.prepared.Prepared.{Prepared}
+use Rattle.mcy_top.specs.Rows.{IsGood}
+
+-- so it is of the design of a campaign and of its mutant of this number
+pub record IsOfMutant (c : Prepared) (number : ℕ) (IsSo : Machine → Machine → Type 0) : Type 0 where
+  pub site : Site
+  pub placed : slice_get c.sites number ≡ Some site
+  pub is : IsSo (design c.netlist) (mutant c.netlist site)
+
+-- A mutant with a row PASS has the design's outputs on every list of inputs from equal registers.
+abbrev pub PassesAreAlike : Type 0
+PassesAreAlike = (book : Book) (good : IsGood book) (row : Entry) → Contains book.journal row → row.word ≡ word_code Pass → IsOfMutant good.prepared row.mutation EqualOnAllRuns
+
+-- One with a row FAIL is not equal to the design in one step.
+abbrev pub FailsDiffer : Type 0
+FailsDiffer = (book : Book) (good : IsGood book) (row : Entry) → Contains book.journal row → row.word ≡ word_code Fail → IsOfMutant good.prepared row.mutation (λ a b. ¬ OneStepEqual a b)
