@@ -1,5 +1,5 @@
 #!/usr/bin/env python3
-"""Writes the cases of pairs of netlists: the standard input of `pair_cases`, and what it must print.
+"""Writes the cases of pairs of netlists, their clauses and verdicts: the standard input of `pair_cases`, and what it must print.
 
     tests/pairs.py             writes crates/pair_cases/stdin and crates/pair_cases/stdout
     tests/pairs.py --check     only compares the two files with what would be written
@@ -20,6 +20,7 @@ from cell_gates import OPERATIONS, Gates, negation, number, value
 
 HERE = pathlib.Path(__file__).resolve().parent.parent / "crates/pair_cases"
 MOST_FREE, MOST_GATES, SHOWN = 2048, 200_000, 400
+RARE = "a word of 24 bits, one value of which alone makes a difference"
 
 
 class Netlist:
@@ -75,6 +76,20 @@ class Netlist:
         return [x for _, bits in self.outputs for x in at(bits)] + [x for _, d, _ in self.registers for x in at(d)]
 
 
+def verdicts(original, mutant, found):
+    """Statements that test a pair, and what they print: there are too few free bits for a test to be given up."""
+    yield "test 60000 7", "change" if found else "no change"
+    if len(found) == 1:
+        whole = lambda bits: sum(b << i for i, b in enumerate(bits))
+        values = iter(found[0])
+        numbers = lambda ports: "".join(f" {whole([next(values) for _ in bits])}" for bits in ports)
+        inputs, registers = numbers([bits for _, bits in original.inputs]), numbers([q for _, _, q in original.registers])
+        place = next(k for k, (x, y) in enumerate(zip(original.step(found[0]), mutant.step(found[0]))) if x != y)
+        outputs = len(original.outputs)
+        where = f"output {place}" if place < outputs else f"register {place - outputs}"
+        yield "detail 60000 1000", f"{where} differs with inputs{inputs}, registers{registers}"
+
+
 def first_apart(*pairs):
     for xs, ys in pairs:
         for i, x in enumerate(xs):
@@ -105,8 +120,8 @@ def apart(gates, a, b):
 
 
 def compare(original, mutant, free, gates, last):
-    """Whether a step differs for some values; each has to be told by the gates."""
-    found = False
+    """The values of the sources for which a step differs; each has to be told by the gates."""
+    found = []
     for bits in itertools.product([False, True], repeat=free):
         values = {i + 1: b for i, b in enumerate(bits)}
         for i, (gate, *inputs) in enumerate(gates.made):
@@ -114,12 +129,12 @@ def compare(original, mutant, free, gates, last):
             values[free + 1 + i] = (x[2] if x[0] else x[1]) if gate == "mux" else OPERATIONS[gate](*x)
         differ = original.step(bits) != mutant.step(bits)
         assert differ == any(value(x, values) for x in last), bits
-        found |= differ
+        found += [bits] * differ
     return found
 
 
 def answer(original, mutant):
-    """What is printed, and whether a step differs, where that was tried."""
+    """What is printed of the clauses, and the values with which a step differs, where that was tried."""
     named = lambda ports: [(name, len(bits)) for name, bits in ports]
     held = lambda registers: [(name, len(q)) for name, _, q in registers]
     a, b = original, mutant
@@ -261,6 +276,8 @@ def cases(word):
     shown = [("y", wide(1000, 128)), ("z", wide(2000, 128)), ("w", wide(3000, 128))]
     yield "two products of 128 bits", Netlist(rows, shown[:2], [], squares[:2]), Netlist(rows, shown[:2], [], squares[:2])
     yield "three products of 128 bits", Netlist(rows, shown[:2], [], squares[:2]), Netlist(rows, [shown[0], ("z", wide(3000, 128))], [], squares)
+    code = [bool(0xB4D2A7 >> i & 1) for i in range(24)]
+    yield RARE, Netlist([("a", wide(0, 24))], [("y", [24])], [], [("eq", False, [wide(0, 24), code, [24]])]), Netlist([("a", wide(0, 24))], [("y", [False])])
     for number_of_case in range(70):
         netlist = drawn(word)
         yield f"drawn {number_of_case}", netlist, changed(word, netlist) if number_of_case % 10 else netlist
@@ -280,10 +297,25 @@ def main():
         lines, found = answer(original, mutant)
         stdin += [f"# {name}", *original.lines(), "original", *mutant.lines(), "mutant", "encode"]
         stdout += [f"# {name}", *lines]
-        tried += found is not None
-        differ += found is True
-        if "--minisat" in sys.argv and shutil.which("minisat") and found is not None and len(lines) > 2:
-            assert ask(lines) == found, name
+        if name == RARE:
+            # Too rare for simulation.
+            stdin.append("detail 1000 10")
+            stdout.append(f"output 0 differs with inputs {0xB4D2A7}, registers")
+        if found is None:
+            continue
+        tests = list(verdicts(original, mutant, found))
+        if name == "one netlist":
+            # The last clause is empty, and so is the first lemma.
+            tests.append(("detail 1 1", "no change after 1 lemmas"))
+        if name == "two forms of an exclusive or":
+            # The empty lemma does not follow at once, and there are no more than 3^2 lemmas.
+            tests += [("test 1 1", "unknown after 1 lemmas"), ("test 9 1", "no change")]
+        stdin += [statement for statement, _ in tests]
+        stdout += [line for _, line in tests]
+        tried += 1
+        differ += bool(found)
+        if "--minisat" in sys.argv and shutil.which("minisat") and len(lines) > 2:
+            assert ask(lines) == bool(found), name
     texts = {"stdin": "\n".join(stdin) + "\n", "stdout": "\n".join(stdout) + "\n"}
     print(f"{tried} pairs were tried on all values, {differ} of them differ", file=sys.stderr)
     for file, text in texts.items():

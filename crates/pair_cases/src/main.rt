@@ -1,4 +1,4 @@
-//! Prints the clauses of pairs of netlists that the lines of standard input describe, or why there are none.
+//! Prints the clauses of pairs of netlists that the lines of standard input describe, or why there are none, and tests the pairs.
 //!
 //! A line is a statement: a word, and what belongs to it, with one blank between words. BITS are the bits at a port from
 //! bit 0 on, with commas between them: a net by its number, `5..8` for the nets from 5 to 8, `low` and `high` for the
@@ -11,6 +11,8 @@
 //! | `KIND BITS ..`, `signed KIND BITS ..` | There is a cell more, with these bits at its ports, Y last. |
 //! | `original`, `mutant` | The parts so far are the original's or the mutant's, and the next ones another netlist's. |
 //! | `encode` | Prints the clauses of the pair in the format of DIMACS, or only how many they are where there are more than 400. |
+//! | `test LIMIT TURN` | Tests the pair with at most so many lemmas, by turns of so many, and prints the word of its verdict. |
+//! | `detail LIMIT TURN` | The same, with the inputs, registers and the place where the pair differs, or with the number of lemmas. |
 //!
 //! A line that begins with `#` is printed, and an empty one is left out. The lines and what has to be printed come from
 //! `tests/pairs.py`.
@@ -18,6 +20,7 @@
 
 mod kind;
 mod parts;
+mod verdict;
 
 use anyhow::{Context, Result, bail};
 use clause_store::ClauseStore;
@@ -26,6 +29,7 @@ use pair_gates::{EncodeError, encode};
 use parts::{add_part, no_parts};
 use std::alloc::Global;
 use std::{io, mem};
+use verdict::{effort_of, tell_test};
 
 /// The original and the mutant, once they stand, and the parts of what follows.
 #[derive(Drop)]
@@ -100,7 +104,21 @@ fn carry_out<R: Print + AllocGlobal>(rt: &R, case: &mut Case, line: &str) -> Res
             (Some(original), Some(mutant)) => tell(rt, original, mutant)?,
             _ => bail!("no pair"),
         },
+        "test" | "detail" => match (&case.original, &case.mutant) {
+            (Some(original), Some(mutant)) => {
+                tell_test(rt, original, mutant, effort_of(rest)?, verb == "detail")?;
+            }
+            _ => bail!("no pair"),
+        },
         _ => add_part(rt.alloc(), &mut case.raw, verb, rest)?,
+    }
+    Ok(())
+}
+
+/// Carries out the statements of all lines.
+fn carry_out_all<R: Print + Input + AllocGlobal>(rt: &R, case: &mut Case) -> Result<()> {
+    for line in rt.lines(rt.alloc()) {
+        carry_out(rt, case, line?.as_str())?;
     }
     Ok(())
 }
@@ -111,8 +129,5 @@ fn main(rt: HostRuntime) -> Result<()> {
         mutant: None,
         raw: no_parts(rt.alloc())?,
     };
-    for line in rt.lines(rt.alloc()) {
-        carry_out(&rt, &mut case, line?.as_str())?;
-    }
-    Ok(())
+    carry_out_all(&rt, &mut case)
 }
