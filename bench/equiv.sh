@@ -1,0 +1,32 @@
+#!/bin/bash
+# Equivalence tests of 220 pairs of netlists: small designs with mutants of them, and two forms of a sum. Prints how many pairs come to
+# each verdict and with how many lemmas, the processor time of the tests on this machine (that of the program with the tests, less that of
+# reading the pairs alone), and minisat's on the same clauses, one process a pair. The verdicts are compared with minisat's.
+#
+# usage: bench/equiv.sh
+set -euo pipefail
+root=$(cd "$(dirname "$0")/.." && pwd)
+room=$(mktemp -d "$root/out-bench.XXXXXX")
+trap 'rm -rf "$room"' EXIT
+
+# The program is the one that runs the cases of pairs.
+. "$root/bench/build.sh"
+build_program pair_cases
+python3 "$root/bench/equiv.py" "$room"
+
+# The least processor time of three runs, in milliseconds: `least INPUT`.
+least() {
+    for _ in 1 2 3; do
+        python3 - "$1" "$room/program" <<'PYTHON'
+import resource, subprocess, sys
+subprocess.run(sys.argv[2:], stdin=open(sys.argv[1]), stdout=subprocess.DEVNULL)
+print(round(1000 * resource.getrusage(resource.RUSAGE_CHILDREN).ru_utime))
+PYTHON
+    done | sort -n | head -n 1
+}
+"$room/program" <"$room/tested" >"$room/told"
+echo "$(($(least "$room/tested") - $(least "$room/read"))) milliseconds for all tests"
+if command -v minisat >/dev/null; then
+    python3 "$root/bench/equiv.py" --told "$room"
+fi
+echo "$(nproc) processors"
