@@ -1,7 +1,9 @@
 #!/usr/bin/env python3
 """Pairs of netlists for `bench/equiv.sh`: small designs, each beside mutants of it at drawn sites, and two forms of one design.
 
-    bench/equiv.py FOLDER          writes FOLDER/read (the pairs), FOLDER/tested (the same with a test of each) and FOLDER/*.cnf
+    bench/equiv.py FOLDER          writes FOLDER/read (the pairs), FOLDER/tested (the same with a test of each) and FOLDER/*.cnf, and
+                                   FOLDER/large.1 and FOLDER/large.200: a product of 96 bits beside the one with its operands
+                                   exchanged, tested with so many lemmas
     bench/equiv.py --told FOLDER   compares what the program told in FOLDER/told with what minisat told of the clauses
 
 The clauses are made by the gates of `tests/`, not by the program.
@@ -133,10 +135,10 @@ def orders(width):
     return d
 
 
-def product(width):
+def product(width, exchanged=False):
     d = Design()
     a, b = d.input("a", width), d.input("b", width)
-    d.shown("y", d.cell("mul", a, b))
+    d.shown("y", d.cell("mul", b, a) if exchanged else d.cell("mul", a, b))
     return d
 
 
@@ -232,6 +234,9 @@ def write(folder):
         read += lines
         tested += lines + [f"detail {LIMIT} 1000"]
         (folder / f"{k}.cnf").write_text("\n".join(clauses(original, other)) + "\n")
+    large = [*product(96).lines(), "original", *product(96, True).lines(), "mutant"]
+    for limit in (1, 200):
+        (folder / f"large.{limit}").write_text("\n".join(large + [f"test {limit} 1000"]) + "\n")
     (folder / "read").write_text("\n".join(read) + "\n")
     (folder / "tested").write_text("\n".join(tested) + "\n")
 
