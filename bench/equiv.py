@@ -3,7 +3,8 @@
 
     bench/equiv.py FOLDER          writes FOLDER/read (the pairs), FOLDER/tested (the same with a test of each) and FOLDER/*.cnf, and
                                    FOLDER/large.1 and FOLDER/large.200: a product of 96 bits beside the one with its operands
-                                   exchanged, tested with so many lemmas
+                                   exchanged, tested with so many lemmas; and FOLDER/cone.*: two forms of a sum of 6 bits alone,
+                                   beside a product of 96 bits of other inputs, and beside one of the same inputs
     bench/equiv.py --told FOLDER   compares what the program told in FOLDER/told with what minisat told of the clauses
 
 The clauses are made by the gates of `tests/`, not by the program.
@@ -185,16 +186,18 @@ def choices(width):
     return first, second
 
 
-def totals(width):
-    """A sum by the cell and by a chain of its bits."""
+def totals(width, product=0, shared=False):
+    """A sum by the cell and by a chain of its bits, beside a product of other bits or of the same and more."""
     first, second = Design(), Design()
     for d in (first, second):
-        a, b = d.input("a", width), d.input("b", width)
+        a, b = (d.input(name, product if shared else width) for name in "ab")
+        if product:
+            d.shown("product", d.cell("mul", *((a, b) if shared else (d.input("c", product), d.input("d", product)))))
         if d is first:
-            d.shown("y", d.cell("add", a, b))
+            d.shown("y", d.cell("add", a[:width], b[:width]))
             continue
         carry, y = [False], []
-        for x, z in zip(a, b):
+        for x, z in zip(a[:width], b[:width]):
             differ = d.cell("xor", [x], [z])
             y += d.cell("xor", differ, carry)
             carry = d.cell("mux", differ, [x], carry)
@@ -237,6 +240,9 @@ def write(folder):
     large = [*product(96).lines(), "original", *product(96, True).lines(), "mutant"]
     for limit in (1, 200):
         (folder / f"large.{limit}").write_text("\n".join(large + [f"test {limit} 1000"]) + "\n")
+    for name, two in {"alone": totals(6), "beside": totals(6, 96), "shared": totals(6, 96, True)}.items():
+        lines = [*two[0].lines(), "original", *two[1].lines(), "mutant", f"detail {LIMIT} 1000"]
+        (folder / f"cone.{name}").write_text("\n".join(lines) + "\n")
     (folder / "read").write_text("\n".join(read) + "\n")
     (folder / "tested").write_text("\n".join(tested) + "\n")
 

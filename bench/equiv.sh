@@ -2,7 +2,8 @@
 # Equivalence tests of 220 pairs of netlists: small designs with mutants of them, and two forms of a sum. Prints how many pairs come to
 # each verdict and with how many lemmas, the processor time of the tests on this machine (that of the program with the tests, less that of
 # reading the pairs alone), and minisat's on the same clauses, one process a pair. The verdicts are compared with minisat's. Then the
-# time of a lemma of a product of 96 bits beside the one with its operands exchanged.
+# time of a lemma of a product of 96 bits beside the one with its operands exchanged, and that of two forms of a sum of 6 bits alone,
+# beside such a product of other inputs, and beside one of the same inputs.
 #
 # usage: bench/equiv.sh
 set -euo pipefail
@@ -29,6 +30,9 @@ PYTHON
 echo "$(($(least "$room/tested") - $(least "$room/read"))) milliseconds for all tests"
 one=$(least "$room/large.1")
 echo "a product of 96 bits: $one milliseconds with one lemma, $((1000 * ($(least "$room/large.200") - one) / 199)) microseconds a lemma more"
+for name in alone beside shared; do
+    echo "a sum of 6 bits, $name: $("$room/program" <"$room/cone.$name"), $(least "$room/cone.$name") milliseconds"
+done
 if command -v minisat >/dev/null; then
     python3 "$root/bench/equiv.py" --told "$room"
 fi
