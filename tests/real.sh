@@ -379,6 +379,12 @@ if has_tool prlimit "no call finds no memory"; then
     case_is $? "a campaign that found no memory goes on: $(cat "$room/lines")"
 fi
 
+# Random files, and random edits of the examples.
+if has_tool python3 "no random files are tried"; then
+    python3 "$root/tests/hostile.py" --program "$mcy" 500 "$seed" >"$room/lines"
+    case_is $? "random files have answers of the table: $(cat "$room/lines")"
+fi
+
 # The script, with a kit that makes programs that are none: it runs through a link, in the caller's folder and with the
 # caller's words; it builds where a source is newer, and a build that fails leaves the program from before.
 repository="$room/a folder"
