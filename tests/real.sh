@@ -186,9 +186,9 @@ refuses 8 "mcy: no campaign" "./mcy.db-wal " list
 ends 0 "$finished" "" run
 cp g.v was.v
 echo "// a line more" >>g.v
-refuses 99 "mcy: not built" "" run
-sed 's/w ^ d/w \& d/' was.v >g.v
 refuses 10 "mcy: database: meta 2" "./mcy.db-wal " run
+echo "endmodule" >>g.v
+refuses 5 "mcy: g.v:7:1: Unexpected" "" run
 cp was.v g.v
 "${as_user[@]}" "$mcy" status >/dev/full 2>"$room/lines"
 [ $? = 13 ] && [ "$(cat "$room/lines")" = "mcy: write fault" ]
@@ -284,6 +284,13 @@ cp was config.mcy && mv rtl/parity.v rtl/other.v
 refuses 6 "mcy: rtl/parity.v: missing" "" status
 sed 's/^rtl.*/rtl\/other.v/; s/^read_verilog.*/read_verilog other.v/' was >config.mcy
 refuses 10 "mcy: database: meta 1" "./mcy.db-wal " status
+
+# Two modules in two files with a register, and a fault of the second file.
+rm -rf "$room/here" && cp -r "$root/examples/counter" "$room/here" && cd "$room/here" && chmod -R go+rX . && chmod 777 . || exit 1
+ends 0 "$(cat status)" "" run
+ends 0 "$(cat status)" "" status
+sed 's/& last/\& lost/' "$root/examples/counter/rtl/top.v" >rtl/top.v
+refuses 5 "mcy: rtl/top.v:3:24: Unknown" "" run
 
 # Three mutations of twelve sites in two modes, picked from each line first.
 rm -rf "$room/here" && cp -r "$root/examples/parity" "$room/here" && cd "$room/here" && chmod -R go+rX . && chmod 777 . || exit 1
