@@ -15,6 +15,8 @@ use Rattle.project_file.specs.Projects.{design_files, IsCut, IsFault, IsProject}
 use Rattle.mcy_top.specs.declared.outcome.Part.{Part}
 use Rattle.mcy_top.specs.declared.outcome.Part.TheVariants.{Tests}
 use Rattle.mcy_top.specs.declared.outcome.Refusal.{Refusal}
+use Rattle.mcy_top.specs.declared.preparing.PrepareError.{PrepareError}
+use Rattle.mcy_top.specs.declared.preparing.PrepareError.TheVariants.{Source as Unprepared, Memory as ShortOfMemory}
 use Rattle.mcy_top.specs.declared.outcome.Refusal.TheVariants.{ProjectBad, ScriptBad, SourceBad, Memory, Unbuilt}
 use Rattle.tag_script.specs.declared.script.Script.{Script}
 use Rattle.tag_script.specs.declared.script.ScriptError.{ScriptError}
@@ -25,7 +27,7 @@ use Rattle.step_trials.specs.Inputs.{max_free_bits}
 use Rattle.mcy_top.specs.Projects.{AreBuilt, HasScripts, IsBuilt, IsUnbuilt, logic_read, report_read}
 use Rattle.mcy_top.specs.declared.prepared.Prepared.{Prepared}
 use Rattle.mcy_top.specs.Campaigns.{config_name, file_item, names_of, Got, GotAll, IsMade, IsPrepared}
-use Rattle.mcy_top.specs.Reads.{GotSources, HasProject, IsExcess, IsNext, IsRead, IsRefusedAsLarge, IsSourceBad, IsTooLarge, IsUnmade, IsUnscripted, IsUntaken, IsUntakenDesign}
+use Rattle.mcy_top.specs.Reads.{GotSources, HasProject, IsExcess, IsNext, IsRead, IsRefusedAsLarge, IsSourceBad, IsTooLarge, IsUnmade, IsUnprepared, refused_as, IsUnscripted, IsUntaken, IsUntakenDesign}
 use Rattle.mcy_base.specs.declared.kind.Kind.{Kind}
 use Rattle.mcy_base.specs.declared.kind.Kind.TheVariants.{FreeBits, Sites}
 use Rattle.netlist_core.specs.declared.raw.RawNetlist.{RawNetlist}
@@ -276,14 +278,18 @@ untaken_design_not p files netlist (SourceBad e) has few small some (inr (other,
 untaken_design_not p files netlist r has few small some h = absurd h
 
 -- A project has few files.
-pub sources_few : (held : Option Held) (config : List ℕ) (p : Project) (files : List SourceFile) → IsProject config p → GotSources held p files → length files ≤ 64
-sources_few held config p files says got = omega (arith, files_few config p says, ap length got.names, length-map files (λ (file : SourceFile). file.name))
+pub sources_few : (config : List ℕ) (p : Project) (files : List SourceFile) → IsProject config p → names_of files ≡ design_files p → length files ≤ 64
+sources_few config p files says names = omega (arith, files_few config p says, ap length names, length-map files (λ (file : SourceFile). file.name))
 
--- A netlist that is too large is a fault of the sources.
-pub large_untaken : (p : Project) (files : List SourceFile) (netlist : RawNetlist) (r : Refusal) → HasNetlist files p.top netlist → IsRefusedAsLarge p netlist r → IsUntakenDesign p files r
-large_untaken p files netlist (SourceBad e) has large = inr (netlist, has, large)
-large_untaken p files netlist Memory has large = tt
-large_untaken p files netlist r has large = absurd large
+-- A netlist that is too large is a fault of the sources,
+pub large_unprepared : (p : Project) (files : List SourceFile) (netlist : RawNetlist) (e : PrepareError) → HasNetlist files p.top netlist → IsRefusedAsLarge p netlist e → IsUnprepared p files e
+large_unprepared p files netlist (Unprepared e) has large = inr (netlist, has, large)
+large_unprepared p files netlist ShortOfMemory has large = tt
+
+-- and what they are refused for is told.
+pub unprepared_untaken : (p : Project) (files : List SourceFile) (e : PrepareError) → IsUnprepared p files e → IsUntakenDesign p files (refused_as e)
+unprepared_untaken p files (Unprepared e) why = why
+unprepared_untaken p files ShortOfMemory why = tt
 
 -- Where the sources are refused, the files make no campaign,
 pub untaken_unmade : (held : Option Held) (p : Project) (files : List SourceFile) (r : Refusal) → GotSources held p files → IsUntakenDesign p files r → IsUnmade held r

@@ -12,6 +12,8 @@ use Rattle.source_faults.specs.declared.fault.SourceError.{SourceError}
 use Rattle.source_faults.specs.Faults.{too_many}
 use Rattle.project_sources.specs.Netlists.{HasNetlist, HasNoNetlist}
 use Rattle.mcy_top.specs.declared.outcome.Refusal.{Refusal}
+use Rattle.mcy_top.specs.declared.preparing.PrepareError.{PrepareError}
+use Rattle.mcy_top.specs.declared.preparing.PrepareError.TheVariants.{Source as Unprepared, Memory as ShortOfMemory}
 use Rattle.mcy_top.specs.declared.outcome.Refusal.TheVariants.{ProjectBad, ScriptBad, SourceBad, Missing, TooLarge, ReadFault, Memory, Unbuilt}
 use Rattle.netlist_core.specs.Checked.{free_bits}
 use Rattle.step_trials.specs.Inputs.{max_free_bits}
@@ -67,15 +69,24 @@ IsExcess sites bits kind = ⊥
 abbrev pub IsTooLarge : Project → RawNetlist → SourceError → Type 0
 IsTooLarge project netlist error = (kind : Kind) × IsExcess (length (all_sites project netlist)) (free_bits netlist) kind × (error ≡ too_many kind)
 
-abbrev pub IsRefusedAsLarge : Project → RawNetlist → Refusal → Type 0
-IsRefusedAsLarge project netlist (SourceBad error) = IsTooLarge project netlist error
-IsRefusedAsLarge project netlist Memory = ⊤
-IsRefusedAsLarge project netlist refusal = ⊥
+abbrev pub IsRefusedAsLarge : Project → RawNetlist → PrepareError → Type 0
+IsRefusedAsLarge project netlist (Unprepared error) = IsTooLarge project netlist error
+IsRefusedAsLarge project netlist ShortOfMemory = ⊤
 
 -- the files of a design have no netlist, or one that is too large
 abbrev pub IsSourceBad : Project → List SourceFile → SourceError → Type 0
 IsSourceBad project files error =
     HasNoNetlist files project.top error ⊎ ((netlist : RawNetlist) × HasNetlist files project.top netlist × IsTooLarge project netlist error)
+
+-- why the project and these files make no campaign
+abbrev pub IsUnprepared : Project → List SourceFile → PrepareError → Type 0
+IsUnprepared project files (Unprepared error) = IsSourceBad project files error
+IsUnprepared project files ShortOfMemory = ⊤
+
+-- the same, as what a call is refused for
+abbrev pub refused_as : PrepareError → Refusal
+refused_as (Unprepared error) = SourceBad error
+refused_as ShortOfMemory = Memory
 
 -- why the files of a design make no campaign
 abbrev pub IsUntakenDesign : Project → List SourceFile → Refusal → Type 0

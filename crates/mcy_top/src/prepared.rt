@@ -72,7 +72,7 @@ fn expected(alloc: Global, tests: &[TestPlan]) -> Result<NumberList, AllocError>
 }
 
 /// The campaign of a project with its scripts and its sources, which are built, from their netlist and all sites that it has.
-pub(crate) fn prepare(
+pub(crate) fn make_campaign(
     alloc: Global,
     config: &[u8],
     taken: Scripted,

@@ -2,36 +2,23 @@
 //!
 //! The project file is read first, and has to be a project that is built. Then all files of its design are read, in their
 //! order and each once, and then they are judged.
-ghost use Rattle.std.specs.Prelude.{◌≡◌, ◌≤◌, length, map, All, IfOk, IfErr, MatchOption, OnOk};
+ghost use Rattle.std.specs.Prelude.{◌≡◌, ◌≤◌, length, map, All, IfOk, IfErr};
 ghost use Rattle.mcy_base.specs.Causes.{Rose};
 ghost use Rattle.project_file.specs.Projects.{design_files, IsProject};
-ghost use Rattle.mcy_top.specs.Limits.{max_bytes, max_sites};
-ghost use Rattle.mutation_sites.specs.Mutants.{IsSite};
-ghost use Rattle.netlist_core.specs.Checked.{free_bits};
-ghost use Rattle.step_trials.specs.Inputs.{max_free_bits};
+ghost use Rattle.mcy_top.specs.Limits.{max_bytes};
 ghost use Rattle.mcy_top.specs.Projects.{AreBuilt, HasScripts, IsBuilt};
-ghost use Rattle.project_sources.specs.Netlists.{HasNetlist};
-ghost use Rattle.mcy_top.specs.Mutations.{all_sites as sites_at};
 ghost use Rattle.mcy_top.specs.Campaigns.{config_name, Got, GotAll, IsMade};
-ghost use Rattle.mcy_top.specs.Reads.{IsExcess, IsRefusedAsLarge, IsUnmade, IsUnread, IsUnreadAmong, IsUntaken, IsUntakenDesign, HasReadCause, HasProject, GotSources};
+ghost use Rattle.mcy_top.specs.Reads.{IsUnmade, IsUnread, IsUnreadAmong, IsUntaken, HasReadCause, HasProject, GotSources};
 
-use crate::mutations::{all_sites, site_total};
 use crate::outcome::Refusal;
-use crate::prepared::{CONFIG_NAME, MAX_BYTES, Prepared, prepare};
+use crate::prepared::{CONFIG_NAME, MAX_BYTES, Prepared};
+use crate::preparing::prepare;
 use crate::project::{Scripted, scripts_of, unbuilt_part};
-use mcy_base::{Bytes, FileList, Kind, SourceFile, Text};
+use mcy_base::{Bytes, FileList, SourceFile, Text};
 use mcy_outside::{FileError, SourceFiles};
-use mutation_sites::Site;
-use netlist_core::Netlist;
 use project_file::{Project, ProjectError, read_project};
-use project_sources::{CheckedNetlist, NetlistError, read_netlist};
-use source_faults::too_many;
 use std::alloc::{AllocError, Global};
-use step_trials::MAX_FREE_BITS;
 use tag_script::ScriptError;
-
-/// How many sites a netlist may have.
-const MAX_SITES: u64 = 2_000_000;
 
 impl From<AllocError> for Refusal {
     ghost use Rattle.mcy_top.specs.declared.outcome.Refusal.TheVariants.{Memory};
@@ -179,51 +166,6 @@ fn read_sources<F: SourceFiles>(
     read_files(alloc, files, &names)
 }
 
-/// The netlist that the files have.
-fn take_netlist(
-    alloc: Global,
-    project: &Project,
-    files: &[SourceFile],
-) -> Result<CheckedNetlist, Refusal>
-    requires few { length files.now ≤ 65536 }
-    requires short { All (λ file. length file.bytes ≤ max_bytes) files.now }
-    ensures netlist { IfOk result (HasNetlist files.now project.now.top) }
-    ensures refused { IfErr result (IsUntakenDesign project.now files.now) }
-{
-    match read_netlist(alloc, files, project.top.as_str()) {
-        Ok(netlist) => Ok(netlist),
-        Err(NetlistError::Source(error)) => Err(Refusal::SourceBad(error)),
-        Err(NetlistError::Memory) => Err(Refusal::Memory),
-    }
-}
-
-/// What there is too much of, if anything is: sites, or else free bits.
-fn excess(sites: u64, bits: u32) -> Option<Kind>
-    ensures { MatchOption result ((sites ≤ max_sites) × (bits ≤ max_free_bits)) (IsExcess sites bits) }
-{
-    if sites > MAX_SITES {
-        Some(Kind::Sites)
-    } else if bits as usize > MAX_FREE_BITS {
-        Some(Kind::FreeBits)
-    } else {
-        None
-    }
-}
-
-/// All sites of a netlist that is not too large.
-fn take_sites(alloc: Global, project: &Project, netlist: &Netlist) -> Result<Vec<Site>, Refusal>
-    ensures sites { IfOk result (λ list. list.items ≡ sites_at project.now netlist.now.raw) }
-    ensures placed { IfOk result (λ list. All (IsSite netlist.now.raw) list.items) }
-    ensures few_sites { OnOk result (length (sites_at project.now netlist.now.raw) ≤ max_sites) }
-    ensures few { OnOk result (free_bits netlist.now.raw ≤ max_free_bits) }
-    ensures refused { IfErr result (IsRefusedAsLarge project.now netlist.now.raw) }
-{
-    match excess(site_total(project, netlist), netlist.free_bits()) {
-        None => Ok(all_sites(alloc, project, netlist)?),
-        Some(kind) => Err(Refusal::SourceBad(too_many(alloc, kind)?)),
-    }
-}
-
 /// Reads the project and its sources, and makes the campaign.
 pub(crate) fn read_campaign<F: SourceFiles>(
     alloc: Global,
@@ -237,7 +179,10 @@ pub(crate) fn read_campaign<F: SourceFiles>(
 {
     let (config, taken) = read_config(alloc, files)?;
     let sources = read_sources(alloc, files, &taken.project)?;
-    let netlist = take_netlist(alloc, &taken.project, sources.as_slice())?;
-    let all = take_sites(alloc, &taken.project, netlist.netlist())?;
-    Ok(prepare(alloc, &config, taken, sources.as_slice(), netlist, &all)?)
+    let Scripted {
+        project,
+        script,
+        report,
+    } = taken;
+    Ok(prepare(alloc, project, script, report, sources.as_slice(), &config)?)
 }

@@ -7,7 +7,7 @@ use Rattle.mutation_sites.specs.Mutants.{IsSite}
 use Rattle.mcy_top.proofs.Placed.{sites-placed}
 use Rattle.mcy_top.specs.Mutations.{mode_set, picked_sites}
 use Rattle.mcy_top.proofs.Chosen.{All-picked}
-use Rattle.mcy_top.proofs.prepared.prepare.Goals as goal
+use Rattle.mcy_top.proofs.prepared.make_campaign.Goals as goal
 
 pub site_texts-requires : goal.site_texts-requires
 site_texts-requires c =
