@@ -21,6 +21,8 @@ from pathlib import Path
 
 ROOT = Path(__file__).resolve().parent.parent
 EXAMPLES = sorted(path for path in (ROOT / "examples").iterdir() if (path / "config.mcy").is_file())
+# Those whose campaigns run, which are taken more often than the others.
+BUILT = [path for path in EXAMPLES if path.name in ("counter", "and_gate", "parity", "redundant_or")]
 
 PLACE = r"[^ \t\n]+:[1-9][0-9]*:[1-9][0-9]*: "
 NAMES = (
@@ -68,15 +70,15 @@ def random_bytes(rng):
 
 
 def edited(rng, data):
-    """The same with one to five edits."""
-    for _ in range(rng.randint(1, 5)):
+    """The same with one to three edits."""
+    for _ in range(rng.randint(1, 3)):
         start = rng.randrange(len(data) + 1)
         end = min(len(data), start + rng.choice([0, 1, 1, 2, 8, 40]))
         kind = rng.randrange(6)
         if kind == 0:
             piece = b""
         elif kind == 1:
-            piece = bytes([rng.randrange(256)])
+            piece = bytes([rng.choice([rng.randrange(256), rng.randrange(32, 127), rng.randrange(32, 127)])])
         elif kind == 2:
             piece = data[start:end] * 2
         elif kind == 3:
@@ -90,7 +92,7 @@ def edited(rng, data):
 
 def project_files(rng):
     """The files of a project: random bytes, or an example with edits in one or more files."""
-    example = rng.choice(EXAMPLES)
+    example = rng.choice(BUILT if rng.randrange(4) else EXAMPLES)
     files = {
         path.relative_to(example).as_posix(): path.read_bytes()
         for path in sorted(example.rglob("*"))
@@ -99,7 +101,9 @@ def project_files(rng):
     if rng.randrange(10) == 0:
         files["config.mcy"] = random_bytes(rng)
         return files
-    for name in rng.sample(sorted(files), rng.randint(1, len(files))):
+    sources = sorted(name for name in files if name != "config.mcy")
+    some = rng.choice([["config.mcy"], [rng.choice(sources)], [rng.choice(sources)], sources, ["config.mcy", *sources]])
+    for name in some:
         choice = rng.randrange(20)
         if choice == 0:
             files[name] = random_bytes(rng)
