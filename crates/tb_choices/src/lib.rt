@@ -1,0 +1,8 @@
+//! Which item of a case statement of a testbench is taken.
+#![tactic(auto)]
+
+mod matching;
+mod selection;
+mod sizes;
+
+pub use selection::choose;
