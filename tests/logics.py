@@ -111,6 +111,15 @@ class Project:
             told.append(f"{mutation + 1}: {self.campaign.text(site)} [{answers}]{end}")
         return told
 
+    def sources(self):
+        told = ["File: g.v", "Columns:" + "".join(f" {tag}" for tag in self.tags)]
+        ends = [(self.campaign.text(site), *self.stands(mutation)) for mutation, site in enumerate(self.campaign.mutations)]
+        for number, line in enumerate(source(self.design), 1):
+            here = [end for end in ends if end[0].endswith(f" g.v:{number}")]
+            counts = [sum(kind == "done" and tag in what for _, kind, what in here) if here else "." for tag in self.tags]
+            told.append(f"{number:>5}" + "".join(f" {count:>6}" for count in counts) + f" | {line}")
+        return told
+
     def given(self):
         return ["new", f"hold config.mcy {tilde(self.lines())}", f"hold g.v {tilde(source(self.design))}"]
 
@@ -122,7 +131,7 @@ def told(project, command):
         count = project.run(int(words[2]) if len(words) > 1 else None)
         if count:
             status, left = "status 1", [f"{count} left"]
-    text = project.list() if command == "list" else project.status()
+    text = {"list": project.list, "source": project.sources}.get(command, project.status)()
     rows = [" ".join(map(str, (seq, *row))) for seq, row in enumerate(project.rows)]
     written = [*text, f"{sum(len(line) + 1 for line in text)} bytes"]
     return [f"> {command}", status, *left, *written, f"3 items, {len(project.campaign.mutations)} mutations", *rows]
@@ -172,6 +181,11 @@ PARTS = [
     ("# The status ends with the report on the counts of tags.", [
         taken("run", logic=['if result("same") == "PASS":', '    tag("COVERED")', "else:", '    tag("UNCOVERED")'], tags="COVERED UNCOVERED", report=[COVERAGE], design=REDUNDANT, modes="const0"),
         taken("run", logic=["pass"], tags="COVERED UNCOVERED", report=['print("done")', COVERAGE, 'print("not told")']),
+    ]),
+    ("# The sources are shown with the counts of each line's mutations, points where there are none.", [
+        taken("run", "source", logic=SAME),
+        taken("run --stop-after 4", "source", "run", "source", logic=CHAIN, tests=TWO, tags="NOCHANGE CHANGED MORE", design=REDUNDANT),
+        taken("run", "source", logic=['assert result("same") == "PASS"'], tags="", design=REDUNDANT),
     ]),
     ("# Faults of the scripts come at their lines, the logic's first, before any source is read.", [
         refused(bad(11, "UnknownTest"), logic=SAME, tests=()),

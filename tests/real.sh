@@ -108,7 +108,7 @@ refuses() {
     case_is $? "status $status of 'mcy $*' touches '$made', and not: $touched"
 }
 
-usage='mcy: usage: mcy init | run [--stop-after N] | list | status'
+usage='mcy: usage: mcy init | run [--stop-after N] | list | status | source'
 finished='Mutations: 9
 Finished: 9
 Test same: PASS 0 FAIL 9 UNKNOWN 0
@@ -125,6 +125,13 @@ listed='1: inv g cell and_0 A 0 g.v:2 [same=FAIL] CHANGED
 7: inv g cell xor_2 A 0 g.v:4 [same=FAIL] CHANGED
 8: inv g cell xor_2 B 0 g.v:4 [same=FAIL] CHANGED
 9: inv g cell xor_2 Y 0 g.v:4 [same=FAIL] CHANGED'
+shown='File: g.v
+Columns: CHANGED NOCHANGE
+    1      .      . | module g(input a, input b, input c, input d, input e, input f, input h, input k, output y);
+    2      3      0 |   wire u = a & b;
+    3      3      0 |   wire w = u | c;
+    4      3      0 |   assign y = w ^ d;
+    5      .      . | endmodule'
 begun='Mutations: 9
 Finished: 1
 Test same: PASS 0 FAIL 1 UNKNOWN 0
@@ -144,10 +151,11 @@ $(sed '1d; s/same=FAIL//; s/CHANGED/!unfinished/' <<<"$listed")" "" list
 ends 0 "$finished" "" run
 ends 0 "$finished" "" status
 ends 0 "$listed" "" list
+ends 0 "$shown" "" source
 refuses 9 "mcy: campaign already begun" "./mcy.db-wal " init
 new_folder
 refuses 2 "$usage" ""
-refuses 2 "$usage" "" source
+refuses 2 "$usage" "" source g.v
 refuses 2 "$usage" "" run --stop-after 0
 refuses 2 "$usage" "" $'st\xe9tus'
 {
@@ -183,6 +191,7 @@ new_folder
 refuses 8 "mcy: no campaign" "./mcy.db ./mcy.db-wal " status
 refuses 8 "mcy: no campaign" "./mcy.db-wal " status
 refuses 8 "mcy: no campaign" "./mcy.db-wal " list
+refuses 8 "mcy: no campaign" "./mcy.db-wal " source
 ends 0 "$finished" "" run
 cp g.v was.v
 echo "// a line more" >>g.v

@@ -14,7 +14,7 @@ use Rattle.clap.proofs.OnLiterals.{clap_on_literals}
 use Rattle.clap.proofs.FaultLemmas.{stopped_fault}
 use Rattle.clap.proofs.WalkLemmas.{walk_stopped}
 use Rattle.command_words.specs.declared.command.Command.{Command}
-use Rattle.command_words.specs.declared.command.Command.TheVariants.{Init, List as Listing, Status}
+use Rattle.command_words.specs.declared.command.Command.TheVariants.{Init, List as Listing, Status, Source}
 use Rattle.command_words.specs.Commands.{command_of, one_word, run_until}
 use Rattle.command_words.specs.Program.{command_by, command_line, leaf}
 use Rattle.command_words.proofs.Turns.{IsRefused, dashes, end_fault, or_refused, refused_at, stray, taken, taken_last, taken_refused, verdict}
@@ -86,22 +86,28 @@ unfolding clap_on_literals
 status_named rest clean = enters (codes "status") rest refl refl
     ∙ taken_last (level_fault (below (leaf (codes "status"))) [] nothing_held rest false []) (Some Status) ∙ bare (codes "status") Status refl refl rest clean
 
+source_named : (rest : List Text) → IsClean rest → whole (codes "source" ∷ rest) ≡ command_of (codes "source" ∷ rest)
+unfolding clap_on_literals
+source_named rest clean = enters (codes "source") rest refl refl
+    ∙ taken_last (level_fault (below (leaf (codes "source"))) [] nothing_held rest false []) (Some Source) ∙ bare (codes "source") Source refl refl rest clean
+
 -- ---- no command
 
 turned : (a b : Text) → bytes_eq a b ≡ false → bytes_eq b a ≡ false
 turned a b e = false_from_ne_true _ (λ same. true≢false (sym ((bytes_eq-Decides a b).1 (sym ((bytes_eq-Decides b a).0 same))) ∙ e))
 
-abbrev met_by : Bool → Bool → Bool → Bool → Option Text
-met_by a b c d = option_map (λ (s : Text × List Text). s.0)
+abbrev met_by : Bool → Bool → Bool → Bool → Bool → Option Text
+met_by a b c d e = option_map (λ (s : Text × List Text). s.0)
     (cond (a || false) (Some (codes "init", [])) (cond (b || false) (Some (codes "run", []))
-    (cond (c || false) (Some (codes "list", [])) (cond (d || false) (Some (codes "status", [])) None))))
+    (cond (c || false) (Some (codes "list", [])) (cond (d || false) (Some (codes "status", []))
+    (cond (e || false) (Some (codes "source", [])) None)))))
 
 no_name : (word : Text) (rest : List Text) → IsClean (word ∷ rest) → bytes_eq word (codes "init") ≡ false → bytes_eq word (codes "run") ≡ false
-    → bytes_eq word (codes "list") ≡ false → bytes_eq word (codes "status") ≡ false → whole (word ∷ rest) ≡ command_of (word ∷ rest)
-no_name word rest clean no_init no_run no_list no_status = refused ∙ sym (go rest)
+    → bytes_eq word (codes "list") ≡ false → bytes_eq word (codes "status") ≡ false → bytes_eq word (codes "source") ≡ false → whole (word ∷ rest) ≡ command_of (word ∷ rest)
+no_name word rest clean no_init no_run no_list no_status no_source = refused ∙ sym (go rest)
   where
     none : subcommand_met names idle word ≡ None
-    none = λ i. met_by (turned word (codes "init") no_init i) (turned word (codes "run") no_run i) (turned word (codes "list") no_list i) (turned word (codes "status") no_status i)
+    none = λ i. met_by (turned word (codes "init") no_init i) (turned word (codes "run") no_run i) (turned word (codes "list") no_list i) (turned word (codes "status") no_status i) (turned word (codes "source") no_source i)
 
     strays : IsRefused (turn_fault line.top names begun word)
     strays = stray line.top names word [] None (record { long = λ p e. refl; short = λ c. refl }) refl none clean.0
@@ -112,7 +118,7 @@ no_name word rest clean no_init no_run no_list no_status = refused ∙ sym (go r
         (or_refused (turn_fault line.top names begun word) _ strays)
 
     go : (more : List Text) → command_of (word ∷ more) ≡ None
-    go [] = rw (no_init, no_run, no_list, no_status)
+    go [] = rw (no_init, no_run, no_list, no_status, no_source)
     go (x ∷ []) = ap (λ b. cond (b && starts_with nat_eq x (codes "--stop-after=")) (run_until (drop 13 x)) None) no_run
     go (x ∷ y ∷ []) = ap (λ b. cond (b && bytes_eq x (codes "--stop-after")) (run_until y) None) no_run
     go (x ∷ y ∷ z ∷ more) = refl
@@ -127,9 +133,13 @@ words_are (word ∷ rest) clean = first (bytes_eq word (codes "init")) refl
     at_name : (name : Text) → bytes_eq word name ≡ true → whole (name ∷ rest) ≡ command_of (name ∷ rest) → whole (word ∷ rest) ≡ command_of (word ∷ rest)
     at_name name same h = subst (λ x. whole (x ∷ rest) ≡ command_of (x ∷ rest)) (sym ((bytes_eq-Decides word name).0 same)) h
 
+    fifth : (b : Bool) → bytes_eq word (codes "source") ≡ b → bytes_eq word (codes "init") ≡ false → bytes_eq word (codes "run") ≡ false → bytes_eq word (codes "list") ≡ false → bytes_eq word (codes "status") ≡ false → whole (word ∷ rest) ≡ command_of (word ∷ rest)
+    fifth true e no_init no_run no_list no_status = at_name (codes "source") e (source_named rest clean.1)
+    fifth false e no_init no_run no_list no_status = no_name word rest clean no_init no_run no_list no_status e
+
     fourth : (b : Bool) → bytes_eq word (codes "status") ≡ b → bytes_eq word (codes "init") ≡ false → bytes_eq word (codes "run") ≡ false → bytes_eq word (codes "list") ≡ false → whole (word ∷ rest) ≡ command_of (word ∷ rest)
     fourth true e no_init no_run no_list = at_name (codes "status") e (status_named rest clean.1)
-    fourth false e no_init no_run no_list = no_name word rest clean no_init no_run no_list e
+    fourth false e no_init no_run no_list = fifth (bytes_eq word (codes "source")) refl no_init no_run no_list e
 
     third : (b : Bool) → bytes_eq word (codes "list") ≡ b → bytes_eq word (codes "init") ≡ false → bytes_eq word (codes "run") ≡ false → whole (word ∷ rest) ≡ command_of (word ∷ rest)
     third true e no_init no_run = at_name (codes "list") e (list_named rest clean.1)

@@ -4,7 +4,7 @@ use Rattle.std.specs.Char.{is_ascii_digit}
 use Rattle.std.specs.List.{list_all, starts_with}
 use Rattle.std.specs.Str.Parse.{digits_value}
 use Rattle.command_words.specs.declared.command.Command.{Command}
-use Rattle.command_words.specs.declared.command.Command.TheVariants.{Init, Run, List as Listing, Status}
+use Rattle.command_words.specs.declared.command.Command.TheVariants.{Init, Run, List as Listing, Status, Source}
 
 -- the word is one to ten decimal digits
 abbrev pub is_numeral : List ℕ → Bool
@@ -21,13 +21,14 @@ run_until word =
     then Some (Run (Some (digits_value 10 word)))
     else None
 
--- `init`, `run`, `list` or `status`
+-- `init`, `run`, `list`, `status` or `source`
 abbrev pub one_word : List ℕ → Option Command
 one_word word =
     if bytes_eq word (codes "init") then Some Init
     else if bytes_eq word (codes "run") then Some (Run None)
     else if bytes_eq word (codes "list") then Some Listing
     else if bytes_eq word (codes "status") then Some Status
+    else if bytes_eq word (codes "source") then Some Source
     else None
 
 -- `run --stop-after=N`

@@ -4,7 +4,7 @@ use Rattle.clap.specs.Words.{App, Row, Rule, Shape, Text, first_of, new_app, new
 use Rattle.clap.specs.declared.builder.action.ArgAction.TheVariants.{Set}
 use Rattle.command_words.specs.Commands.{run_until}
 use Rattle.command_words.specs.declared.command.Command.{Command}
-use Rattle.command_words.specs.declared.command.Command.TheVariants.{Init, Run, List as Listing, Status}
+use Rattle.command_words.specs.declared.command.Command.TheVariants.{Init, Run, List as Listing, Status, Source}
 
 -- no word before the commands is the program's name, and none asks for help
 abbrev pub bare_program : App
@@ -21,16 +21,19 @@ bare_program = record {
 abbrev pub stop_rule : Rule
 stop_rule = record (new_rule (codes "stop-after")) { long = Some (codes "stop-after"); action = Some Set }
 
+abbrev pub run_line : App
+run_line = with_rule (new_app (codes "run")) stop_rule
+
 abbrev pub run_shape : Shape
-run_shape = (with_rule (new_app (codes "run")) stop_rule).top
+run_shape = run_line.top
 
 abbrev pub leaf : Text → Shape
 leaf name = (new_app name).top
 
 -- a subcommand for each command
 abbrev pub command_line : App
-command_line = with_subcommand (with_subcommand (with_subcommand (with_subcommand bare_program (leaf (codes "init"))) run_shape)
-    (leaf (codes "list"))) (leaf (codes "status"))
+command_line = with_subcommand (with_subcommand (with_subcommand (with_subcommand (with_subcommand bare_program (leaf (codes "init"))) run_shape)
+    (leaf (codes "list"))) (leaf (codes "status"))) (leaf (codes "source"))
 
 -- `run` with the value of its option, if it has one
 abbrev pub run_by : Option Text → Option Command
@@ -44,6 +47,7 @@ command_named name rows =
     else if bytes_eq name (codes "run") then run_by (first_of (codes "stop-after") rows)
     else if bytes_eq name (codes "list") then Some Listing
     else if bytes_eq name (codes "status") then Some Status
+    else if bytes_eq name (codes "source") then Some Source
     else None
 
 abbrev pub command_by : Option (Text × List Row) → Option Command

@@ -24,6 +24,8 @@ pub enum Command {
     List,
     /// Write the status.
     Status,
+    /// Write the design's files, with the counts of each line's mutations.
+    Source,
 }
 
 /// `run` that stops after the number of tests that the word says, if it says one.

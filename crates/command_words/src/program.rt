@@ -1,8 +1,9 @@
 //! The command line as `clap` knows it: a subcommand for each command, and the one option of `run`. `clap`'s own help is
 //! switched off, so that `help`, `-h` and `--help` are words that it does not know.
-ghost use Rattle.std.specs.Prelude.{◌≡◌, IfOk};
+ghost use Rattle.std.specs.Prelude.{◌≡◌, IfOk, false};
 ghost use Rattle.clap.specs.Words.{app_of};
-ghost use Rattle.command_words.specs.Program.{command_line};
+ghost use Rattle.clap.specs.declared.builder.command.Command.TheViews.{out-Command as fields_of};
+ghost use Rattle.command_words.specs.Program.{command_line, run_line};
 
 use clap::{Arg, ArgAction};
 use std::alloc::{AllocError, Global};
@@ -11,10 +12,7 @@ use std::alloc::{AllocError, Global};
 pub(crate) fn command_line<'a>(alloc: Global) -> Result<clap::Command<'a>, AllocError>
     ensures { IfOk result (λ line. app_of line ≡ command_line) }
 {
-    let stop_after = Arg::new(alloc, "stop-after")
-        .long("stop-after")
-        .action(ArgAction::Set);
-    let run = clap::Command::new(alloc, "run").arg(stop_after)?;
+    let run = run_line(alloc)?;
     clap::Command::new(alloc, "mcy")
         .no_binary_name(true)
         .disable_help_flag(true)
@@ -22,5 +20,17 @@ pub(crate) fn command_line<'a>(alloc: Global) -> Result<clap::Command<'a>, Alloc
         .subcommand(clap::Command::new(alloc, "init"))?
         .subcommand(run)?
         .subcommand(clap::Command::new(alloc, "list"))?
-        .subcommand(clap::Command::new(alloc, "status"))
+        .subcommand(clap::Command::new(alloc, "status"))?
+        .subcommand(clap::Command::new(alloc, "source"))
+}
+
+/// `run` with its one option.
+fn run_line<'a>(alloc: Global) -> Result<clap::Command<'a>, AllocError>
+    ensures shape { IfOk result (λ line. app_of line ≡ run_line) }
+    ensures local { IfOk result (λ line. (fields_of line).has_globals ≡ false) }
+{
+    let stop_after = Arg::new(alloc, "stop-after")
+        .long("stop-after")
+        .action(ArgAction::Set);
+    clap::Command::new(alloc, "run").arg(stop_after)
 }

@@ -1,4 +1,4 @@
-//! Reading the words after the program's name: `init`, `run`, `list` or `status`, alone, or `run` with its one option,
+//! Reading the words after the program's name: `init`, `run`, `list`, `status` or `source`, alone, or `run` with its one option,
 //! `run --stop-after N` or `run --stop-after=N`.
 ghost use Rattle.std.specs.Prelude.{◌≡◌, IfOk, bytes_eq, codes, map, option_map, string_bytes};
 ghost use Rattle.std.specs.List.{list_any};
@@ -49,6 +49,7 @@ fn matched(matches: &ArgMatches<'_>) -> Option<Command>
         "run" => stopping(inner.get_str("stop-after")),
         "list" => Some(Command::List),
         "status" => Some(Command::Status),
+        "source" => Some(Command::Source),
         _ => None,
     }
 }

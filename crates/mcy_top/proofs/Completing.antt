@@ -9,7 +9,7 @@ use Rattle.result_book.specs.declared.check.BookError.{BookError}
 use Rattle.result_book.specs.declared.check.BookError.TheVariants.{Stray, Memory as NoMemoryFor}
 use Rattle.result_book.specs.Rows.{IsWellFormed}
 use Rattle.command_words.specs.declared.command.Command.{Command}
-use Rattle.command_words.specs.declared.command.Command.TheVariants.{Init, Run, List as Listing, Status}
+use Rattle.command_words.specs.declared.command.Command.TheVariants.{Init, Run, List as Listing, Status, Source}
 use Rattle.mcy_top.specs.declared.prepared.Prepared.{Prepared}
 use Rattle.mcy_top.specs.declared.outcome.Refusal.{Refusal}
 use Rattle.mcy_top.specs.declared.outcome.Refusal.TheVariants.{ProjectBad as RefusedProject, ScriptBad as RefusedScript, SourceBad as RefusedSource, Missing as RefusedMissing, TooLarge as RefusedTooLarge, ReadFault as RefusedRead, Memory as RefusedMemory, Unbuilt as RefusedUnbuilt}
@@ -77,6 +77,7 @@ taken_as Init c book takes = inl takes
 taken_as (Run stop) c book takes = takes
 taken_as Listing c book takes = inr takes
 taken_as Status c book takes = inr takes
+taken_as Source c book takes = inr takes
 
 -- a blank book is not bad, and neither is the campaign's, nor one that a command finds begun already
 pub blank_not_bad : (c : Prepared) (book : Book) (error : BookError) → IsBlank book → ¬ IsBookBad c book error
@@ -103,6 +104,7 @@ none_not Init c book plan takes refuses = refuses.1
 none_not (Run stop) c book plan takes refuses = refuses.1
 none_not Listing c book plan form refuses = form_meta c book plan form (blank_meta book refuses.0)
 none_not Status c book plan form refuses = form_meta c book plan form (blank_meta book refuses.0)
+none_not Source c book plan form refuses = form_meta c book plan form (blank_meta book refuses.0)
 
 begun_not : (command : Command) (c : Prepared) (book : Book) → Takes command c book → ¬ RefusesBook command c book RefusedBegun
 begun_not command c book takes refuses = refuses.0 (blank_meta book (subst (λ (d : Command). Takes d c book) refuses.1 takes))

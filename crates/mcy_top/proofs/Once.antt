@@ -42,7 +42,8 @@ plan_once c d one two same =
     let count : c.site_count ≡ d.site_count = one.made.count ∙ counted ∙ sym two.made.count in
     let derived : campaign_of one.config one.made.project one.made.script one.made.report one.files c.netlist ≡ campaign_of two.config two.made.project two.made.script two.made.report two.files d.netlist = λ i. campaign_of (config i) (project i) (script i) (report i) (files i) (netlist i) in
     let campaign : c.campaign ≡ d.campaign = one.made.campaign ∙ derived ∙ sym two.made.campaign in
-    λ i. record { campaign = campaign i; site_count = count i; sites = places i; netlist = netlist i }
+    let sources : c.files ≡ d.files = one.made.sources ∙ files ∙ sym two.made.sources in
+    λ i. record { campaign = campaign i; site_count = count i; sites = places i; netlist = netlist i; files = sources i }
 
 -- a good book's words are true for the campaign that it is well-formed for
 pub true_of : (c : Prepared) (book : Book) → IsPlan c → IsWellFormed c.campaign book → IsBlankOrGood book → AreTrue c book.journal

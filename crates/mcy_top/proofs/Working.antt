@@ -13,7 +13,7 @@ use Rattle.result_book.specs.Scripts.{is_ended}
 use Rattle.result_book.specs.Rows.{ask_on, IsFinished, IsWellFormed}
 use Rattle.source_report.specs.Texts.{status_text}
 use Rattle.command_words.specs.declared.command.Command.{Command}
-use Rattle.command_words.specs.declared.command.Command.TheVariants.{Init, Run, List as Listing, Status}
+use Rattle.command_words.specs.declared.command.Command.TheVariants.{Init, Run, List as Listing, Status, Source}
 use Rattle.mcy_top.specs.declared.prepared.Prepared.{Prepared}
 use Rattle.mcy_top.specs.declared.work.Ending.{Ending}
 use Rattle.mcy_top.specs.declared.work.Ending.TheVariants.{Written, Refused, NoMemory}
@@ -96,18 +96,21 @@ reads_takes Init c book reads form = absurd reads
 reads_takes (Run stop) c book reads form = absurd reads
 reads_takes Listing c book reads form = form
 reads_takes Status c book reads form = form
+reads_takes Source c book reads form = form
 
 reads_not_runs : (command : Command) → OnlyReads command → ¬ Runs command
 reads_not_runs Init reads runs = runs
 reads_not_runs (Run stop) reads runs = reads
 reads_not_runs Listing reads runs = runs
 reads_not_runs Status reads runs = runs
+reads_not_runs Source reads runs = runs
 
 pub reads_not_init : (command : Command) → OnlyReads command → command ≢ Init
 reads_not_init Init reads is = reads
 reads_not_init (Run stop) reads is = reads
 reads_not_init Listing reads is = cc
 reads_not_init Status reads is = cc
+reads_not_init Source reads is = cc
 
 -- the text of a command by the rows of the book alone
 pub text_by_rows : (command : Command) (c : Prepared) (book : Book) → text_of command c book ≡ text_of command c (book_of c book.journal)
@@ -115,6 +118,7 @@ text_by_rows Init c book = refl
 text_by_rows (Run stop) c book = refl
 text_by_rows Listing c book = refl
 text_by_rows Status c book = refl
+text_by_rows Source c book = refl
 
 -- what a command tells that only reads the book
 pub work_told : (holds : Book → Type 0) (leaves : Option Book → Type 0) (written written' : Option (List ℕ)) (n : ℕ) (command : Command) (c : Prepared) (loaded : Book) (ending : Ending) → OnlyReads command → IsPlan c → IsWellFormed c.campaign loaded → Keeps holds leaves loaded

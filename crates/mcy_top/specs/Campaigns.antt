@@ -48,7 +48,7 @@ campaign_of config project script report files netlist = record {
   report = report;
 }
 
--- a campaign, with the netlist of its sources, how many sites that has, and those of the mutations
+-- a campaign, with its sources and their netlist, how many sites that has, and those of the mutations
 pub record IsPrepared (config : List ℕ) (files : List SourceFile) (c : Prepared) : Type 0 where
   pub project : Project
   pub says : IsProject config project
@@ -63,6 +63,7 @@ pub record IsPrepared (config : List ℕ) (files : List SourceFile) (c : Prepare
   pub campaign : c.campaign ≡ campaign_of config project script report files c.netlist
   pub count : c.site_count ≡ length (all_sites project c.netlist)
   pub places : c.sites ≡ picked_sites project c.netlist
+  pub sources : c.files ≡ files
 
 -- that of some project and sources
 pub record IsPlan (c : Prepared) : Type 0 where

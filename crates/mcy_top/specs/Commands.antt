@@ -1,7 +1,7 @@
 -- What the commands do: the tests that they may have under way, when they are to stop, and which of them change the book.
 use Rattle.std.specs.Prelude.{ℕ, ◌+◌, ◌≤◌, Option, Some, None, ⊤}
 use Rattle.command_words.specs.declared.command.Command.{Command}
-use Rattle.command_words.specs.declared.command.Command.TheVariants.{Init, Run, List as Listing, Status}
+use Rattle.command_words.specs.declared.command.Command.TheVariants.{Init, Run, List as Listing, Status, Source}
 
 -- how many tests a command may have under way at once
 abbrev pub slots_of : Command → ℕ
@@ -9,6 +9,7 @@ slots_of Init = 0
 slots_of (Run stop_after) = 1
 slots_of Listing = 0
 slots_of Status = 0
+slots_of Source = 0
 
 -- the number of tests after which a command is to stop, if it has one
 abbrev pub stop_of : Command → Option ℕ
@@ -16,6 +17,7 @@ stop_of Init = None
 stop_of (Run stop_after) = stop_after
 stop_of Listing = None
 stop_of Status = None
+stop_of Source = None
 
 -- it grew by no more than was asked for, if a number was
 abbrev pub IsWithin : Option ℕ → ℕ → ℕ → Type 0
@@ -28,6 +30,7 @@ Runs Init = ⊥
 Runs (Run stop) = ⊤
 Runs Listing = ⊥
 Runs Status = ⊥
+Runs Source = ⊥
 
 -- the command only reads the book
 abbrev pub OnlyReads : Command → Type 0
@@ -35,3 +38,4 @@ OnlyReads Init = ⊥
 OnlyReads (Run stop) = ⊥
 OnlyReads Listing = ⊤
 OnlyReads Status = ⊤
+OnlyReads Source = ⊤

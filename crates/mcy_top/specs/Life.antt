@@ -8,7 +8,7 @@ use Rattle.result_book.specs.Scripts.{ask, is_ended}
 use Rattle.result_book.specs.Rows.{groups, IsFinished, IsWellFormed}
 use Rattle.mcy_outside.specs.Written.{Appends, AppendsPart}
 use Rattle.command_words.specs.declared.command.Command.{Command}
-use Rattle.command_words.specs.declared.command.Command.TheVariants.{Init, Run, List as Listing, Status}
+use Rattle.command_words.specs.declared.command.Command.TheVariants.{Init, Run, List as Listing, Status, Source}
 use Rattle.mcy_top.specs.declared.prepared.Prepared.{Prepared}
 use Rattle.mcy_top.specs.declared.outcome.Refusal.TheVariants.{ProjectBad as RefusedProject, ScriptBad as RefusedScript, SourceBad as RefusedSource, Missing as RefusedMissing, TooLarge as RefusedTooLarge, ReadFault as RefusedRead, Unbuilt as RefusedUnbuilt}
 use Rattle.mcy_top.specs.declared.outcome.BookRefusal.TheVariants.{NoCampaign as RefusedNone, AlreadyBegun as RefusedBegun, BookBad as RefusedBook}
@@ -89,6 +89,7 @@ Takes Init c book = IsBlank book
 Takes (Run stop) c book = IsBlank book ⊎ IsWellFormed c.campaign book
 Takes Listing c book = IsWellFormed c.campaign book
 Takes Status c book = IsWellFormed c.campaign book
+Takes Source c book = IsWellFormed c.campaign book
 
 -- Every mutation is finished, and the text is the one that the campaign defines with the pairs that the book gave up.
 pub record IsWhole (c : Prepared) (loaded book : Book) (text : List ℕ) : Type 0 where

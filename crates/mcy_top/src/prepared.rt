@@ -14,7 +14,7 @@ ghost use Rattle.mcy_top.specs.Mutations.{all_sites as sites_at};
 
 use crate::mutations::{picked_sites, site_lines, site_texts};
 use crate::project::{Scripted, test_kinds, test_names};
-use mcy_base::{Bytes, BytesList, Items, SourceFile};
+use mcy_base::{Bytes, BytesList, FileList, Items, SourceFile, Text};
 use mutation_sites::Site;
 use project_file::TestPlan;
 use project_sources::CheckedNetlist;
@@ -30,13 +30,15 @@ pub(crate) const MAX_BYTES: u32 = 1_048_576;
 /// Sites by number, from 0.
 pub type SiteList = Items<Site>;
 
-/// A campaign, and the netlist with how many sites it has, and those at which the mutations break it.
+/// A campaign, and its sources with their netlist, how many sites that has, and those at which the mutations break it.
 #[derive(Drop)]
 pub struct Prepared {
     pub campaign: Campaign,
     pub site_count: usize,
     pub sites: SiteList,
     pub netlist: CheckedNetlist,
+    /// The sources in the order of reading.
+    pub files: FileList,
 }
 
 ghost use Rattle.mcy_top.specs.Campaigns.{campaign_of, file_item, meta_of, names_of, IsPrepared};
@@ -62,6 +64,27 @@ fn make_meta(alloc: Global, config: &[u8], files: &[SourceFile]) -> Result<Bytes
         meta.push(file_item(alloc, file)?)?;
     }
     Ok(BytesList::from_vec(meta))
+}
+
+/// A copy of a file.
+fn copy_file(alloc: Global, file: &SourceFile) -> Result<SourceFile, AllocError>
+    ensures { IfOk result (λ copy. copy ≡ file.now) }
+{
+    Ok(SourceFile {
+        name: Text::copy(alloc, file.name.as_str())?,
+        bytes: Bytes::copy(alloc, file.bytes.as_slice())?,
+    })
+}
+
+/// A copy of the files.
+fn copy_files(alloc: Global, files: &[SourceFile]) -> Result<FileList, AllocError>
+    ensures { IfOk result (λ copies. copies ≡ files.now) }
+{
+    let mut copies = Vec::new(alloc);
+    for file in files {
+        copies.push(copy_file(alloc, file)?)?;
+    }
+    Ok(FileList::from_vec(copies))
 }
 
 /// The words that are expected of each test.
@@ -114,6 +137,7 @@ pub(crate) fn make_campaign(
         campaign,
         site_count: all.len(),
         sites: SiteList::from_vec(sites),
+        files: copy_files(alloc, files)?,
         netlist: checked,
     })
 }

@@ -5,6 +5,7 @@ ghost use Rattle.mcy_keeper.specs.Books.{blank, IsBlank, Keeps};
 ghost use Rattle.result_book.specs.Rows.{IsWellFormed};
 ghost use Rattle.result_book.specs.States.{IsStateOf};
 ghost use Rattle.source_report.specs.Lists.{list_text};
+ghost use Rattle.source_report.specs.Sources.{source_text};
 ghost use Rattle.source_report.specs.Texts.{status_text};
 ghost use Rattle.mcy_top.specs.Commands.{OnlyReads};
 ghost use Rattle.mcy_top.specs.Texts.{init_text, text_of};
@@ -25,7 +26,7 @@ use mcy_keeper::{Book, KeepError, Keeper};
 use mcy_outside::Sink;
 use result_book::book_laws::refused_books_are_ill_formed;
 use result_book::{BookError, State, check_book};
-use source_report::{add_number, list_text, status_text};
+use source_report::{add_number, list_text, source_text, status_text};
 use std::alloc::{AllocError, Global};
 use std::sync::ledger::Ledger;
 
@@ -129,6 +130,21 @@ impl Task<'_> {
         }
     }
 
+    /// Makes the text of the sources whole, and writes it.
+    fn show_source<O: Sink>(&self, state: &State, out: &mut O) -> Ending
+        requires plan { IsPlan self.now.prepared.now }
+        requires state { IsStateOf self.now.prepared.now.campaign state.now.rows state.now }
+        ensures wrote { Delivers (O.written out.old) (O.written out.new) (source_text self.now.prepared.now.campaign state.now.rows self.now.prepared.now.files) result }
+        ensures later { O.faults out.old ≤ O.faults out.new }
+        ensures cause { result ≡ Ending.Refused → Rose (O.faults out.old) (O.faults out.new) }
+    {
+        let prepared = self.prepared;
+        match source_text(self.alloc, &prepared.campaign, state, &prepared.files) {
+            Ok(text) => deliver(text.as_slice(), out),
+            Err(_) => Ending::NoMemory,
+        }
+    }
+
     /// Writes the text of a command that only reads the book.
     fn tell<O: Sink>(&self, command: Command, state: &State, out: &mut O) -> Ending
         requires reads { OnlyReads command }
@@ -140,6 +156,7 @@ impl Task<'_> {
     {
         match command {
             Command::List => self.list(state, out),
+            Command::Source => self.show_source(state, out),
             Command::Init | Command::Run { .. } | Command::Status => self.report(state, out),
         }
     }
@@ -262,7 +279,7 @@ impl Task<'_> {
         match command {
             Command::Init => self.init(keeper, out),
             Command::Run { stop_after } => { self.begin_and_run(stop_after, keeper, out, steps) }
-            Command::List | Command::Status => Outcome::NoCampaign,
+            Command::List | Command::Status | Command::Source => Outcome::NoCampaign,
         }
     }
 
@@ -346,7 +363,9 @@ impl Task<'_> {
         match command {
             Command::Init => Outcome::AlreadyBegun,
             Command::Run { stop_after } => { self.resume(stop_after, loaded, keeper, out, steps) }
-            Command::List | Command::Status => self.show(command, loaded, keeper, out),
+            Command::List | Command::Status | Command::Source => {
+                self.show(command, loaded, keeper, out)
+            }
         }
     }
 
