@@ -1,0 +1,11 @@
+//! The updates that an assignment of a testbench brings.
+#![tactic(auto)]
+
+mod assignment;
+mod laws;
+mod left_side;
+mod piece;
+mod writing;
+
+pub use assignment::updates;
+pub use laws::assignments_fit;
