@@ -1,0 +1,5 @@
+pub mod Trees
+pub mod Agreeing
+pub mod Adding
+pub mod Pushing
+pub mod Arms

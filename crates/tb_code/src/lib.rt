@@ -1,0 +1,11 @@
+//! Statements of a testbench as the nodes that its processes run by.
+#![tactic(auto)]
+
+mod code;
+mod copies;
+mod kinds;
+mod laws;
+mod statement;
+
+pub use code::{Code, begin};
+pub use laws::code_has_its_statements;
