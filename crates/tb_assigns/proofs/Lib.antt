@@ -2,3 +2,4 @@ pub mod Parts
 pub mod Drawing
 pub mod LastFirst
 pub mod Fitting
+pub mod Checked

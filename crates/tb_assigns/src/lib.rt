@@ -8,4 +8,4 @@ mod piece;
 mod writing;
 
 pub use assignment::updates;
-pub use laws::assignments_fit;
+pub use laws::{assignments_fit, whole_sides_suffice};
