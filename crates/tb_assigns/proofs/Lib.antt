@@ -3,3 +3,4 @@ pub mod Drawing
 pub mod LastFirst
 pub mod Fitting
 pub mod Checked
+pub mod Checking

@@ -1,3 +1,4 @@
 pub mod Updates
 pub mod Pieces
 pub mod Laws
+pub mod Checks

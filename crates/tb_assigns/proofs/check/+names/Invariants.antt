@@ -1,0 +1,8 @@
+use Rattle.std.proofs.Common.{◌≡◌, map, take}
+use Rattle.vlog_meaning.specs.Scopes.{names_of}
+use Rattle.vlog_effects.specs.LeftSides.{parts_of, concatenated}
+use Rattle.tb_assigns.specs.Checks.{all_signals}
+use Rattle.tb_assigns.proofs.check.+names.Given as goal
+
+abbrev pub invariant-all_name_signals-loop-part : goal.invariant-all_name_signals-loop-part
+invariant-all_name_signals-loop-part l = l.found ≡ all_signals (names_of l.scope) (concatenated (map parts_of (take l.part-index l.parts)))
