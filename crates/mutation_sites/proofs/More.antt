@@ -1,17 +1,22 @@
--- A mutant has the netlist's Q's and kinds of cells, and at most one cell more, the last.
+-- A mutant has the netlist's names and widths, Q's and kinds of cells, and at most one cell more, the last.
 use Rattle.std.proofs.Common.{◌≡◌, ℕ, ◌+◌, ◌≤◌, List, [], ◌∷◌, ◌++◌, map, take, length, refl, ap, arith}
 use Rattle.mcy_base.specs.declared.span.Span.{Span}
 use Rattle.netlist_core.specs.declared.bit.Bit.{Bit}
 use Rattle.netlist_core.specs.declared.cell.Cell.{Cell as Gate}
 use Rattle.netlist_core.specs.declared.cell.CellKind.{CellKind}
+use Rattle.netlist_core.specs.declared.port.Port as port
+use Rattle.netlist_core.specs.declared.port.Register.{Register as Flop}
 use Rattle.netlist_core.specs.declared.raw.RawNetlist.{RawNetlist}
+use Rattle.netlist_core.specs.Runs.{Outputs, bits_at}
 use Rattle.mutation_sites.specs.declared.mode.Mode.{Mode}
 use Rattle.mutation_sites.specs.declared.mode.Mode.TheVariants.{Inv, Const0, Const1, Cnot0, Cnot1}
 use Rattle.mutation_sites.specs.declared.site.Site.{Site}
 use Rattle.mutation_sites.specs.declared.readers.Readers.{Readers}
-use Rattle.mutation_sites.specs.Mutants.{readers_at, port_at, HasOneMore}
+use Rattle.mutation_sites.specs.declared.readers.Change.{Change}
+use Rattle.mutation_sites.specs.Mutants.{change_of, readers_at, port_at, HasOneMore, HasSameNames}
 use Rattle.mutation_sites.proofs.Alike.{q-same}
-use Rattle.mutation_sites.specs.Wiring.{cells_connected, new_bit, new_cells, bit_of, control_of, span_at, mutant_of}
+use Rattle.mutation_sites.proofs.Formed.{length-connected}
+use Rattle.mutation_sites.specs.Wiring.{port_connected, registers_connected, cells_connected, new_bit, new_cells, bit_of, control_of, span_at, mutant_of}
 
 kinds-first : (readers : Readers) (new : Bit) (c : ℕ) (cells extra : List Gate) → take (length cells) (map (λ (cell : Gate). cell.kind) (cells_connected readers new c cells ++ extra)) ≡ map (λ (cell : Gate). cell.kind) cells
 kinds-first readers new c [] extra = refl
@@ -41,4 +46,29 @@ has-one-more netlist site fresh =
       registers = q-same readers new 0 netlist.registers;
       count = omega (arith, length-cells readers new 0 netlist.cells (new_cells site.mode bit control fresh span), new-few site.mode bit control fresh span);
       kinds = kinds-first readers new 0 netlist.cells (new_cells site.mode bit control fresh span);
+    }
+
+outputs-named : (change : Change) (new : Bit) (outputs : List port.Port) → map (λ (p : port.Port). p.name) (map (port_connected change new) outputs) ≡ map (λ (p : port.Port). p.name) outputs
+outputs-named change new [] = refl
+outputs-named change new (p ∷ more) = ap (λ (names : List (List ℕ)). p.name ∷ names) (outputs-named change new more)
+
+outputs-same-wide : (change : Change) (new : Bit) (outputs : List port.Port) → map length (bits_at (map (port_connected change new) outputs)) ≡ map length (bits_at outputs)
+outputs-same-wide change new [] = refl
+outputs-same-wide change new (p ∷ more) =
+    let first = length-connected change new p.bits in
+    let rest = outputs-same-wide change new more in
+    λ i. first i ∷ rest i
+
+registers-named : (readers : Readers) (new : Bit) (r : ℕ) (registers : List Flop) → map (λ (f : Flop). f.name) (registers_connected readers new r registers) ≡ map (λ (f : Flop). f.name) registers
+registers-named readers new r [] = refl
+registers-named readers new r (register ∷ more) = ap (λ (names : List (List ℕ)). register.name ∷ names) (registers-named readers new (r + 1) more)
+
+pub has-same-names : (netlist : RawNetlist) (site : Site) (fresh : ℕ) → HasSameNames netlist (mutant_of netlist site fresh)
+has-same-names netlist site fresh =
+    let readers = readers_at netlist site.place site.port site.bit in
+    let new = new_bit site.mode fresh in
+    record {
+      outputs = outputs-named (change_of readers Outputs) new netlist.outputs;
+      widths = outputs-same-wide (change_of readers Outputs) new netlist.outputs;
+      registers = registers-named readers new 0 netlist.registers;
     }

@@ -3,9 +3,10 @@ use Rattle.std.specs.Prelude.{◌≡◌, ℕ, zero, suc, ◌+◌, ◌≤◌, ◌
 use Rattle.netlist_core.specs.declared.bit.Bit.{Bit}
 use Rattle.netlist_core.specs.declared.bit.Bit.TheVariants.{Fixed, Net}
 use Rattle.netlist_core.specs.declared.cell.Cell.{Cell as Gate}
+use Rattle.netlist_core.specs.declared.port.Port as port
 use Rattle.netlist_core.specs.declared.port.Register.{Register as Flop}
 use Rattle.netlist_core.specs.declared.raw.RawNetlist.{RawNetlist}
-use Rattle.netlist_core.specs.Runs.{Nets, Reader, Port, Next, Sight, values, q_bits, Holds, taken, IsRun, IsRunBy, plain, outputs_by}
+use Rattle.netlist_core.specs.Runs.{Nets, Reader, Port, Next, Sight, values, bits_at, q_bits, Holds, taken, IsRun, IsRunBy, plain, outputs_by}
 use Rattle.netlist_core.specs.Settled.{with_net}
 use Rattle.netlist_core.specs.Drivers.{drivers}
 use Rattle.netlist_core.specs.Orders.{ports_of}
@@ -111,3 +112,9 @@ pub record HasOneMore (netlist mutant : RawNetlist) : Type 0 where
   pub registers : q_bits mutant.registers ≡ q_bits netlist.registers
   pub count : length mutant.cells ≤ length netlist.cells + 1
   pub kinds : take (length netlist.cells) (map (λ (cell : Gate). cell.kind) mutant.cells) ≡ map (λ (cell : Gate). cell.kind) netlist.cells
+
+-- The mutant's outputs have the netlist's names and widths, and its registers the netlist's names.
+pub record HasSameNames (netlist mutant : RawNetlist) : Type 0 where
+  pub outputs : map (λ (p : port.Port). p.name) mutant.outputs ≡ map (λ (p : port.Port). p.name) netlist.outputs
+  pub widths : map length (bits_at mutant.outputs) ≡ map length (bits_at netlist.outputs)
+  pub registers : map (λ (r : Flop). r.name) mutant.registers ≡ map (λ (r : Flop). r.name) netlist.registers

@@ -6,3 +6,4 @@ pub mod Telling
 pub mod Pairing
 mod Standing
 mod Reading
+pub mod MutantsAlike

@@ -1,4 +1,5 @@
 pub mod Copies
 pub mod Differences
+pub mod Laws
 pub mod Matching
 pub mod Refusals

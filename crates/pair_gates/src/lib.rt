@@ -2,8 +2,10 @@
 #![tactic(auto)]
 
 mod error;
+mod laws;
 mod matching;
 mod pair;
 
 pub use error::EncodeError;
+pub use laws::mutants_are_alike;
 pub use pair::encode;
