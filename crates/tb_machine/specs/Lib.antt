@@ -1,6 +1,7 @@
 pub mod Worlds
 pub mod Steps
 pub mod Nodes
+pub mod Known
 pub mod Machine
 pub mod Phases
 pub mod Simulations

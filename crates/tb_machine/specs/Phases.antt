@@ -51,6 +51,8 @@ pub record Setting : Type 0 where
   pub meaning : ℕ → Meaning
   -- the `always` processes, each from its start
   pub always : List Suspended
+  -- the widths of the signals
+  pub widths : List ℕ
   -- the store with the clock's value in a phase
   pub clocked : ℕ → List ℕ → List ℕ
   -- the design
@@ -95,7 +97,7 @@ pub record State : Type 0 where
 
 -- the active part of the next phase
 abbrev pub active_part : Setting → State → Ran (List Suspended)
-active_part g s = active (g.meaning s.phase) (event_of_phase s.phase) g.always s.initial (record { store = g.clocked s.phase s.store; words = s.words; updates = []; text = s.text })
+active_part g s = active (g.meaning s.phase) (event_of_phase s.phase) g.always s.initial (record { widths = g.widths; store = g.clocked s.phase s.store; words = s.words; updates = []; text = s.text })
 
 -- registers take what stood at their D where the clock rises
 abbrev pub after_edge : Event → List ℕ → List ℕ → List ℕ

@@ -6,6 +6,7 @@ ghost use Rattle.tb_machine.specs.declared.node.Node.{Node as Code};
 ghost use Rattle.tb_machine.specs.Steps.{Do, Turns, step, goes_on};
 ghost use Rattle.tb_machine.specs.declared.machine.Stepped.TheVariants.{Goes};
 ghost use Rattle.tb_machine.specs.Nodes.{Tree, tree_of, node_step, loop_work, work_of, works, optional_do, choice_at, choice_do, AreClosed, BodyBelow, PartsBelow, FramesBelow, IsCode, frame_number};
+ghost use Rattle.tb_machine.specs.Known.{IsKnown, AllKnown};
 ghost use Rattle.tb_machine.specs.Machine.{IsStep, IsRan};
 
 use crate::evaluator::Evaluator;
@@ -93,8 +94,11 @@ fn execute<E: Evaluator>(
     requires at { slice_get nodes.now number ≡ Some node.now }
     requires parts { PartsBelow (length nodes.now) node.now }
     requires below { FramesBelow (length nodes.now) stack.old.items }
+    requires can { IsKnown (E.knows evaluator.now) (E.assigns evaluator.now) (E.performs evaluator.now) node.now }
+    requires serves { E.serves evaluator.now scene.old }
     ensures step { (tree : Tree) → IfOk result (λ r. IsStep nodes.now tree r stack.new.items scene.new (node_step (E.meaning evaluator.now) tree node.now (works nodes.now tree stack.old.items) scene.old)) }
     ensures below { IfOk result (λ _. FramesBelow (length nodes.now) stack.new.items) }
+    ensures serves { IfOk result (λ _. E.serves evaluator.now scene.new) }
 {
     match node {
         Node::Null => Ok(Stepped::Goes),
@@ -159,8 +163,11 @@ fn test_loop<E: Evaluator>(
     requires at { slice_get nodes.now number ≡ Some node.now }
     requires parts { PartsBelow (length nodes.now) node.now }
     requires below { FramesBelow (length nodes.now) stack.old.items }
+    requires can { IsKnown (E.knows evaluator.now) (E.assigns evaluator.now) (E.performs evaluator.now) node.now }
+    requires serves { E.serves evaluator.now scene.old }
     ensures step { (tree : Tree) → IfOk result (λ r. IsStep nodes.now tree r stack.new.items scene.new (step (E.meaning evaluator.now) (loop_work tree is_first (Some node.now)) (works nodes.now tree stack.old.items) scene.old)) }
     ensures below { IfOk result (λ _. FramesBelow (length nodes.now) stack.new.items) }
+    ensures serves { IfOk result (λ _. E.serves evaluator.now scene.new) }
 {
     match node {
         Node::For(start, condition, step, body) => {
@@ -193,8 +200,11 @@ fn step<E: Evaluator>(
     requires known { frame_number frame < length nodes.now }
     requires closed { AreClosed nodes.now }
     requires below { FramesBelow (length nodes.now) stack.old.items }
+    requires can { AllKnown (E.knows evaluator.now) (E.assigns evaluator.now) (E.performs evaluator.now) nodes.now }
+    requires serves { E.serves evaluator.now scene.old }
     ensures step { (trees : List Stmt) → IsCode nodes.now trees → IfOk result (λ r. IsStep nodes.now (tree_of trees) r stack.new.items scene.new (step (E.meaning evaluator.now) (work_of nodes.now (tree_of trees) frame) (works nodes.now (tree_of trees) stack.old.items) scene.old)) }
     ensures below { IfOk result (λ _. FramesBelow (length nodes.now) stack.new.items) }
+    ensures serves { IfOk result (λ _. E.serves evaluator.now scene.new) }
 {
     match frame {
         Frame::Do(number) => {
@@ -234,8 +244,11 @@ pub fn go_on<E: Evaluator>(
 ) -> Result<Ended, AllocError>
     requires closed { AreClosed nodes.now }
     requires below { FramesBelow (length nodes.now) process.old.stack.items }
+    requires can { AllKnown (E.knows evaluator.now) (E.assigns evaluator.now) (E.performs evaluator.now) nodes.now }
+    requires serves { E.serves evaluator.now scene.old }
     ensures ran { (trees : List Stmt) → IsCode nodes.now trees → IfOk result (λ r. IsRan nodes.now (tree_of trees) r left.new process.new scene.new (goes_on (E.meaning evaluator.now) process.old.event left.old (works nodes.now (tree_of trees) process.old.stack.items) scene.old)) }
     ensures below { IfOk result (λ _. FramesBelow (length nodes.now) process.new.stack.items) }
+    ensures serves { IfOk result (λ _. E.serves evaluator.now scene.new) }
 {
     while let Some(frame) = process.stack.pop() {
         if *left == 0 {

@@ -45,6 +45,7 @@ loop-i-preserved g c = record {
       let comes : woken m c.args.event c.loop-i.left (suspended nodes tree p) c.loop-i.scene ≡ Pauses c.wake.new.left (suspended nodes tree q) c.wake.new.scene = ran_pauses nodes tree c.wake.new.left q c.wake.new.scene (woken m c.args.event c.loop-i.left (suspended nodes tree p) c.loop-i.scene) (rw (c.in-Pauses.is, ← c.index-processes-i.is) at (c.in_ok-wake.ensures.ran trees code)) in
       rw (suspended-set nodes tree c.loop-i.processes c.loop-i.i q) (c.loop-i.invariant.ran trees code ∙ next_pauses m c.args.event c.loop-i.left c.wake.new.left ss c.loop-i.i (suspended nodes tree p) (suspended nodes tree q) c.loop-i.scene c.wake.new.scene (omega arith) (suspended-at nodes tree c.loop-i.processes c.loop-i.i p within c.index-processes-i.is) comes);
   below = All-set (StackBelow (length c.args.nodes.now)) c.loop-i.processes c.loop-i.i c.wake.new.process c.in_ok-wake.ensures.below c.loop-i.invariant.below;
+  serves = c.in_ok-wake.ensures.serves;
 }
 
 pub returns-clause-ran : goal.returns-clause-ran
