@@ -1,0 +1,56 @@
+-- What expressions, assignments and system tasks of a testbench mean to its processes in a phase: they are evaluated with the
+-- values that the world has of the signals, and the generator goes on in the world after them.
+use Rattle.std.specs.Prelude.{◌≡◌, ◌<◌, ◌≤◌, ◌+◌, ◌^◌, ℕ, true, ◌||◌, List, [], ◌++◌, length, slice_index, Option, Some, None}
+use Rattle.rand_pcg.specs.Lcg.{Lcg}
+use Rattle.vlog_syntax.specs.declared.stmt.Argument.{Argument}
+use Rattle.vlog_meaning.specs.declared.scope.Decl.{Decl}
+use Rattle.vlog_meaning.specs.declared.scope.Decl.TheVariants.{Signal, Constant}
+use Rattle.vlog_meaning.specs.Scopes.{Names, Store}
+use Rattle.tb_machine.specs.declared.update.Update.{Update}
+use Rattle.tb_machine.specs.Worlds.{World}
+use Rattle.tb_machine.specs.Steps.{Meaning}
+use Rattle.tb_values.specs.Values.{condition, turns}
+use Rattle.tb_choices.specs.Choices.{chosen}
+use Rattle.tb_assigns.specs.Updates.{updates}
+use Rattle.tb_tasks.specs.Tasks.{performed, is_display, is_write, AreWhole}
+
+-- the values of the signals in a world
+abbrev pub store_in : World → Store
+store_in w = λ number. slice_index w.store number
+
+-- what an evaluation comes to, and the world after it
+abbrev pub in_world : {A : Type 0} → World → A × Lcg → A × World
+in_world w a = (a.0, record w { words = a.1 })
+
+-- a task prints behind the text
+abbrev pub printed_in : World → List ℕ × Lcg → World
+printed_in w o = record w { words = o.1; text = w.text ++ o.0 }
+
+abbrev pub meaning : Names → ℕ → Meaning
+meaning names phase = record {
+  holds = λ x w. in_world w (condition names phase x (store_in w) w.words);
+  count = λ x w. in_world w (turns names phase x (store_in w) w.words);
+  choice = λ kind x labels w. in_world w (chosen names phase kind x labels (store_in w) w.words);
+  updates = λ a w. in_world w (updates names phase a (store_in w) w.words);
+  task = λ name arguments w. printed_in w (performed (record { names = names; phase = phase; store = store_in w }) name arguments ([], w.words));
+}
+
+-- the arguments of a task that prints have shapes
+abbrev pub CanPerform : Names → List ℕ → List Argument → Type 0
+CanPerform names name arguments = (is_display name || is_write name) ≡ true → AreWhole names arguments
+
+-- a world has a value of a declared signal, of its width
+abbrev pub HasSignal : World → Option Decl → Type 0
+HasSignal w (Some (Signal width low is_signed number)) = (number < length w.store) × (slice_index w.widths number ≡ width)
+HasSignal w (Some (Constant value is_signed)) = Unit {0}
+HasSignal w None = Unit {0}
+
+abbrev pub HasSignals : Names → World → Type 0
+HasSignals names w = (name : List ℕ) → HasSignal w (names name)
+
+-- an update gives bits that a signal of the world has a value of as many bits
+pub record FitsWorld (w : World) (u : Update) : Type 0 where
+  pub known : u.signal < length w.store
+  pub some : 1 ≤ u.width
+  pub inside : u.low + u.width ≤ slice_index w.widths u.signal
+  pub value : u.value < 2 ^ u.width

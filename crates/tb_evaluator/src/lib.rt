@@ -1,0 +1,7 @@
+//! What expressions, assignments and system tasks of a testbench mean to its processes.
+#![tactic(auto)]
+
+mod applying;
+mod evaluator;
+
+pub use evaluator::PhaseEvaluator;
