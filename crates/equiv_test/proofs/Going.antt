@@ -1,5 +1,5 @@
 -- A job that goes on.
-use Rattle.std.proofs.Common.{◌≡◌, ℕ, ◌+◌, ◌≤◌, List, ◌++◌, length, Option, Some, None, refl, sym, ap, subst, ◌∙◌, ℤ}
+use Rattle.std.proofs.Common.{◌≡◌, ℕ, ◌+◌, ◌<◌, ◌≤◌, List, ◌++◌, length, Option, Some, None, refl, sym, ap, subst, ◌∙◌, arith, ℤ}
 use Rattle.std.specs.Prelude.{Result, Ok, Err, IsErrAnd, IfErr, IsSome, MatchOption, ⊤}
 use Rattle.netlist_core.specs.Checked.{Plan, IsSound, free_bits}
 use Rattle.sat_solver.specs.Found.{Hunt, IsRunning}
@@ -35,6 +35,10 @@ still-job job before seen x y search is_x is_y was pair none =
     subst (λ (p : Plan). IsJob (record { original = p; mutant = y; limit = job.limit; search = search }) seen) (sym is_x)
     (subst (λ (p : Plan). IsJob (record { original = job.original; mutant = p; limit = job.limit; search = search }) seen) (sym is_y)
     (record { original = was.original; mutant = was.mutant; alike = was.alike; few_free = was.few_free; tell = was.tell; search = pair; seen = subst (HasSeen job.original.raw job.mutant.raw) (sym none) tt }))
+
+-- a search that runs has fewer lemmas than the job may have
+pub still-fewer : (a b : Plan) (limit most : ℕ) (hunt : Hunt) → IsPairSearch a b limit hunt → limit ≡ most → IsRunning hunt → length hunt.log.lemmas < most
+still-fewer a b limit most hunt pair same running = omega (arith, running.fewer, pair.limit, same)
 
 -- want of memory is always a cause
 pub memory-refused : {T : Type 0} (a b : Plan) (r : Result T EncodeError) → IsErrAnd r (λ e. e ≡ Memory) → IfErr r (IsRefused a b)

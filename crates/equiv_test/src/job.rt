@@ -73,13 +73,15 @@ impl EqJob {
     }
 
     /// Searches on until there is a verdict, or so many lemmas were added in this call. Where there is no memory, what was
-    /// added stands, and the test can go on.
+    /// added stands, and the test can go on. By `none` and `fewer` the room that is left up to the limit falls with each turn
+    /// without a verdict.
     pub fn turn(&mut self, conflicts: u32) -> Result<Option<EqVerdict>, AllocError>
         requires positive { 0 < conflicts }
         requires going { IsGoing self.old }
         ensures same { IsSameTest self.old self.new }
         ensures told { IfOk result (λ o. IfSome o (Tells self.old.original self.old.mutant self.old.limit)) }
         ensures none { IfOk result (λ o. MatchOption o (GoesOn self.old self.new conflicts × (length (lemmas_of self.new) ≡ length (lemmas_of self.old) + conflicts)) (λ _. ⊤)) }
+        ensures fewer { IfOk result (λ o. MatchOption o (length (lemmas_of self.new) < self.old.limit) (λ _. ⊤)) }
         ensures err { OnErr result (GoesOn self.old self.new conflicts) }
     {
         let search = self.search.take().unwrap();

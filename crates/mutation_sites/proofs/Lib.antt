@@ -11,3 +11,4 @@ mod Back
 mod Refused
 mod Pigeons
 mod Placed
+mod SameShapes

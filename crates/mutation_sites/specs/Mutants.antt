@@ -1,14 +1,17 @@
 -- The mutant of a netlist at a site: its equations with one replaced, the one at the site.
-use Rattle.std.specs.Prelude.{◌≡◌, ℕ, zero, suc, ◌+◌, ◌≤◌, ◌<◌, ◌%◌, Bool, true, false, not, ◌&&◌, List, [], length, map, take, slice_get, slice_set, slice_index_or, Option, Some, None, nat_eq, if◌then◌else◌}
+use Rattle.std.specs.Prelude.{◌≡◌, ℕ, zero, suc, ◌+◌, ◌≤◌, ◌<◌, ◌%◌, Bool, true, false, not, ◌&&◌, List, [], ◌∷◌, ◌++◌, length, map, take, slice_get, slice_set, slice_index_or, Option, Some, None, nat_eq, if◌then◌else◌}
 use Rattle.netlist_core.specs.declared.bit.Bit.{Bit}
 use Rattle.netlist_core.specs.declared.bit.Bit.TheVariants.{Fixed, Net}
 use Rattle.netlist_core.specs.declared.cell.Cell.{Cell as Gate}
+use Rattle.netlist_core.specs.declared.cell.CellKind.{CellKind}
+use Rattle.netlist_core.specs.declared.cell.CellKind.TheVariants.{Not, Xor, Xnor}
 use Rattle.netlist_core.specs.declared.port.Port as port
 use Rattle.netlist_core.specs.declared.port.Register.{Register as Flop}
 use Rattle.netlist_core.specs.declared.raw.RawNetlist.{RawNetlist}
 use Rattle.netlist_core.specs.Runs.{Nets, Reader, Port, Next, Sight, values, bits_at, q_bits, Holds, taken, IsRun, IsRunBy, plain, outputs_by}
 use Rattle.netlist_core.specs.Settled.{with_net}
 use Rattle.netlist_core.specs.Drivers.{drivers}
+use Rattle.netlist_core.specs.Shapes.{widths}
 use Rattle.netlist_core.specs.Orders.{ports_of}
 use Rattle.mutation_sites.specs.declared.mode.Mode.{Mode}
 use Rattle.mutation_sites.specs.declared.mode.Mode.TheVariants.{Inv, Const0, Const1, Cnot0, Cnot1}
@@ -118,3 +121,23 @@ pub record HasSameNames (netlist mutant : RawNetlist) : Type 0 where
   pub outputs : map (λ (p : port.Port). p.name) mutant.outputs ≡ map (λ (p : port.Port). p.name) netlist.outputs
   pub widths : map length (bits_at mutant.outputs) ≡ map length (bits_at netlist.outputs)
   pub registers : map (λ (r : Flop). r.name) mutant.registers ≡ map (λ (r : Flop). r.name) netlist.registers
+
+-- the kind of a cell, and the widths of its ports
+pub record CellShape : Type 0 where
+  pub kind : CellKind
+  pub widths : List ℕ
+
+abbrev pub cell_shape : Gate → CellShape
+cell_shape cell = record { kind = cell.kind; widths = widths cell.ports }
+
+-- the cell that drives the mutated bit, none where it is a constant
+abbrev pub driver_shapes : Mode → List CellShape
+driver_shapes Inv = record { kind = Not; widths = 1 ∷ 1 ∷ [] } ∷ []
+driver_shapes Const0 = []
+driver_shapes Const1 = []
+driver_shapes Cnot0 = record { kind = Xnor; widths = 1 ∷ 1 ∷ 1 ∷ [] } ∷ []
+driver_shapes Cnot1 = record { kind = Xor; widths = 1 ∷ 1 ∷ 1 ∷ [] } ∷ []
+
+-- The mutant's cells have the netlist's kinds and widths, and behind them stands the one that drives the mutated bit.
+abbrev pub HasSameShapes : RawNetlist → RawNetlist → Mode → Type 0
+HasSameShapes netlist mutant mode = map cell_shape mutant.cells ≡ map cell_shape netlist.cells ++ driver_shapes mode

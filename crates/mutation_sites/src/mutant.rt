@@ -6,7 +6,7 @@ ghost use Rattle.std.specs.Prelude.{◌≡◌, ◌++◌, ◌≤◌, length, IfOk
 ghost use Rattle.netlist_core.specs.declared.netlist.NetError.{NetError};
 ghost use Rattle.netlist_core.specs.declared.netlist.NetError.TheVariants.{Memory};
 ghost use Rattle.netlist_core.specs.Checked.{net_bits, IsFormed, IsRefused, IsSound};
-ghost use Rattle.mutation_sites.specs.Mutants.{IsSite, HasOneMore, HasSameNames, RunsAlike, HasEachRun};
+ghost use Rattle.mutation_sites.specs.Mutants.{IsSite, HasOneMore, HasSameNames, HasSameShapes, RunsAlike, HasEachRun};
 ghost use Rattle.mutation_sites.specs.Wiring.{mutant_of, new_bit, new_cells, cells_connected};
 
 use crate::driver::Driver;
@@ -30,6 +30,7 @@ pub fn mutate(alloc: Global, netlist: &Netlist, site: &Site) -> Result<Netlist, 
     ensures valid { IfOk result IsSound }
     ensures one_more { IfOk result (λ mutant. HasOneMore netlist.now.raw mutant.raw) }
     ensures names { IfOk result (λ mutant. HasSameNames netlist.now.raw mutant.raw) }
+    ensures shapes { IfOk result (λ mutant. HasSameShapes netlist.now.raw mutant.raw site.now.mode) }
     ensures alike { IfOk result (λ mutant. RunsAlike netlist.now.raw mutant.raw site.now) }
     ensures each_run { IfOk result (λ mutant. HasEachRun netlist.now.raw mutant.raw site.now) }
 {

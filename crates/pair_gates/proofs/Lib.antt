@@ -7,3 +7,5 @@ pub mod Pairing
 mod Standing
 mod Reading
 pub mod MutantsAlike
+mod Weighing
+mod Accepting

@@ -3,3 +3,4 @@ pub mod Differences
 pub mod Laws
 pub mod Matching
 pub mod Refusals
+pub mod Weights

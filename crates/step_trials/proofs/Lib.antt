@@ -6,3 +6,4 @@ pub mod TrialLemmas
 pub mod Sights
 pub mod Solved
 pub mod MutantTrials
+mod MutantNetlists

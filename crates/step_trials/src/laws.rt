@@ -1,5 +1,5 @@
 //! Laws of netlists and their mutants, each as the contract of a function that does nothing.
-ghost use Rattle.step_trials.specs.EqualLaws.{DesignsHaveOneSolution, MutantsHaveOneSolution, OneStepEqualityLasts};
+ghost use Rattle.step_trials.specs.EqualLaws.{DesignsHaveOneSolution, MutantsAreNetlists, MutantsHaveOneSolution, OneStepEqualityLasts};
 
 use netlist_core::one_run;
 
@@ -21,3 +21,9 @@ pub fn mutants_have_one_solution()
 {
     one_run();
 }
+
+/// A netlist that runs as the mutant at a site, as the one that `mutate` gives, is equal to its design in one step exactly where the
+/// mutant is.
+pub fn mutants_are_netlists()
+    ensures { MutantsAreNetlists }
+{}

@@ -7,4 +7,7 @@ mod laws;
 mod settle;
 
 pub use design::{Design, Given, GivenList, MAX_FREE_BITS};
-pub use laws::{designs_have_one_solution, mutants_have_one_solution, one_step_equality_lasts};
+pub use laws::{
+    designs_have_one_solution, mutants_are_netlists, mutants_have_one_solution,
+    one_step_equality_lasts,
+};

@@ -5,10 +5,11 @@ use Rattle.netlist_core.specs.declared.raw.RawNetlist.{RawNetlist}
 use Rattle.netlist_core.specs.declared.netlist.NetError.{NetError}
 use Rattle.netlist_core.specs.declared.netlist.NetError.TheVariants.{Memory}
 use Rattle.netlist_core.specs.Checked.{IsFormed, IsRefused, Plan}
-use Rattle.mutation_sites.specs.Mutants.{RunsAlike, HasEachRun, HasOneMore, HasSameNames}
+use Rattle.mutation_sites.specs.Mutants.{RunsAlike, HasEachRun, HasOneMore, HasSameNames, HasSameShapes}
 use Rattle.mutation_sites.proofs.Alike.{runs-alike}
 use Rattle.mutation_sites.proofs.Back.{has-each-run}
 use Rattle.mutation_sites.proofs.More.{has-one-more, has-same-names}
+use Rattle.mutation_sites.proofs.SameShapes.{has-same-shapes}
 use Rattle.mutation_sites.proofs.Formed.{mutant-formed}
 use Rattle.mutation_sites.proofs.Refused.{refused-memory}
 use Rattle.mutation_sites.proofs.mutant.mutate.Goals as goal
@@ -31,6 +32,9 @@ returns-clause-one_more c = checked-has (HasOneMore c.args.netlist.now.raw) c.in
 
 pub returns-clause-names : goal.returns-clause-names
 returns-clause-names c = checked-has (HasSameNames c.args.netlist.now.raw) c.in_ok-parts.parts _ c.checked.result c.in_ok-parts.ensures (has-same-names c.args.netlist.now.raw c.args.site.now c.unused_net-net.result) c.checked.ensures.parts
+
+pub returns-clause-shapes : goal.returns-clause-shapes
+returns-clause-shapes c = checked-has (λ (mutant : RawNetlist). HasSameShapes c.args.netlist.now.raw mutant c.args.site.now.mode) c.in_ok-parts.parts _ c.checked.result c.in_ok-parts.ensures (has-same-shapes c.args.netlist.now.raw c.args.site.now c.unused_net-net.result) c.checked.ensures.parts
 
 pub returns-clause-alike : goal.returns-clause-alike
 returns-clause-alike c = checked-has (λ (mutant : RawNetlist). RunsAlike c.args.netlist.now.raw mutant c.args.site.now) c.in_ok-parts.parts _ c.checked.result c.in_ok-parts.ensures (runs-alike c.args.netlist.now.raw c.args.site.now c.unused_net-net.result) c.checked.ensures.parts

@@ -6,7 +6,7 @@ use Rattle.equiv_test.specs.declared.verdict.EqVerdict.TheVariants.{Change}
 use Rattle.equiv_test.specs.Jobs.{Job, IsPairSearch}
 use Rattle.equiv_test.specs.Verdicts.{Shows, Tells}
 use Rattle.equiv_test.proofs.Telling.{some-is, still-pair, tells-seen}
-use Rattle.equiv_test.proofs.Going.{going-some, taken-running, still-job, goes-on, goes-long}
+use Rattle.equiv_test.proofs.Going.{going-some, taken-running, still-job, still-fewer, goes-on, goes-long}
 use Rattle.equiv_test.proofs.job.EqJob.turn.Goals as goal
 
 pub unwrap-search-requires : goal.unwrap-search-requires
@@ -77,6 +77,13 @@ returns-in-Unfinished-clause-none c =
       goes-on c.args.self.now now c.unwrap-search.result c.in-Unfinished.search c.args.conflicts was refl c.in-Unfinished.ensures.turns.0,
       goes-long c.args.self.now now c.unwrap-search.result c.in-Unfinished.search c.args.conflicts was refl c.in-Unfinished.ensures.turns.0 c.in-Unfinished.ensures.turns.1,
     )
+
+pub returns-in-Unfinished-clause-fewer : goal.returns-in-Unfinished-clause-fewer
+returns-in-Unfinished-clause-fewer c =
+    let was : Job = record { original = c.self.inside.original.plan; mutant = c.self.inside.mutant.plan; limit = c.self.inside.limit; search = c.self.inside.search } in
+    let pair : IsPairSearch was.original was.mutant was.limit c.unwrap-search.result = some-is (IsPairSearch was.original was.mutant was.limit) ⊤ c.self.inside.search c.unwrap-search.result (sym c.take.ensures.value ∙ c.unwrap-search.ensures) c.self.invariant.search in
+    let still : IsPairSearch was.original was.mutant was.limit c.in-Unfinished.search = still-pair was.original was.mutant was.limit c.args.conflicts c.unwrap-search.result c.in-Unfinished.search pair c.in-Unfinished.ensures.turns.0.1 in
+    still-fewer was.original was.mutant was.limit c.args.self.now.limit c.in-Unfinished.search still (ap (λ (j : Job). j.limit) c.self.view_is) c.in-Unfinished.ensures.turns.0.0
 
 pub returns-in-Finished-clause-same : goal.returns-in-Finished-clause-same
 returns-in-Finished-clause-same c = record {

@@ -1,0 +1,5 @@
+use Rattle.std.proofs.Common.{length}
+use Rattle.pair_gates.proofs.weights.+greatest.Given as goal
+
+abbrev pub decreases-greatest : goal.decreases-greatest
+decreases-greatest l = length l.ports.now
