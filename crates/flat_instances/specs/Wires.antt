@@ -119,6 +119,16 @@ is_wired [] name = false
 is_wired (Mismatch at ∷ more) name = is_wired more name
 is_wired (To port value ∷ more) name = bytes_eq port.name name || is_wired more name
 
+-- the names of the ports that have one
+
+abbrev pub port_in : Wire → List Identifier
+port_in (Mismatch at) = []
+port_in (To port value) = port ∷ []
+
+abbrev pub ports_in : List Wire → List Identifier
+ports_in [] = []
+ports_in (w ∷ more) = port_in w ++ ports_in more
+
 abbrev pub open_item : (number : ℕ) → Direction → Option FlatItem
 open_item number Input = Some (Open number)
 open_item number Output = None

@@ -11,7 +11,7 @@ use crate::item::FlatItem;
 use crate::joint::{Joint, connect};
 use crate::place::Place;
 use crate::wire::{ports_of, wires_of};
-use flat_scopes::{Head, Opening, Signal};
+use flat_scopes::{Head, NameList, Opening, Signal};
 use mcy_base::Text;
 use std::alloc::{AllocError, Global};
 use vlog_meaning::Scope;
@@ -59,8 +59,8 @@ fn instance_items<'a>(
     ensures { IfOk result (λ items. items.items ≡ listed_of joint.outside joint.inside refused.now head.now.ports instance.now (opened_of child.now)) }
 {
     let mut items = fault_items(alloc, first_fault(refused, child.steps()))?;
+    let wires = wires_of(alloc, &head.ports, instance)?;
     let ports = head.ports.as_slice();
-    let wires = wires_of(alloc, ports, instance)?;
     let mut joined = connect(alloc, joint, child, wires.as_slice(), ports)?;
     items.append(&mut joined)?;
     Ok(items)
@@ -84,9 +84,10 @@ pub fn open_instance<'a>(
     let known = parameters_of(alloc, declaration)?;
     let giving = give_values(alloc, known.as_slice(), values)?;
     let Giving { given, refused } = giving;
+    let ports = ports_of(alloc, &declaration.ports)?;
     let head = Head {
         prefix,
-        ports: Listed::from_vec(ports_of(alloc, &declaration.ports)?),
+        ports: NameList::of(alloc, ports.as_slice())?,
         given: Listed::from_vec(given),
     };
     let mut child = Opening::new(alloc, Scope::new(alloc), signals);

@@ -2,12 +2,13 @@
 //! gets the value of an output.
 ghost use Rattle.std.specs.Prelude.{◌≡◌, ◌++◌, option_to_list, IfOk};
 ghost use Rattle.flat_scopes.specs.Views.{opened_of};
-ghost use Rattle.flat_instances.specs.Wires.{output_item, port_item, wire_item, wired, is_wired, unwired_item, unwired, connected};
+ghost use Rattle.flat_instances.specs.Wires.{output_item, port_item, wire_item, wired, unwired_item, unwired, connected};
 
 use crate::error::ItemError;
 use crate::item::FlatItem;
 use crate::left::is_left;
 use crate::wire::Wire;
+use crate::wired::Wired;
 use flat_scopes::{Lent, Opening, Port};
 use std::alloc::{AllocError, Global};
 use vlog_syntax::{Direction, Expr, Identifier};
@@ -89,29 +90,15 @@ fn add_wires<'a>(
     Ok(())
 }
 
-/// Whether a port of this name has a connection.
-fn is_wired(wires: &[Wire<'_>], name: &str) -> bool
-    ensures { result ≡ is_wired wires.now name.now }
-{
-    for wire in wires {
-        if let Wire::To(port, _) = wire
-            && port.get().name.as_str() == name
-        {
-            return true;
-        }
-    }
-    false
-}
-
 /// What a port of this name lists if it has no connection.
 fn unwired_item<'a>(
     child: &Opening<'_>,
-    wires: &[Wire<'_>],
+    wires: &Wired<'_, '_>,
     name: &Identifier,
 ) -> Option<FlatItem<'a>>
-    ensures { result ≡ unwired_item (opened_of child.now) wires.now name.now }
+    ensures { result ≡ unwired_item (opened_of child.now) wires.now.wires.now name.now }
 {
-    if is_wired(wires, name.name.as_str()) {
+    if wires.has(name.name.as_str()) {
         return None;
     }
     match child.port(name.name.as_str()) {
@@ -129,10 +116,10 @@ fn unwired_item<'a>(
 fn add_unwired<'a>(
     items: &mut Vec<FlatItem<'a>>,
     child: &Opening<'_>,
-    wires: &[Wire<'_>],
+    wires: &Wired<'_, '_>,
     ports: &[Lent<'_, Identifier>],
 ) -> Result<(), AllocError>
-    ensures { IfOk result (λ done. items.new.items ≡ items.old.items ++ unwired (opened_of child.now) wires.now ports.now) }
+    ensures { IfOk result (λ done. items.new.items ≡ items.old.items ++ unwired (opened_of child.now) wires.now.wires.now ports.now) }
 {
     for port in ports {
         add(items, unwired_item(child, wires, port.get()))?;
@@ -153,6 +140,7 @@ pub fn connect<'a>(
 {
     let mut items = Vec::new(alloc);
     add_wires(&mut items, joint, child, wires)?;
-    add_unwired(&mut items, child, wires, ports)?;
+    let wired = Wired::of(alloc, wires)?;
+    add_unwired(&mut items, child, &wired, ports)?;
     Ok(items)
 }

@@ -9,6 +9,7 @@ mod joint;
 mod left;
 mod place;
 mod wire;
+mod wired;
 
 pub use error::{ItemError, ParameterError};
 pub use giving::{Giving, first_fault, give_values, parameters_of};

@@ -2,7 +2,7 @@
 ghost use Rattle.std.specs.Prelude.{◌≡◌, ◌++◌, [], map, IfOk};
 ghost use Rattle.flat_instances.specs.Wires.{name_in, declared_ports, ports_of, named_wire, named_wires, ordered_wires, place_of, wires_of};
 
-use flat_scopes::{Lent, is_among};
+use flat_scopes::{Lent, NameList};
 use mcy_base::Span;
 use std::alloc::{AllocError, Global};
 use vlog_syntax::{
@@ -84,14 +84,14 @@ fn lent<'a>(value: &'a Option<Boxed<Expr>>) -> Option<Lent<'a, Expr>>
 
 /// What a connection by name says, where these were named before.
 fn named_wire<'a>(
-    ports: &[Lent<'_, Identifier>],
-    seen: &[Lent<'_, Identifier>],
+    ports: &NameList<'_>,
+    seen: &NameList<'_>,
     connection: &'a NamedConnection,
 ) -> Wire<'a>
     ensures { result ≡ named_wire ports.now seen.now connection.now }
 {
     let name = connection.name.name.as_str();
-    if is_among(ports, name) && !is_among(seen, name) {
+    if ports.has(name) && !seen.has(name) {
         Wire::To(Lent::of(&connection.name), lent(&connection.value))
     } else {
         Wire::Mismatch(connection.name.span)
@@ -101,16 +101,16 @@ fn named_wire<'a>(
 /// The connections by name.
 fn named_wires<'a>(
     alloc: Global,
-    ports: &[Lent<'_, Identifier>],
+    ports: &NameList<'_>,
     connections: &'a [NamedConnection],
 ) -> Result<Vec<Wire<'a>>, AllocError>
     ensures { IfOk result (λ wires. wires.items ≡ named_wires ports.now [] connections.now) }
 {
     let mut wires = Vec::new(alloc);
-    let mut seen = Vec::new(alloc);
+    let mut seen = NameList::new(alloc);
     for connection in connections {
-        wires.push(named_wire(ports, seen.as_slice(), connection))?;
-        seen.push(Lent::of(&connection.name))?;
+        wires.push(named_wire(ports, &seen, connection))?;
+        seen = seen.with(Lent::of(&connection.name))?;
     }
     Ok(wires)
 }
@@ -150,14 +150,15 @@ fn ordered_wires<'a>(
 /// The connections of an instance whose module has these ports, in written order.
 pub fn wires_of<'a>(
     alloc: Global,
-    ports: &[Lent<'a, Identifier>],
+    ports: &NameList<'a>,
     instance: &'a Instance,
 ) -> Result<Vec<Wire<'a>>, AllocError>
     ensures { IfOk result (λ wires. wires.items ≡ wires_of ports.now instance.now) }
 {
     match &instance.ports {
         Connections::Ordered(values) => {
-            ordered_wires(alloc, instance.name.span, ports, values.as_slice())
+            let span = instance.name.span;
+            ordered_wires(alloc, span, ports.as_slice(), values.as_slice())
         }
         Connections::Named(connections) => named_wires(alloc, ports, connections.as_slice()),
     }

@@ -14,7 +14,7 @@ use crate::generate::one;
 use crate::names::block_name;
 use crate::task::Task;
 use flat_instances::inner_prefix;
-use flat_scopes::{Head, Lent, Opening, Signal};
+use flat_scopes::{Head, Lent, NameList, Opening, Signal};
 use mcy_base::Text;
 use std::alloc::{AllocError, Global};
 use std::{mem, slice};
@@ -38,7 +38,7 @@ fn block_head<'a>(alloc: Global, prefix: Text) -> Head<'a>
 {
     Head {
         prefix,
-        ports: Listed::from_vec(Vec::new(alloc)),
+        ports: NameList::new(alloc),
         given: Listed::from_vec(Vec::new(alloc)),
     }
 }

@@ -14,7 +14,7 @@ use crate::numbers::ModuleNumbers;
 use crate::placing::{inner_modules, module_at};
 use crate::task::Task;
 use flat_instances::{FlatItem, ItemError, ports_of};
-use flat_scopes::{Head, Opening};
+use flat_scopes::{Head, NameList, Opening};
 use mcy_base::Text;
 use std::alloc::{AllocError, Global};
 use std::collections::VecDeque;
@@ -110,7 +110,7 @@ fn top_head<'a>(alloc: Global, declaration: &'a Module) -> Result<Head<'a>, Allo
     let ports = ports_of(alloc, &declaration.ports)?;
     Ok(Head {
         prefix: Text::copy(alloc, "")?,
-        ports: Listed::from_vec(ports),
+        ports: NameList::of(alloc, ports.as_slice())?,
         given: Listed::from_vec(Vec::new(alloc)),
     })
 }

@@ -1,4 +1,5 @@
 mod ItemLemmas
+mod Known
 mod Labels
 mod Owned
 mod Valued

@@ -1,6 +1,7 @@
 pub mod Ranges
 pub mod Parameters
 pub mod Owns
+pub mod Known
 pub mod Openings
 pub mod Words
 pub mod Valued

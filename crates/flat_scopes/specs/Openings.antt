@@ -1,6 +1,5 @@
 -- What the declarations of a scope do, one after the other (IEEE 1364-2005, 4, 12.2, 12.3 and 12.4).
 use Rattle.std.specs.Prelude.{ℕ, Bool, true, false, not, ◌&&◌, ◌||◌, ◌==◌, List, [], ◌∷◌, ◌++◌, length, Option, None, Some, is_some, slice_get, slice_set, Result, Ok, Err, if◌then◌else◌}
-use Rattle.std.specs.Str.{bytes_eq}
 use Rattle.vlog_syntax.specs.declared.expr.Expr.{Expr}
 use Rattle.vlog_syntax.specs.declared.identifier.Identifier.{Identifier}
 use Rattle.vlog_syntax.specs.declared.item.Direction.{Direction}
@@ -24,6 +23,7 @@ use Rattle.flat_scopes.specs.declared.opening.Head.{Head}
 use Rattle.flat_scopes.specs.declared.declare.Typed.{Typed}
 use Rattle.flat_scopes.specs.Owns.{Own, with_own}
 use Rattle.flat_scopes.specs.Ranges.{bits_of_range}
+pub use Rattle.flat_scopes.specs.Known.{is_among}
 
 -- A scope of which some items are opened: what its own names stand for, what all names are declared as, the signals of the
 -- design, what the items list, and how many generate constructs there were.
@@ -124,11 +124,6 @@ again_data o id k None t = refuse o (r.Twice id.span)
 again_data o id k (Some g) t =
     if is_some g.direction && has_bits g t && not g.has_type then same_signal o id.name k g t g.direction true
     else refuse o (r.Twice id.span)
-
--- whether a name is one of these
-abbrev pub is_among : List Identifier → List ℕ → Bool
-is_among [] name = false
-is_among (x ∷ more) name = bytes_eq x.name name || is_among more name
 
 -- a name of a port declaration, which the head of the module names too
 abbrev pub port_found : Head → Opened → Identifier → Typed → Direction → Option What → Opened

@@ -6,7 +6,7 @@ ghost use Rattle.flat_scopes.specs.Ranges.{bits_of_range};
 ghost use Rattle.flat_scopes.specs.declared.signal.Signal.{Signal as Declared};
 
 use crate::lent::Lent;
-use crate::opening::{Head, Opening, Step, is_among, set_name};
+use crate::opening::{Head, Opening, Step, set_name};
 use crate::range::{VectorBits, range_bits};
 use crate::refusal::Refusal;
 use crate::signal::{Signal, What};
@@ -179,7 +179,7 @@ impl<'a> Opening<'a> {
     ) -> Result<(), AllocError>
         ensures { IfOk result (λ done. opened_of self.new ≡ with_port head.now (opened_of self.old) id.now typed direction) }
     {
-        if !is_among(head.ports.as_slice(), id.name.as_str()) {
+        if !head.ports.has(id.name.as_str()) {
             return self.refuse(Refusal::Unknown(id.span));
         }
         match self.what(id.name.as_str()) {

@@ -6,6 +6,7 @@ mod items;
 mod laws;
 mod lent;
 mod modules;
+mod names;
 mod opening;
 mod own;
 mod parameter;
@@ -16,6 +17,7 @@ mod values;
 
 pub use laws::{ranges_of_examples, scopes_of_examples};
 pub use lent::Lent;
+pub use names::NameList;
 pub use opening::{Given, Head, Opening, Parts, Step, is_among};
 pub use own::OwnNames;
 pub use parameter::{ParameterBits, parameter_decl};

@@ -7,7 +7,8 @@ ghost use Rattle.flat_scopes.specs.Opens.{port_at, all_parameters as with_all_pa
 ghost use Rattle.flat_scopes.specs.Views.{opened_of};
 
 use crate::lent::Lent;
-use crate::opening::{Head, Opening, Step, is_among};
+use crate::names::NameList;
+use crate::opening::{Head, Opening, Step};
 use crate::refusal::Refusal;
 use crate::signal::{Port, What};
 use std::alloc::AllocError;
@@ -53,12 +54,12 @@ impl<'a> Opening<'a> {
     fn header_names(&mut self, names: &'a [Identifier]) -> Result<(), AllocError>
         ensures { IfOk result (λ done. opened_of self.new ≡ with_header_names (opened_of self.old) [] names.now) }
     {
-        let mut seen = Vec::new(self.alloc);
+        let mut seen = NameList::new(self.alloc);
         for name in names {
-            if is_among(seen.as_slice(), name.name.as_str()) {
+            if seen.has(name.name.as_str()) {
                 self.refuse(Refusal::Twice(name.span))?;
             }
-            seen.push(Lent::of(name))?;
+            seen = seen.with(Lent::of(name))?;
         }
         Ok(())
     }

@@ -9,6 +9,7 @@ ghost use Rattle.flat_scopes.specs.Views.{opened_of};
 ghost use Rattle.flat_scopes.specs.Openings.{unopened, step as with_step, refuse as with_refusal, own_name as with_own_name, plain_name as with_plain, genvar_names as with_genvars, instance_names as with_instances, is_among as among};
 
 use crate::lent::Lent;
+use crate::names::NameList;
 use crate::own::OwnNames;
 use crate::refusal::Refusal;
 use crate::signal::{Signal, What};
@@ -47,7 +48,7 @@ pub struct Given<'a> {
 #[derive(Drop)]
 pub struct Head<'a> {
     pub prefix: Text,
-    pub ports: Listed<Lent<'a, Identifier>>,
+    pub ports: NameList<'a>,
     pub given: Listed<Given<'a>>,
 }
 

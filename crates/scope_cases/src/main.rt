@@ -7,7 +7,7 @@
 
 mod page;
 
-use flat_scopes::{Given, Head, Lent, Opening, RangeError, Refusal, Signal, Step};
+use flat_scopes::{Given, Head, Lent, NameList, Opening, RangeError, Refusal, Signal, Step};
 use mcy_base::{Span, Text};
 use page::Page;
 use std::alloc::{AllocError, Global};
@@ -126,26 +126,23 @@ fn put_constants(page: &mut Page, scope: &Scope, declarations: &[ParameterDeclar
 }
 
 /// The names of the ports in the head of a module.
-fn ports_of<'a>(
-    alloc: Global,
-    ports: &'a Ports,
-) -> Result<Listed<Lent<'a, Identifier>>, AllocError> {
-    let mut list = Vec::new(alloc);
+fn ports_of<'a>(alloc: Global, ports: &'a Ports) -> Result<NameList<'a>, AllocError> {
+    let mut list = NameList::new(alloc);
     match ports {
         Ports::Names(names) => {
             for name in names.as_slice() {
-                list.push(Lent::of(name))?;
+                list = list.with(Lent::of(name))?;
             }
         }
         Ports::Declarations(declarations) => {
             for declaration in declarations.as_slice() {
                 for name in declaration.names.as_slice() {
-                    list.push(Lent::of(&name.name))?;
+                    list = list.with(Lent::of(&name.name))?;
                 }
             }
         }
     }
-    Ok(Listed::from_vec(list))
+    Ok(list)
 }
 
 /// The values of a module's parameters.

@@ -4,4 +4,4 @@ use Rattle.flat_instances.specs.Wires.{unwired}
 use Rattle.flat_instances.proofs.joint.add_unwired.Given as goal
 
 abbrev pub invariant-loop-port : goal.invariant-loop-port
-invariant-loop-port l = l.items.items ++ unwired (opened_of l.child) l.wires (drop l.port-index l.ports) ≡ l.initial.items.items ++ unwired (opened_of l.child) l.wires l.ports
+invariant-loop-port l = l.items.items ++ unwired (opened_of l.child) l.wires.wires.now (drop l.port-index l.ports) ≡ l.initial.items.items ++ unwired (opened_of l.child) l.wires.wires.now l.ports

@@ -1,0 +1,6 @@
+use Rattle.std.proofs.Common.{◌≡◌, ◌++◌, drop}
+use Rattle.flat_instances.specs.Wires.{ports_in}
+use Rattle.flat_instances.proofs.wired.ports_in.Given as goal
+
+abbrev pub invariant-loop-wire : goal.invariant-loop-wire
+invariant-loop-wire l = l.names ++ ports_in (drop l.wire-index l.wires) ≡ ports_in l.wires
