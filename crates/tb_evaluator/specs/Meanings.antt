@@ -1,12 +1,11 @@
 -- What expressions, assignments and system tasks of a testbench mean to its processes in a phase: they are evaluated with the
 -- values that the world has of the signals, and the generator goes on in the world after them.
-use Rattle.std.specs.Prelude.{◌≡◌, ◌<◌, ◌≤◌, ◌+◌, ◌^◌, ℕ, true, ◌||◌, List, [], ◌++◌, length, slice_index, Option, Some, None}
+use Rattle.std.specs.Prelude.{◌≡◌, ◌<◌, ℕ, true, ◌||◌, List, [], ◌++◌, length, slice_index, Option, Some, None}
 use Rattle.rand_pcg.specs.Lcg.{Lcg}
 use Rattle.vlog_syntax.specs.declared.stmt.Argument.{Argument}
 use Rattle.vlog_meaning.specs.declared.scope.Decl.{Decl}
 use Rattle.vlog_meaning.specs.declared.scope.Decl.TheVariants.{Signal, Constant}
 use Rattle.vlog_meaning.specs.Scopes.{Names, Store}
-use Rattle.tb_machine.specs.declared.update.Update.{Update}
 use Rattle.tb_machine.specs.Worlds.{World}
 use Rattle.tb_machine.specs.Steps.{Meaning}
 use Rattle.tb_values.specs.Values.{condition, turns}
@@ -39,18 +38,11 @@ meaning names phase = record {
 abbrev pub CanPerform : Names → List ℕ → List Argument → Type 0
 CanPerform names name arguments = (is_display name || is_write name) ≡ true → AreWhole names arguments
 
--- a world has a value of a declared signal, of its width
-abbrev pub HasSignal : World → Option Decl → Type 0
-HasSignal w (Some (Signal width low is_signed number)) = (number < length w.store) × (slice_index w.widths number ≡ width)
-HasSignal w (Some (Constant value is_signed)) = Unit {0}
-HasSignal w None = Unit {0}
+-- signals of these widths are those that are declared
+abbrev pub HasSignal : List ℕ → Option Decl → Type 0
+HasSignal widths (Some (Signal width low is_signed number)) = (number < length widths) × (slice_index widths number ≡ width)
+HasSignal widths (Some (Constant value is_signed)) = Unit {0}
+HasSignal widths None = Unit {0}
 
-abbrev pub HasSignals : Names → World → Type 0
-HasSignals names w = (name : List ℕ) → HasSignal w (names name)
-
--- an update gives bits that a signal of the world has a value of as many bits
-pub record FitsWorld (w : World) (u : Update) : Type 0 where
-  pub known : u.signal < length w.store
-  pub some : 1 ≤ u.width
-  pub inside : u.low + u.width ≤ slice_index w.widths u.signal
-  pub value : u.value < 2 ^ u.width
+abbrev pub HasSignals : Names → List ℕ → Type 0
+HasSignals names widths = (name : List ℕ) → HasSignal widths (names name)

@@ -5,7 +5,6 @@ ghost use Rattle.vlog_meaning.specs.Senses.{IsWhole};
 ghost use Rattle.tb_assigns.specs.Updates.{CanAssign};
 ghost use Rattle.tb_evaluator.specs.Meanings.{meaning, store_in, CanPerform, HasSignals};
 
-use crate::applying::{apply_all, schedule_all};
 use rand_pcg::Lcg64Xsh32;
 use std::alloc::{AllocError, Global};
 use tb_assigns::updates;
@@ -27,7 +26,7 @@ pub struct PhaseEvaluator<'a> {
 impl<'a> PhaseEvaluator<'a> {
     /// The moment of a scene.
     fn moment<'b>(&'b self, scene: &'b Scene) -> Moment<'b>
-        requires { HasSignals (names_of self.now.scope.now) scene.now }
+        requires { HasSignals (names_of self.now.scope.now) scene.now.widths }
         ensures scope { result.scope.now ≡ self.now.scope.now }
         ensures phase { result.phase ≡ self.now.phase }
         ensures stored { FitsSignals (names_of self.now.scope.now) result.store.now }
@@ -51,7 +50,7 @@ impl<'a> Evaluator for PhaseEvaluator<'a> {
 
     ghost performs = { λ e name arguments. CanPerform (names_of e.scope.now) name arguments };
 
-    ghost serves = { λ e w. HasSignals (names_of e.scope.now) w };
+    ghost serves = { λ e w. HasSignals (names_of e.scope.now) w.widths };
 
     fn holds(&self, condition: &Expr, scene: &mut Scene) -> Result<bool, AllocError> {
         let mut words = scene.words()?;
@@ -84,7 +83,7 @@ impl<'a> Evaluator for PhaseEvaluator<'a> {
         let mut words = scene.words()?;
         let updates = updates(assignment, &self.moment(scene), &mut words)?;
         scene.set_words(words);
-        apply_all(updates.as_slice(), scene);
+        scene.assign_all(updates.as_slice());
         Ok(())
     }
 
@@ -92,7 +91,7 @@ impl<'a> Evaluator for PhaseEvaluator<'a> {
         let mut words = scene.words()?;
         let updates = updates(assignment, &self.moment(scene), &mut words)?;
         scene.set_words(words);
-        schedule_all(updates.as_slice(), scene)
+        scene.schedule_all(updates.as_slice())
     }
 
     fn task(

@@ -1,7 +1,6 @@
 //! What expressions, assignments and system tasks of a testbench mean to its processes.
 #![tactic(auto)]
 
-mod applying;
 mod evaluator;
 
 pub use evaluator::PhaseEvaluator;

@@ -28,7 +28,7 @@ state-is a = refl
 same_end : (g : Setting) (s : State) (ps : List Suspended) (w : World) (a b : State) → SettlesOnce g → IsEnd g s ps w a → IsEnd g s ps w b → a ≡ b
 same_end g s ps w a b once x y =
     let registers : a.registers ≡ b.registers = x.registers ∙ sym y.registers in
-    let settled : (a.store ≡ b.store) × (a.next ≡ b.next) = once b.registers (all_applied w.store w.updates) a.store a.next b.store b.next (rw registers at x.settles) y.settles in
+    let settled : (a.store ≡ b.store) × (a.next ≡ b.next) = once s.phase b.registers (all_applied w.store w.updates) a.store a.next b.store b.next (rw registers at x.settles) y.settles in
     let phase : a.phase ≡ b.phase = x.phase ∙ sym y.phase in
     let initial : a.initial ≡ b.initial = x.initial_is ∙ sym y.initial_is in
     let words : a.words ≡ b.words = x.words ∙ sym y.words in

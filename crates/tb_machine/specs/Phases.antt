@@ -1,13 +1,15 @@
 -- The phases of a simulation, each a relation between the values at its start, the text that
 -- it prints, and the values at its end.
-use Rattle.std.specs.Prelude.{◌≡◌, ℕ, zero, suc, ◌+◌, ◌/◌, ◌%◌, ◌^◌, Bool, true, false, ◌==◌, List, [], ◌∷◌, length, slice_get, slice_index, Some, if◌then◌else◌}
+use Rattle.std.specs.Prelude.{◌≡◌, ℕ, zero, suc, ◌+◌, ◌/◌, ◌%◌, ◌^◌, Bool, true, false, ◌==◌, List, [], ◌∷◌, ◌++◌, length, slice_get, slice_index, Some, if◌then◌else◌}
 use Rattle.rand_pcg.specs.Lcg.{Lcg}
 use Rattle.tb_machine.specs.declared.event.Event.{Event}
 use Rattle.tb_machine.specs.declared.event.Event.TheVariants.{Start, Rise, Fall}
 use Rattle.netlist_core.specs.declared.raw.RawNetlist.{RawNetlist}
 use Rattle.netlist_core.specs.Runs.{Nets, plain, shown, taken, Holds as IsCycle}
+use Rattle.tb_machine.specs.declared.phase_end.PhaseEnd.{PhaseEnd}
+use Rattle.tb_machine.specs.declared.phase_end.PhaseEnd.TheVariants as e
 use Rattle.tb_machine.specs.declared.update.Update.{Update}
-use Rattle.tb_machine.specs.Worlds.{World, all_applied}
+use Rattle.tb_machine.specs.Worlds.{World, all_applied, some_gives}
 use Rattle.tb_machine.specs.Steps.{Meaning, Suspended, Ran, Pauses, Finished, TooLong, goes_on}
 
 -- statements of a phase
@@ -60,10 +62,8 @@ pub record Setting : Type 0 where
   -- the values at its inputs, from the store, and the updates of what its outputs are connected to, from their values
   pub inputs : List ℕ → List ℕ
   pub outputs : List ℕ → List Update
-  -- the updates of each assign of the bench, from the store
-  pub assigns : List (List ℕ → List Update)
-  -- the bits that assigns and outputs write, by signal and place
-  pub is_written : ℕ → ℕ → Bool
+  -- the updates of each assign of the bench, in a phase, from the store
+  pub assigns : List (ℕ → List ℕ → List Update)
 
 -- bit i of a number
 abbrev pub bit_of : ℕ → ℕ → ℕ
@@ -73,16 +73,17 @@ bit_of v i = v / 2 ^ i % 2
 abbrev pub Hold : List ℕ → List Update → Type 0
 Hold store us = all_applied store us ≡ store
 
--- All settles, from the registers and the store before, to the store and to what stands at each D: each assign and each
--- output holds, the design's nets are those of a cycle of its run, and every other bit is as it was.
-pub record Settles (g : Setting) (registers before after next : List ℕ) : Type 0 where
+-- All settles in a phase, from the registers and the store before, to the store and to what stands at each D: each assign
+-- and each output holds, the design's nets are those of a cycle of its run, and a bit that no assign and no output gives a
+-- value is as it was.
+pub record Settles (g : Setting) (phase : ℕ) (registers before after next : List ℕ) : Type 0 where
   pub nets : Nets
   pub design : IsCycle (plain nets) nets g.netlist (g.inputs after) registers
   pub taken_is : next ≡ taken (plain nets) 0 g.netlist.registers
   pub shown_holds : Hold after (g.outputs (shown (plain nets) g.netlist))
-  pub assigns_hold : (k : ℕ) (updates : List ℕ → List Update) → slice_get g.assigns k ≡ Some updates → Hold after (updates after)
+  pub assigns_hold : (k : ℕ) (updates : ℕ → List ℕ → List Update) → slice_get g.assigns k ≡ Some updates → Hold after (updates phase after)
   pub long : length after ≡ length before
-  pub kept : (k i : ℕ) → g.is_written k i ≡ false → bit_of (slice_index after k) i ≡ bit_of (slice_index before k) i
+  pub kept : (k i : ℕ) → ((j : ℕ) (updates : ℕ → List ℕ → List Update) → slice_get g.assigns j ≡ Some updates → some_gives (updates phase after) k i ≡ false) → some_gives (g.outputs (shown (plain nets) g.netlist)) k i ≡ false → bit_of (slice_index after k) i ≡ bit_of (slice_index before k) i
 
 -- What a simulation is at between two phases: the number of the next phase, the values of signals, the design's
 -- registers and what stands at each D, the `initial` processes, where `$random` stands, and the text so far.
@@ -95,9 +96,9 @@ pub record State : Type 0 where
   pub words : Lcg
   pub text : List ℕ
 
--- the active part of the next phase
+-- the active part of the next phase, with the text that it prints
 abbrev pub active_part : Setting → State → Ran (List Suspended)
-active_part g s = active (g.meaning s.phase) (event_of_phase s.phase) g.always s.initial (record { widths = g.widths; store = g.clocked s.phase s.store; words = s.words; updates = []; text = s.text })
+active_part g s = active (g.meaning s.phase) (event_of_phase s.phase) g.always s.initial (record { widths = g.widths; store = g.clocked s.phase s.store; words = s.words; updates = []; text = [] })
 
 -- registers take what stood at their D where the clock rises
 abbrev pub after_edge : Event → List ℕ → List ℕ → List ℕ
@@ -111,20 +112,25 @@ pub record IsEnd (g : Setting) (s : State) (initial : List Suspended) (w : World
   pub phase : t.phase ≡ s.phase + 1
   pub initial_is : t.initial ≡ initial
   pub words : t.words ≡ w.words
-  pub text : t.text ≡ w.text
+  pub text : t.text ≡ s.text ++ w.text
   pub registers : t.registers ≡ after_edge (event_of_phase s.phase) s.registers s.next
-  pub settles : Settles g t.registers (all_applied w.store w.updates) t.store t.next
+  pub settles : Settles g s.phase t.registers (all_applied w.store w.updates) t.store t.next
 
--- how a phase ends
+-- How a phase ends: the processes wait, `$finish` was reached, or a statement was due and none was left.
 pub data Ending : Type 0 where
   Going : Ending
   Finish : Ending
   Limit : Ending
 
+abbrev pub ending_of : PhaseEnd → Ending
+ending_of e.Going = Going
+ending_of e.Finished = Finish
+ending_of e.TooLong = Limit
+
 abbrev pub IsPhaseOf : Setting → State → Ran (List Suspended) → Ending → State → Type 0
 IsPhaseOf g s (Pauses left ps w) Going t = IsEnd g s ps w t
-IsPhaseOf g s (Finished w) Finish t = t ≡ record s { text = w.text }
-IsPhaseOf g s (TooLong w) Limit t = t ≡ record s { text = w.text }
+IsPhaseOf g s (Finished w) Finish t = t ≡ record s { text = s.text ++ w.text }
+IsPhaseOf g s (TooLong w) Limit t = t ≡ record s { text = s.text ++ w.text }
 IsPhaseOf g s ran ending t = ⊥
 
 -- a phase
