@@ -1,0 +1,6 @@
+use Rattle.std.proofs.Common.{◌≡◌, drop}
+use Rattle.tb_items.specs.Items.{first_region}
+use Rattle.tb_items.proofs.region.first_region.Given as goal
+
+abbrev pub invariant-loop-item : goal.invariant-loop-item
+invariant-loop-item l = first_region (drop l.item-index l.items) ≡ first_region l.items
