@@ -1,0 +1,18 @@
+use Rattle.std.proofs.Common.{List, map, take, add-one, arith, subst, ◌∙◌, ap, sym}
+use Rattle.std.specs.List.{flat_map}
+use Rattle.std.specs.Prelude.{option_copied}
+use Rattle.std.proofs.lemmas.Grind.{flat_map-append}
+use Rattle.vlog_meaning.specs.Scopes.{names_of}
+use Rattle.vlog_effects.specs.LeftSides.{Part, parts_of, concatenated}
+use Rattle.elab_proc.proofs.Lists.{parts_take}
+use Rattle.tb_faults.specs.declared.fault.BenchFault.{BenchFault}
+use Rattle.tb_faults.specs.Order.{IsFirst}
+use Rattle.tb_checks.specs.Lefts.{part_faults}
+use Rattle.tb_checks.proofs.lefts.+names.Goals as goal
+
+pub all_names_fault-loop-part-preserved : goal.all_names_fault-loop-part-preserved
+all_names_fault-loop-part-preserved t c =
+    let g : Part → List BenchFault = part_faults (names_of c.args.scope.now) (option_copied c.args.clock) in
+    let ps : List Part = concatenated (map parts_of (take c.loop-part.part-index c.args.parts.now)) in
+    let more = ap (flat_map g) (parts_take c.args.parts.now c.loop-part.part-index c.part-item.result c.part-item.is (omega arith)) ∙ flat_map-append g ps (parts_of c.part-item.result) in
+    rw add-one (subst (λ (l : List BenchFault). IsFirst l c.earlier-found.result) (sym more) (c.earlier-found.ensures.joined (flat_map g ps) (flat_map g (parts_of c.part-item.result)) c.loop-part.invariant c.names_fault.ensures))

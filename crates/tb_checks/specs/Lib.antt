@@ -1,0 +1,6 @@
+pub mod Expressions
+pub mod Lefts
+pub mod Nets
+pub mod Statements
+pub mod Processes
+pub mod Views
