@@ -1,0 +1,6 @@
+mod Last
+mod Stages
+mod Reading
+mod Staged
+mod Trails
+mod Chains

@@ -1,0 +1,10 @@
+use Rattle.std.proofs.Common.{◌+◌, length, map}
+use Rattle.net_order.specs.Listing.{none_left}
+use Rattle.net_order.specs.Reaching.{trail_of, unfound, IsTrail}
+use Rattle.net_order.proofs.loops.is_on_loop.Given as goal
+
+abbrev pub invariant-loop-next : goal.invariant-loop-next
+invariant-loop-next l = IsTrail (map (λ v. v.items) l.reads) l.node (trail_of l.search) none_left
+
+abbrev pub decreases-loop-next : goal.decreases-loop-next
+decreases-loop-next l = length l.search.open_nodes.items + unfound l.search.found.items
