@@ -1,0 +1,7 @@
+mod Bits
+mod Opens
+mod Signals
+mod Tables
+mod Sharing
+mod Graphs
+mod Answering

@@ -1,0 +1,6 @@
+use Rattle.std.proofs.Common.{arith}
+use Rattle.vlog_meaning.proofs.Powers.{power_fits}
+use Rattle.tb_nets.proofs.lefts.below.Goals as goal
+
+pub pow-requires : goal.pow-requires
+pow-requires c = power_fits c.from.result (omega arith)

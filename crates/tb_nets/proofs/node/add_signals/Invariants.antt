@@ -1,0 +1,7 @@
+use Rattle.std.proofs.Common.{◌≡◌, ℕ, ◌||◌, take}
+use Rattle.signal_masks.specs.Masks.{bits_in}
+use Rattle.tb_nets.specs.Nets.{signal_bits}
+use Rattle.tb_nets.proofs.node.add_signals.Given as goal
+
+abbrev pub invariant-loop-number : goal.invariant-loop-number
+invariant-loop-number l = (n i : ℕ) → bits_in l.masks n i ≡ (bits_in l.fn.masks n i || signal_bits (take l.number-index l.numbers) n i)

@@ -1,0 +1,6 @@
+use Rattle.std.proofs.Common.{◌≡◌, ◌++◌, drop}
+use Rattle.tb_nets.specs.Writers.{sharing}
+use Rattle.tb_nets.proofs.table.Writers.find.Given as goal
+
+abbrev pub invariant-loop-writer : goal.invariant-loop-writer
+invariant-loop-writer l = l.found.items ++ sharing l.mask.bits (drop l.writer-index l.writer-items) ≡ l.initial.found.items ++ sharing l.mask.bits l.writer-items

@@ -1,0 +1,6 @@
+use Rattle.std.proofs.Common.{◌≡◌, ◌++◌, drop}
+use Rattle.tb_nets.specs.Writers.{rows_of, all_sharing}
+use Rattle.tb_nets.proofs.table.Writers.of.Given as goal
+
+abbrev pub invariant-loop-mask : goal.invariant-loop-mask
+invariant-loop-mask l = l.found.items ++ all_sharing (rows_of l.self) (drop l.mask-index l.masks) ≡ all_sharing (rows_of l.self) l.masks

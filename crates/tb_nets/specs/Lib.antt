@@ -1,0 +1,4 @@
+pub mod Lefts
+pub mod Nets
+pub mod Writers
+pub mod Netted
