@@ -1,0 +1,12 @@
+use Rattle.std.proofs.Common.{◌≡◌}
+use Rattle.tb_machine.specs.Phases.{Setting, State}
+use Rattle.tb_turns.specs.Reached.{IsAt}
+use Rattle.tb_turns.proofs.running.run_to.Given as goal
+
+abbrev pub invariant-loop-phase : goal.invariant-loop-phase
+invariant-loop-phase g l = record {
+  at : (setting : Setting) (start : State) → IsAt setting (g.R.Phases.stands l.fn.run setting) (g.L.Listener.heard l.fn.listener) start l.fn.from → IsAt setting (g.R.Phases.stands l.run setting) (g.L.Listener.heard l.listener) start l._phase;
+  going : g.R.Phases.is_going l.run;
+  phases : g.R.Phases.phases l.run ≡ l._phase;
+  same : g.L.Listener.listens_for l.listener ≡ g.L.Listener.listens_for l.fn.listener;
+}

@@ -1,0 +1,42 @@
+//! A run of a simulation, phase by phase.
+ghost use Rattle.std.specs.Prelude.{◌≡◌, ◌<◌, ◌+◌, ◌-◌, ◌^◌, ◌++◌, ℕ, IfOk, List};
+ghost use Rattle.tb_machine.specs.Phases.{Setting, State, IsPhase};
+ghost use Rattle.tb_turns.specs.Ends.{ending_of, IfGoing};
+
+use std::alloc::AllocError;
+
+/// How a phase ends.
+#[derive(Clone, Copy, Debug, PartialEq, Eq)]
+pub enum PhaseEnd {
+    /// Its processes wait, and all has settled.
+    Going,
+    /// `$finish` was reached.
+    Finished,
+    /// A statement was due in it, and none was left.
+    TooLong,
+}
+
+/// What simulates a bench with a design.
+pub trait Phases {
+    // it stands at this state of a simulation in this setting
+    ghost stands: { Self → Setting → State → Type 0 };
+
+    // how many phases went on so far, and that none was the last one
+    ghost phases: { Self → ℕ };
+
+    ghost is_going: { Self → Type 0 };
+
+    // what the last phase printed
+    ghost printed: { Self → List ℕ };
+
+    /// Simulates the next phase. After an error, want of memory, it is only to be dropped.
+    fn phase(&mut self) -> Result<PhaseEnd, AllocError>
+        requires going { is_going self.old }
+        requires few { phases self.old < 2 ^ 64 - 1 }
+        ensures phase { (g : Setting) (s : State) → stands self.old g s → IfOk result (λ e. (t : State) × IsPhase g s (ending_of e) t × IfGoing e (stands self.new g t) × (t.text ≡ s.text ++ printed self.new)) }
+        ensures going { IfOk result (λ e. IfGoing e (is_going self.new × (phases self.new ≡ phases self.old + 1))) };
+
+    /// What the last phase printed.
+    fn printed(&self) -> &[u8]
+        ensures { result.now ≡ printed self.now };
+}
