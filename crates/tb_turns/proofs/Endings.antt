@@ -1,13 +1,13 @@
 -- How a simulation comes further, and what it comes to.
 use Rattle.std.proofs.Common.{◌≡◌, ℕ, suc, ◌+◌, ◌-◌, ◌<◌, ◌≤◌, inl, inr, true, false, List, [], ◌∷◌, refl, sym, subst, add-one, arith}
-use Rattle.tb_machine.specs.Phases.{Setting, State, Ending, Finish, Limit, IsPhase}
+use Rattle.tb_machine.specs.Phases.{Setting, State, Ending, Finish, Limit, IsPhase, ending_of}
 use Rattle.tb_machine.specs.Simulations.{Outcome, outcome, Reaches, IsSimulation, phases_of}
 use Rattle.tb_machine.specs.Laws.{InPieces, OneMore}
-use Rattle.tb_turns.specs.declared.phases.PhaseEnd.{PhaseEnd}
-use Rattle.tb_turns.specs.declared.phases.PhaseEnd.TheVariants as e
+use Rattle.tb_machine.specs.declared.phase_end.PhaseEnd.{PhaseEnd}
+use Rattle.tb_machine.specs.declared.phase_end.PhaseEnd.TheVariants as e
 use Rattle.tb_turns.specs.declared.verdict.SimVerdict.{SimVerdict}
 use Rattle.tb_turns.specs.declared.verdict.SimVerdict.TheVariants as v
-use Rattle.tb_turns.specs.Ends.{ending_of, finishes, IfGoing}
+use Rattle.tb_turns.specs.Ends.{finishes, IfGoing}
 use Rattle.tb_turns.specs.Verdicts.{IsWord, IsVerdict}
 use Rattle.tb_turns.specs.Reached.{IsAt, IsLast, IsRunTo, HasEnded}
 

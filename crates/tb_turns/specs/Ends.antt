@@ -1,13 +1,7 @@
--- How a phase ends, as a run tells it.
+-- How phases end.
 use Rattle.std.specs.Prelude.{Bool, true, false}
-use Rattle.tb_machine.specs.Phases.{Ending, Going, Finish, Limit}
-use Rattle.tb_turns.specs.declared.phases.PhaseEnd.{PhaseEnd}
-use Rattle.tb_turns.specs.declared.phases.PhaseEnd.TheVariants as e
-
-abbrev pub ending_of : PhaseEnd → Ending
-ending_of e.Going = Going
-ending_of e.Finished = Finish
-ending_of e.TooLong = Limit
+use Rattle.tb_machine.specs.declared.phase_end.PhaseEnd.{PhaseEnd}
+use Rattle.tb_machine.specs.declared.phase_end.PhaseEnd.TheVariants as e
 
 -- whether `$finish` was reached
 abbrev pub finishes : PhaseEnd → Bool

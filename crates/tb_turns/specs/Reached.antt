@@ -2,8 +2,8 @@
 use Rattle.std.specs.Prelude.{◌≡◌, ℕ, ◌+◌, ◌*◌, ◌<◌, ◌≤◌, ◌⊎◌, max, List}
 use Rattle.tb_machine.specs.Phases.{Setting, State, Ending, Finish, Limit, IsPhase}
 use Rattle.tb_machine.specs.Simulations.{Reaches, phases_of}
-use Rattle.tb_turns.specs.declared.phases.PhaseEnd.{PhaseEnd}
-use Rattle.tb_turns.specs.declared.phases.PhaseEnd.TheVariants as e
+use Rattle.tb_machine.specs.declared.phase_end.PhaseEnd.{PhaseEnd}
+use Rattle.tb_machine.specs.declared.phase_end.PhaseEnd.TheVariants as e
 
 -- So many phases went on: where a run stands now, and that what they printed was heard.
 pub record IsAt (g : Setting) (stands : State → Type 0) (heard : List ℕ → Type 0) (start : State) (phases : ℕ) : Type 0 where

@@ -11,7 +11,7 @@ mod verdict;
 
 pub use laws::one_verdict;
 pub use listener::Listener;
-pub use phases::{PhaseEnd, Phases};
+pub use phases::Phases;
 pub use transcript::{Transcript, transcript_of};
 pub use turns::Turns;
 pub use verdict::SimVerdict;

@@ -1,20 +1,10 @@
 //! A run of a simulation, phase by phase.
 ghost use Rattle.std.specs.Prelude.{◌≡◌, ◌<◌, ◌+◌, ◌-◌, ◌^◌, ◌++◌, ℕ, IfOk, List};
-ghost use Rattle.tb_machine.specs.Phases.{Setting, State, IsPhase};
-ghost use Rattle.tb_turns.specs.Ends.{ending_of, IfGoing};
+ghost use Rattle.tb_machine.specs.Phases.{Setting, State, IsPhase, ending_of};
+ghost use Rattle.tb_turns.specs.Ends.{IfGoing};
 
 use std::alloc::AllocError;
-
-/// How a phase ends.
-#[derive(Clone, Copy, Debug, PartialEq, Eq)]
-pub enum PhaseEnd {
-    /// Its processes wait, and all has settled.
-    Going,
-    /// `$finish` was reached.
-    Finished,
-    /// A statement was due in it, and none was left.
-    TooLong,
-}
+use tb_machine::PhaseEnd;
 
 /// What simulates a bench with a design.
 pub trait Phases {

@@ -5,9 +5,9 @@ ghost use Rattle.tb_turns.specs.Ends.{IfGoing};
 ghost use Rattle.tb_turns.specs.Reached.{IsAt, IsRunTo};
 
 use crate::listener::Listener;
-use crate::phases::{PhaseEnd, Phases};
+use crate::phases::Phases;
 use std::alloc::AllocError;
-use tb_machine::simulations_go_on;
+use tb_machine::{PhaseEnd, simulations_go_on};
 
 /// Simulates one phase, and has its text heard.
 fn phase_heard<R: Phases, L: Listener>(

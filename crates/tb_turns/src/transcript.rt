@@ -4,11 +4,11 @@ ghost use Rattle.tb_machine.specs.Phases.{Setting, State};
 ghost use Rattle.tb_machine.specs.Simulations.{IsSimulation, outcome, phases_of};
 ghost use Rattle.tb_turns.specs.Ends.{finishes};
 
-use crate::phases::{PhaseEnd, Phases};
+use crate::phases::Phases;
 use crate::running::run_to;
 use mcy_base::Bytes;
 use std::alloc::{AllocError, Global};
-use tb_machine::simulations_go_on;
+use tb_machine::{PhaseEnd, simulations_go_on};
 
 /// What a simulation prints, and whether it reaches `$finish`.
 #[derive(Drop)]

@@ -8,11 +8,11 @@ ghost use Rattle.tb_turns.specs.Reached.{IsAt, IsOpen, MeetsEnd, phases_after};
 ghost use Rattle.tb_turns.specs.Verdicts.{IsVerdict};
 ghost use Rattle.tb_watch.specs.Searches.{HasWatched};
 
-use crate::phases::{PhaseEnd, Phases};
+use crate::phases::Phases;
 use crate::running::run_to;
 use crate::verdict::{SimVerdict, finished};
 use std::alloc::{AllocError, Global};
-use tb_machine::simulations_go_on;
+use tb_machine::{PhaseEnd, simulations_go_on};
 use tb_watch::Watch;
 
 /// A run, what was seen of its text, the limit of cycles, and how many phases went on.
