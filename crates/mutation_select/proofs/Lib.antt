@@ -4,3 +4,4 @@ mod Order
 mod Firsts
 mod Ranks
 mod Numbered
+pub mod Within

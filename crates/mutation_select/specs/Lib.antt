@@ -1,3 +1,4 @@
 pub mod Draws
 pub mod Selection
 pub mod Walks
+pub mod Laws

@@ -1,30 +1,45 @@
--- The number of mutations that a project asks for.
+-- The number of mutations that a project asks for, and that of the lemmas that it gives an equivalence test.
 use Rattle.std.proofs.Common.{◌≡◌, ℕ, ◌≤◌, Bool, true, false, ◌&&◌, if◌then◌else◌, List, nat_le, refl, sym, subst, arith}
 use Rattle.std.proofs.lemmas.Bool.Decides.{nat_tests}
 use Rattle.std.specs.Str.Lines.{lines}
 use Rattle.project_file.specs.declared.project.Project.{Project}
 use Rattle.project_file.specs.Numbers.{is_number, is_within, value, value_within}
-use Rattle.project_file.specs.Options.{number_in, size_in}
+use Rattle.project_file.specs.Options.{conflicts_in, number_in, size_in}
 use Rattle.project_file.specs.Projects.{IsProject, project_of}
 use Rattle.project_file.specs.Sections.{Part, parts_of}
 
-below_both : (a b c : Bool) (v most default : ℕ) → c ≡ nat_le v most → default ≤ most → (if a && (b && c) then v else default) ≤ most
-below_both true true true v most default is few = grind (arith, nat_tests)
-below_both true true false v most default is few = few
-below_both true false c v most default is few = few
-below_both false b c v most default is few = few
+-- a number is in a range
+abbrev IsFrom : (least most number : ℕ) → Type 0
+IsFrom least most number = (least ≤ number) × (number ≤ most)
 
-value_most : (default least most : ℕ) (word : List ℕ) → default ≤ most → value_within default least most word ≤ most
+from_both : (a b c : Bool) (v default least most : ℕ) → b ≡ nat_le least v → c ≡ nat_le v most → IsFrom least most default → IsFrom least most (if a && (b && c) then v else default)
+from_both true true true v default least most low high is = (grind (arith, nat_tests), grind (arith, nat_tests))
+from_both true true false v default least most low high is = is
+from_both true false c v default least most low high is = is
+from_both false b c v default least most low high is = is
+
+value_from : (default least most : ℕ) (word : List ℕ) → IsFrom least most default → IsFrom least most (value_within default least most word)
 unfolding value_within is_within
-value_most default least most word few = below_both (is_number word) (nat_le least (value word)) (nat_le (value word) most) (value word) most default refl few
+value_from default least most word is = from_both (is_number word) (nat_le least (value word)) (nat_le (value word) most) (value word) default least most refl refl is
 
-size_most : (all : List (List ℕ)) → size_in all ≤ 10000
+size_from : (all : List (List ℕ)) → IsFrom 1 10000 (size_in all)
 unfolding number_in
-size_most all = value_most 20 1 10000 _ (omega arith)
+size_from all = value_from 20 1 10000 _ (omega arith, omega arith)
 
-project_most : (parts : List Part) → (project_of parts).size ≤ 10000
+conflicts_from : (all : List (List ℕ)) → IsFrom 1 100000 (conflicts_in all)
+unfolding number_in
+conflicts_from all = value_from 20000 1 100000 _ (omega arith, omega arith)
+
+project_size : (parts : List Part) → IsFrom 1 10000 (project_of parts).size
 unfolding project_of
-project_most parts = size_most _
+project_size parts = size_from _
+
+project_conflicts : (parts : List Part) → IsFrom 1 100000 (project_of parts).conflicts
+unfolding project_of
+project_conflicts parts = conflicts_from _
 
 pub size_within : (bytes : List ℕ) (project : Project) → IsProject bytes project → project.size ≤ 10000
-size_within bytes project is = subst (λ (p : Project). p.size ≤ 10000) (sym is.says) (project_most (parts_of 1 (lines bytes)))
+size_within bytes project is = subst (λ (p : Project). p.size ≤ 10000) (sym is.says) (project_size (parts_of 1 (lines bytes))).1
+
+pub conflicts_within : (bytes : List ℕ) (project : Project) → IsProject bytes project → IsFrom 1 100000 project.conflicts
+conflicts_within bytes project is = subst (λ (p : Project). IsFrom 1 100000 p.conflicts) (sym is.says) (project_conflicts (parts_of 1 (lines bytes)))

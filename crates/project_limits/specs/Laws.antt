@@ -11,6 +11,10 @@ FilesAreFew = (bytes : List ℕ) (project : Project) → IsProject bytes project
 abbrev pub SizesAreWithin : Type 0
 SizesAreWithin = (bytes : List ℕ) (project : Project) → IsProject bytes project → project.size ≤ 10000
 
+-- gives an equivalence test 1 to 100,000 lemmas,
+abbrev pub ConflictsAreWithin : Type 0
+ConflictsAreWithin = (bytes : List ℕ) (project : Project) → IsProject bytes project → (1 ≤ project.conflicts) × (project.conflicts ≤ 100000)
+
 -- has at most 16 tests,
 abbrev pub TestsAreFew : Type 0
 TestsAreFew = (bytes : List ℕ) (project : Project) → IsProject bytes project → length project.tests ≤ 16
