@@ -1,0 +1,70 @@
+//! A keeper over another one, and the watcher of both.
+//!
+//! What is kept is what the keeper below keeps: the watcher is told of a book or a row once it is there, and plays no part in any
+//! clause.
+use mcy_base::BytesList;
+use mcy_keeper::{Book, Entry, KeepError, Keeper};
+
+/// Who is told what a keeper keeps.
+pub trait Watcher {
+    /// This book was loaded.
+    fn loaded(&mut self, book: &Book);
+
+    /// A book with these mutations was begun.
+    fn begun(&mut self, mutations: &BytesList);
+
+    /// This row was added.
+    fn added(&mut self, entry: &Entry);
+}
+
+/// A keeper whose watcher is told what it keeps.
+pub struct WatchedKeeper<K: Keeper, W: Watcher> {
+    pub keeper: K,
+    pub watcher: W,
+}
+
+impl<K: Keeper, W: Watcher> Keeper for WatchedKeeper<K, W> {
+    ghost tells = { λ k. K.tells k.keeper };
+
+    ghost holds = { λ k. K.holds k.keeper };
+
+    ghost leaves = { λ k. K.leaves k.keeper };
+
+    ghost is_settled = { λ k. K.is_settled k.keeper };
+
+    ghost faults = { λ k. K.faults k.keeper };
+
+    ghost one = { λ k. K.one k.keeper };
+
+    ghost told = { λ k. K.told k.keeper };
+
+    ghost survives = { λ k. K.survives k.keeper };
+
+    fn load(&mut self) -> Result<Book, KeepError> {
+        let loaded = self.keeper.load();
+        if let Ok(book) = &loaded {
+            self.watcher.loaded(book);
+        }
+        loaded
+    }
+
+    fn begin(&mut self, meta: &BytesList, mutations: &BytesList) -> Result<(), KeepError> {
+        let written = self.keeper.begin(meta, mutations);
+        if written.is_ok() {
+            self.watcher.begun(mutations);
+        }
+        written
+    }
+
+    fn append(&mut self, entry: &Entry) -> Result<(), KeepError> {
+        let written = self.keeper.append(entry);
+        if written.is_ok() {
+            self.watcher.added(entry);
+        }
+        written
+    }
+
+    fn settled(&self) -> bool {
+        self.keeper.settled()
+    }
+}
