@@ -1,0 +1,152 @@
+-- What a part of a left side writes.
+use Rattle.std.proofs.Common.{◌≡◌, ℕ, Bool, true, false, ◌&&◌, ◌||◌, nat_eq, List, [], ◌∷◌, map, refl, sym, ap, ◌∙◌, subst, arith}
+use Rattle.std.proofs.Math.Path.{fun_ext}
+use Rattle.std.proofs.lemmas.Bool.Decides.{nat_tests}
+use Rattle.std.specs.Prelude.{Option, Some, None, option_to_list, if◌then◌else◌}
+use Rattle.mcy_base.specs.declared.span.Span.{Span}
+use Rattle.vlog_syntax.specs.declared.expr.Expr.{Expr}
+use Rattle.vlog_syntax.specs.declared.identifier.Identifier.{Identifier}
+use Rattle.vlog_syntax.specs.declared.left_side.LeftSide.{LeftSide}
+use Rattle.vlog_syntax.specs.declared.left_side.LeftSide.TheVariants as lv
+use Rattle.vlog_meaning.specs.declared.fault.Cause.TheVariants.{NotConstant}
+use Rattle.vlog_meaning.specs.declared.fault.Fault.{Fault}
+use Rattle.vlog_meaning.specs.Answers.{least, least_at}
+use Rattle.vlog_meaning.specs.declared.scope.Decl.{Decl}
+use Rattle.vlog_meaning.specs.declared.scope.Decl.TheVariants.{Signal}
+use Rattle.vlog_meaning.specs.Scopes.{Names}
+use Rattle.vlog_meaning.specs.Senses.{Bits, no_bits, either, sense, fault, is_empty}
+use Rattle.vlog_meaning.proofs.Firsts.{least_none}
+use Rattle.vlog_meaning.proofs.Refusals.{least_empty}
+use Rattle.vlog_effects.specs.Latches.{is_fixed, stands_in, part_covers, parts_cover}
+use Rattle.vlog_effects.specs.LeftSides.{Whole, Part, Vector, vector_of, part_vector, parts_of, places}
+use Rattle.vlog_effects.proofs.Folds.{parts-name}
+use Rattle.elab_proc.specs.Refusals.{AreSized, same_form}
+use Rattle.signal_masks.specs.Masks.{has_bit}
+use Rattle.signal_masks.specs.Parts.{AreFit}
+use Rattle.process_latches.specs.Marking.{IsPart}
+use Rattle.process_latches.proofs.Fitting.{fit_part}
+use Rattle.tb_faults.specs.declared.fault.BenchFault.{BenchFault}
+use Rattle.tb_faults.specs.Order.{IsFirst}
+use Rattle.tb_faults.proofs.Firsts.{first_alone}
+use Rattle.tb_writers.specs.Writes.{is_told, whole_name, written_part, part_writes, some_below, meet_at}
+use Rattle.tb_writers.specs.declared.writers.Writer.{Writer}
+use Rattle.tb_writers.specs.declared.writers.Writer.TheVariants.{Net, Process}
+use Rattle.tb_writers.specs.Writers.{Written, taken, with_bits, with_part, fault_where, part_faults}
+use Rattle.tb_writers.specs.Views.{mask_bits}
+
+off : (a : Bool) → (a || false) ≡ a
+off true = refl
+off false = refl
+
+pub add_none : (b : Bits) → either b no_bits ≡ b
+add_none b = fun_ext (λ n. fun_ext (λ i. off (b n i)))
+
+one_covers : (names : Names) (p : Part) → parts_cover names (p ∷ []) ≡ part_covers names p (part_vector names p)
+one_covers names p = add_none (part_covers names p (part_vector names p))
+
+no_faults : (fs : List Fault) → is_empty fs ≡ true → fs ≡ []
+no_faults [] e = refl
+no_faults (f ∷ more) e = absurd cc
+
+second_true : (a b : Bool) → (a && b) ≡ true → b ≡ true
+second_true true b e = e
+second_true false b e = absurd cc
+
+-- Tests that look for a first fault.
+
+pub without_fault : (fs : List Fault) (o : Option Fault) → o ≡ least fs → o ≡ None → true ≡ is_empty fs
+without_fault fs o is none = ap is_empty (sym (least_none fs (sym is ∙ none)))
+
+pub with_fault : (fs : List Fault) (o : Option Fault) (f : Fault) → o ≡ least fs → o ≡ Some f → false ≡ is_empty fs
+with_fault [] o f is some = let none : None ≡ Some f = least_empty ∙ sym is ∙ some in absurd cc
+with_fault (x ∷ more) o f is some = refl
+
+same_emptiness : (xs : List Span) → is_empty (map (fault NotConstant) xs) ≡ is_empty xs
+same_emptiness [] = refl
+same_emptiness (x ∷ xs) = refl
+
+pub reads_none : (xs : List Span) (o : Option Fault) → o ≡ least_at NotConstant xs → o ≡ None → true ≡ is_empty xs
+reads_none xs o is none = without_fault (map (fault NotConstant) xs) o is none ∙ same_emptiness xs
+
+pub reads_some : (xs : List Span) (o : Option Fault) (f : Fault) → o ≡ least_at NotConstant xs → o ≡ Some f → false ≡ is_empty xs
+reads_some xs o f is some = with_fault (map (fault NotConstant) xs) o f is some ∙ same_emptiness xs
+
+-- a part that can be told has a shape
+pub told_fits : (names : Names) (left : LeftSide) (n : Identifier) (p : Part) (b : Bool) → AreSized names → IsPart left n p → (b && is_empty (sense names (same_form left)).faults) ≡ true → AreFit names (parts_of left)
+told_fits names left n p b sized is e = fit_part names left n p sized is (no_faults (sense names (same_form left)).faults (second_true b _ e))
+
+abbrev chosen : Names → Part → Bool → Bits
+chosen names p b = part_covers names (if b then p else whole_name p) (part_vector names p)
+
+tells : (names : Names) (left : LeftSide) (n : Identifier) (p : Part) (b : Bool) → IsPart left n p → b ≡ is_fixed names p.select → (b && is_empty (sense names (same_form left)).faults) ≡ is_told names p
+tells names left n p b is e = ap (λ (c : Bool). c && is_empty (sense names (same_form left)).faults) e ∙ ap (λ (x : Expr). is_fixed names p.select && is_empty (sense names x).faults) is.form
+
+-- it writes what it covers
+pub writes_itself : (names : Names) (left : LeftSide) (n : Identifier) (p : Part) (b : Bool) (bits : Bits) → IsPart left n p → b ≡ is_fixed names p.select → (b && is_empty (sense names (same_form left)).faults) ≡ true → bits ≡ parts_cover names (parts_of left) → bits ≡ part_writes names p
+writes_itself names left n p b bits is e told covers =
+    covers ∙ ap (parts_cover names) is.parts ∙ one_covers names p ∙ ap (chosen names p) (sym told ∙ tells names left n p b is e)
+
+-- another one its whole name
+pub writes_name : (names : Names) (left : LeftSide) (n : Identifier) (p : Part) (b : Bool) (bits : Bits) → IsPart left n p → b ≡ is_fixed names p.select → (b && is_empty (sense names (same_form left)).faults) ≡ false → bits ≡ parts_cover names (parts_of (lv.Name n)) → bits ≡ part_writes names p
+writes_name names left n p b bits is e told covers =
+    let whole : Identifier → Part = λ k. record { name = k; select = Whole } in
+    covers ∙ ap (parts_cover names) (parts-name n) ∙ ap (λ (k : Identifier). parts_cover names (whole k ∷ [])) (sym is.name_is) ∙ one_covers names (whole_name p) ∙ ap (chosen names p) (sym told ∙ tells names left n p b is e)
+
+-- Bits of one signal.
+
+off_and : (a b c : Bool) → a ≡ b → (a && c) ≡ (b && c)
+off_and a b c e = ap (λ (x : Bool). x && c) e
+
+same_number : (k : ℕ) → nat_eq k k ≡ true
+same_number k = grind (arith, nat_tests)
+
+own_bits : (names : Names) (q : Part) (v : Vector) (bits n i : ℕ) → has_bit bits i ≡ part_covers names q (Some v) v.number i → mask_bits v.number bits n i ≡ part_covers names q (Some v) n i
+own_bits names q v bits n i e =
+    let x : Bool = is_fixed names q.select && stands_in (places names (λ m. 0) v q.select) i in
+    let here : has_bit bits i ≡ x = e ∙ ap (λ (b : Bool). b && x) (same_number v.number) in
+    ap (λ (b : Bool). nat_eq n v.number && b) here
+
+-- the mask that a part has among masks
+pub mask_writes : (names : Names) (p : Part) (v : Vector) (bits : ℕ) (masks : Bits) → part_vector names p ≡ Some v → ((i : ℕ) → has_bit bits i ≡ masks v.number i) → masks ≡ part_writes names p → mask_bits v.number bits ≡ part_writes names p
+mask_writes names p v bits masks is has same =
+    let of_vector : Option Vector → Bits = part_covers names (written_part names p) in
+    let each : (i : ℕ) → has_bit bits i ≡ of_vector (Some v) v.number i = λ i. has i ∙ ap (λ (b : Bits). b v.number i) same ∙ ap (λ (o : Option Vector). of_vector o v.number i) is in
+    fun_ext (λ n. fun_ext (λ i. own_bits names (written_part names p) v bits n i (each i))) ∙ sym (ap of_vector is)
+
+pub writes_none : (names : Names) (p : Part) → part_vector names p ≡ None → part_writes names p ≡ no_bits
+writes_none names p is = ap (part_covers names (written_part names p)) is
+
+pub with_none : (kind : Writer) (w : Written) → with_bits kind w no_bits ≡ w
+with_none Net w = ap (λ (b : Bits). record w { nets = b }) (add_none w.nets)
+with_none Process w = ap (λ (b : Bits). record w { variables = b }) (add_none w.variables)
+
+-- What is refused.
+
+first_where : (b : Bool) (at : Span) → IsFirst (option_to_list (fault_where b at)) (fault_where b at)
+first_where false at = refl
+first_where true at = first_alone _
+
+-- a part of a name that is declared as a signal
+
+part_is : (names : Names) (left : LeftSide) (n : Identifier) (p : Part) (s : List ℕ) (o : Option Decl) (width low number : ℕ) (is_signed : Bool) → IsPart left n p → s ≡ n.name → o ≡ names s → o ≡ Some (Signal width low is_signed number) → part_vector names p ≡ Some (record { number = number; width = width; low = low })
+part_is names left n p s o width low number is_signed is same decl some =
+    ap vector_of (ap (λ (k : Identifier). names k.name) is.name_is ∙ ap names (sym same) ∙ sym decl ∙ some)
+
+pub part_written : (names : Names) (kind : Writer) (w new : Written) (left : LeftSide) (n : Identifier) (p : Part) (s : List ℕ) (o : Option Decl) (width low number : ℕ) (is_signed : Bool) (bits : ℕ) (masks : Bits)
+    → IsPart left n p → s ≡ n.name → o ≡ names s → o ≡ Some (Signal width low is_signed number) → ((i : ℕ) → has_bit bits i ≡ masks number i) → masks ≡ part_writes names p
+    → new ≡ with_bits kind w (mask_bits number bits) → new ≡ with_part names kind w p
+part_written names kind w new left n p s o width low number is_signed bits masks is same decl some has writes e =
+    let v : Vector = record { number = number; width = width; low = low } in
+    let vec : part_vector names p ≡ Some v = part_is names left n p s o width low number is_signed is same decl some in
+    e ∙ ap (with_bits kind w) (mask_writes names p v bits masks vec has writes)
+
+pub part_refused : (names : Names) (kind : Writer) (w : Written) (left : LeftSide) (n : Identifier) (p : Part) (s : List ℕ) (o : Option Decl) (width low number : ℕ) (is_signed : Bool) (bits : ℕ) (masks : Bits) (f : Option BenchFault)
+    → IsPart left n p → s ≡ n.name → o ≡ names s → o ≡ Some (Signal width low is_signed number) → ((i : ℕ) → has_bit bits i ≡ masks number i) → masks ≡ part_writes names p
+    → f ≡ fault_where (some_below 128 (λ i. has_bit bits i && taken kind w number i)) n.span → IsFirst (part_faults names kind w p) f
+part_refused names kind w left n p s o width low number is_signed bits masks f is same decl some has writes e =
+    let v : Vector = record { number = number; width = width; low = low } in
+    let vec : part_vector names p ≡ Some v = part_is names left n p s o width low number is_signed is same decl some in
+    let each : (i : ℕ) → (has_bit bits i && taken kind w number i) ≡ (part_writes names p number i && taken kind w number i) = λ i. ap (λ (b : Bool). b && taken kind w number i) (has i ∙ ap (λ (m : Bits). m number i) writes) in
+    let test : some_below 128 (λ i. has_bit bits i && taken kind w number i) ≡ meet_at (part_writes names p) (taken kind w) (part_vector names p) = ap (some_below 128) (fun_ext each) ∙ sym (ap (meet_at (part_writes names p) (taken kind w)) vec) in
+    let told : f ≡ fault_where (meet_at (part_writes names p) (taken kind w) (part_vector names p)) p.name.span = e ∙ ap (λ (b : Bool). fault_where b n.span) test ∙ ap (λ (k : Identifier). fault_where (meet_at (part_writes names p) (taken kind w) (part_vector names p)) k.span) (sym is.name_is) in
+    subst (IsFirst (part_faults names kind w p)) (sym told) (first_where (meet_at (part_writes names p) (taken kind w) (part_vector names p)) p.name.span)

@@ -1,0 +1,128 @@
+-- Masks in a table, and the bits that masks have in common.
+use Rattle.std.proofs.Common.{◌≡◌, zero, suc, ℕ, ◌^◌, ◌<◌, ◌≤◌, min, max, Bool, true, false, not, ◌&&◌, ◌||◌, nat_eq, List, [], ◌∷◌, ◌++◌, length, get_or, set, refl, sym, ap, ◌∙◌, arith}
+use Rattle.std.proofs.Math.Path.{fun_ext}
+use Rattle.std.specs.Int.{bit_at}
+use Rattle.std.specs.Int.Bits.{bit_and, bit_or}
+use Rattle.std.proofs.lemmas.Bool.Decides.{nat_tests}
+use Rattle.std.proofs.lemmas.List.{get_or-set_same, get_or-set_other}
+use Rattle.std.proofs.lemmas.Nat.{and_le_l}
+use Rattle.std.proofs.lemmas.Nat.Bits.{bit_at_and, bit_at_or, bit_at-lt, bit_at-zero, same_from_bits_below}
+use Rattle.vlog_meaning.specs.Senses.{no_bits, either}
+use Rattle.signal_masks.specs.Masks.{has_bit}
+use Rattle.tb_writers.specs.Writes.{some_below}
+use Rattle.tb_writers.specs.Views.{bits_of, mask_bits}
+
+or_test : (x y : ℕ) → x < 2 → y < 2 → nat_eq (max x y) 1 ≡ (nat_eq x 1 || nat_eq y 1)
+or_test zero zero h k = refl
+or_test zero (suc zero) h k = refl
+or_test (suc zero) zero h k = refl
+or_test (suc zero) (suc zero) h k = refl
+or_test zero (suc (suc y)) h k = absurd (omega arith)
+or_test (suc zero) (suc (suc y)) h k = absurd (omega arith)
+or_test (suc (suc x)) y h k = absurd (omega arith)
+
+and_test : (x y : ℕ) → x < 2 → y < 2 → nat_eq (min x y) 1 ≡ (nat_eq x 1 && nat_eq y 1)
+and_test zero zero h k = refl
+and_test zero (suc zero) h k = refl
+and_test (suc zero) zero h k = refl
+and_test (suc zero) (suc zero) h k = refl
+and_test zero (suc (suc y)) h k = absurd (omega arith)
+and_test (suc zero) (suc (suc y)) h k = absurd (omega arith)
+and_test (suc (suc x)) y h k = absurd (omega arith)
+
+pub has_or : (a b i : ℕ) → has_bit (bit_or a b) i ≡ (has_bit a i || has_bit b i)
+has_or a b i = ap (λ (x : ℕ). nat_eq x 1) (bit_at_or a b i) ∙ or_test (bit_at a i) (bit_at b i) (bit_at-lt a i) (bit_at-lt b i)
+
+has_and : (a b i : ℕ) → has_bit (bit_and a b) i ≡ (has_bit a i && has_bit b i)
+has_and a b i = ap (λ (x : ℕ). nat_eq x 1) (bit_at_and a b i) ∙ and_test (bit_at a i) (bit_at b i) (bit_at-lt a i) (bit_at-lt b i)
+
+has_none : (i : ℕ) → has_bit 0 i ≡ false
+has_none i = ap (λ (x : ℕ). nat_eq x 1) (bit_at-zero i)
+
+-- A table.
+
+pub none_at_first : bits_of [] ≡ no_bits
+none_at_first = fun_ext (λ n. fun_ext (λ i. has_none i))
+
+zero_more : (xs : List ℕ) (n : ℕ) → get_or (xs ++ 0 ∷ []) n 0 ≡ get_or xs n 0
+zero_more [] zero = refl
+zero_more [] (suc n) = refl
+zero_more (x ∷ xs) zero = refl
+zero_more (x ∷ xs) (suc n) = zero_more xs n
+
+pub room_more : (xs : List ℕ) → bits_of (xs ++ 0 ∷ []) ≡ bits_of xs
+room_more xs = fun_ext (λ n. fun_ext (λ i. ap (λ (m : ℕ). has_bit m i) (zero_more xs n)))
+
+off : (a : Bool) → a ≡ (a || false)
+off true = refl
+off false = refl
+
+-- a mask that was added to that of a signal
+pub mask_more : (xs : List ℕ) (k v bits : ℕ) → k < length xs → v ≡ bit_or (get_or xs k 0) bits → bits_of (set xs k v) ≡ either (bits_of xs) (mask_bits k bits)
+mask_more xs k v bits h is = fun_ext (λ n. fun_ext (λ i. go n i (nat_eq n k) refl))
+  where
+    go : (n i : ℕ) (b : Bool) → nat_eq n k ≡ b → has_bit (get_or (set xs k v) n 0) i ≡ (has_bit (get_or xs n 0) i || (nat_eq n k && has_bit bits i))
+    go n i true e =
+        let same : n ≡ k = grind (arith, nat_tests) in
+        let here : get_or (set xs k v) n 0 ≡ bit_or (get_or xs n 0) bits = ap (λ (m : ℕ). get_or (set xs k v) m 0) same ∙ get_or-set_same xs k v 0 h ∙ is ∙ ap (λ (m : ℕ). bit_or (get_or xs m 0) bits) (sym same) in
+        ap (λ (m : ℕ). has_bit m i) here ∙ has_or (get_or xs n 0) bits i ∙ ap (λ (b : Bool). has_bit (get_or xs n 0) i || (b && has_bit bits i)) (sym e)
+    go n i false e =
+        let apart : n ≡ k → ⊥ = λ same. grind (arith, nat_tests) in
+        ap (λ (m : ℕ). has_bit m i) (get_or-set_other xs k n v 0 apart) ∙ off (has_bit (get_or xs n 0) i) ∙ ap (λ (b : Bool). has_bit (get_or xs n 0) i || (b && has_bit bits i)) (sym e)
+
+-- Masks that meet.
+
+first_false : (a b : Bool) → (a || b) ≡ false → a ≡ false
+first_false true b e = e
+first_false false b e = refl
+
+second_false : (a b : Bool) → (a || b) ≡ false → b ≡ false
+second_false true b e = absurd cc
+second_false false b e = e
+
+none_below : (n : ℕ) (f : ℕ → Bool) → some_below n f ≡ false → (i : ℕ) → i < n → f i ≡ false
+unfolding some_below
+none_below zero f e i h = absurd (omega arith)
+none_below (suc n) f e i h = go (nat_eq i n) refl (none_below n f (second_false (f n) (some_below n f) e) i)
+  where
+    go : (b : Bool) → nat_eq i n ≡ b → (i < n → f i ≡ false) → f i ≡ false
+    go true is later = let same : i ≡ n = grind (arith, nat_tests) in ap f same ∙ first_false (f n) (some_below n f) e
+    go false is later = later (grind (arith, nat_tests))
+
+some_there : (n : ℕ) (f : ℕ → Bool) → some_below n f ≡ true → (i : ℕ) × (f i ≡ true)
+unfolding some_below
+some_there zero f e = absurd cc
+some_there (suc n) f e = go (f n) refl (some_there n f) e
+  where
+    go : (b : Bool) → f n ≡ b → (some_below n f ≡ true → (i : ℕ) × (f i ≡ true)) → (b || some_below n f) ≡ true → (i : ℕ) × (f i ≡ true)
+    go true is later k = (n, is)
+    go false is later k = later k
+
+no_bit : (x i : ℕ) → has_bit x i ≡ false → bit_at x i ≡ 0
+no_bit x i e = let h : bit_at x i < 2 = bit_at-lt x i in grind (arith, nat_tests)
+
+abbrev both : ℕ → ℕ → ℕ → Bool
+both a b i = has_bit a i && has_bit b i
+
+pub meet_masks : (a b : ℕ) → a < 2 ^ 128 → not (nat_eq (bit_and a b) 0) ≡ some_below 128 (λ i. has_bit a i && has_bit b i)
+meet_masks a b small = go (some_below 128 (both a b)) refl
+  where
+    h : bit_and a b < 2 ^ 128
+    h = let le : bit_and a b ≤ a = and_le_l a b in omega arith
+
+    go : (s : Bool) → some_below 128 (both a b) ≡ s → not (nat_eq (bit_and a b) 0) ≡ some_below 128 (both a b)
+    go false e =
+        let bits : (i : ℕ) → i < 128 → bit_at (bit_and a b) i ≡ bit_at 0 i = λ i k. no_bit (bit_and a b) i (has_and a b i ∙ none_below 128 (both a b) e i k) ∙ sym (bit_at-zero i) in
+        let none : bit_and a b ≡ 0 = same_from_bits_below 128 (bit_and a b) 0 h (omega arith) bits in
+        ap (λ (x : ℕ). not (nat_eq x 0)) none ∙ sym e
+    go true e =
+        let there : (i : ℕ) × (both a b i ≡ true) = some_there 128 (both a b) e in
+        some (nat_eq (bit_and a b) 0) refl there ∙ sym e
+      where
+        some : (z : Bool) → nat_eq (bit_and a b) 0 ≡ z → ((i : ℕ) × (both a b i ≡ true)) → not (nat_eq (bit_and a b) 0) ≡ true
+        some true is there =
+            let zeros : bit_and a b ≡ 0 = grind (arith, nat_tests) in
+            let t : has_bit (bit_and a b) there.0 ≡ true = has_and a b there.0 ∙ there.1 in
+            let f : has_bit (bit_and a b) there.0 ≡ false = ap (λ (x : ℕ). has_bit x there.0) zeros ∙ has_none there.0 in
+            absurd cc
+        some false is there = ap not is

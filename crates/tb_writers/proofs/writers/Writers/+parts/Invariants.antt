@@ -1,0 +1,10 @@
+use Rattle.std.proofs.Common.{◌≡◌, map, take}
+use Rattle.vlog_meaning.specs.Scopes.{names_of}
+use Rattle.vlog_effects.specs.LeftSides.{parts_of, concatenated}
+use Rattle.tb_faults.specs.Order.{IsFirst}
+use Rattle.tb_writers.specs.Views.{written_of}
+use Rattle.tb_writers.specs.Writers.{with_parts, parts_faults}
+use Rattle.tb_writers.proofs.writers.Writers.+parts.Given as goal
+
+abbrev pub invariant-write_joined-loop-left : goal.invariant-write_joined-loop-left
+invariant-write_joined-loop-left l = (written_of l.self ≡ with_parts (names_of l.scope) l.kind (written_of l.initial.self) (concatenated (map parts_of (take l.left-index l.lefts)))) × IsFirst (parts_faults (names_of l.scope) l.kind (written_of l.initial.self) (concatenated (map parts_of (take l.left-index l.lefts)))) l.found

@@ -1,0 +1,4 @@
+pub mod Lefts
+pub mod Writes
+pub mod Writers
+pub mod Views
