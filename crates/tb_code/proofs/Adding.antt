@@ -6,7 +6,8 @@ use Rattle.vlog_syntax.specs.declared.stmt.Stmt.{Stmt}
 use Rattle.tb_machine.specs.declared.node.Node.{Node}
 use Rattle.tb_machine.specs.Nodes.{tree_of, PartsBelow}
 use Rattle.tb_code.specs.Codes.{IsWhole, Holds, Adds, AreCodeOf}
-use Rattle.tb_code.proofs.Trees.{trees-front}
+use Rattle.tb_code.specs.Tests.{Tests, Passes, NodePasses}
+use Rattle.tb_code.proofs.Trees.{trees-front, all-front, all-behind}
 
 pub adds_none : (nodes : List Node) → Adds nodes nodes [] []
 adds_none nodes trees whole = record {
@@ -14,13 +15,14 @@ adds_none nodes trees whole = record {
   whole = rw (append-nil trees) whole;
   stand = refl;
   below = All-nil (λ k. k < length nodes);
+  passing = λ t all. All-nil (Passes t);
 }
 
 pub adds_nothing : (nodes : List Node) (ks : List ℕ) (xs : List Stmt) → ks ≡ [] → xs ≡ [] → Adds nodes nodes ks xs
 adds_nothing nodes ks xs no_numbers no_parts = rw (no_numbers, no_parts) (adds_none nodes)
 
-both-hold : (b c : List Node) (trees one two : List Stmt) (ks ls : List ℕ) (xs ys : List Stmt) → IsWhole b (trees ++ one) → map (tree_of (trees ++ one)) ks ≡ xs → All (λ k. k < length b) ks → IsWhole c (trees ++ one ++ two) → map (tree_of (trees ++ one ++ two)) ls ≡ ys → All (λ k. k < length c) ls → Holds trees c (ks ++ ls) (xs ++ ys)
-both-hold b c trees one two ks ls xs ys whole_b stand_b below_b whole_c stand_c below_c =
+both-hold : (b c : List Node) (trees one two : List Stmt) (ks ls : List ℕ) (xs ys : List Stmt) → IsWhole b (trees ++ one) → map (tree_of (trees ++ one)) ks ≡ xs → All (λ k. k < length b) ks → IsWhole c (trees ++ one ++ two) → map (tree_of (trees ++ one ++ two)) ls ≡ ys → All (λ k. k < length c) ls → ((t : Tests) → All (Passes t) xs → All (Passes t) one) → ((t : Tests) → All (Passes t) ys → All (Passes t) two) → Holds trees c (ks ++ ls) (xs ++ ys)
+both-hold b c trees one two ks ls xs ys whole_b stand_b below_b whole_c stand_c below_c passing_b passing_c =
     let long_b : length (trees ++ one) ≡ length b = whole_b.code.long in
     let long_c : length (trees ++ one ++ two) ≡ length c = whole_c.code.long in
     let longer : length (trees ++ one ++ two) ≡ length (trees ++ one) + length two = length-append (trees ++ one) two in
@@ -32,6 +34,7 @@ both-hold b c trees one two ks ls xs ys whole_b stand_b below_b whole_c stand_c 
       whole = rw (← append_assoc trees one two) whole_c;
       stand = rw (← append_assoc trees one two) all;
       below = All-append (λ k. k < length c) ks ls (All-weaker (λ k. k < length b) (λ k. k < length c) (λ k h. omega arith) ks below_b) below_c;
+      passing = λ t all. All-append (Passes t) one two (passing_b t (all-front (Passes t) xs ys all)) (passing_c t (all-behind (Passes t) xs ys all));
     }
 
 -- one part after the other
@@ -39,7 +42,7 @@ pub adds_both : (a b c : List Node) (ks ls : List ℕ) (xs ys : List Stmt) → A
 adds_both a b c ks ls xs ys first second trees whole =
     let one = first trees whole in
     let two = second (trees ++ one.more) one.whole in
-    both-hold b c trees one.more two.more ks ls xs ys one.whole one.stand one.below two.whole two.stand two.below
+    both-hold b c trees one.more two.more ks ls xs ys one.whole one.stand one.below two.whole two.stand two.below one.passing two.passing
 
 -- one more of a list
 pub adds_next : (a b c : List Node) (ks : List ℕ) (k i : ℕ) (xs : List Stmt) (x : Stmt) → i < length xs → x ≡ get_or xs i x → Adds a b ks (take i xs) → Adds b c (k ∷ []) (x ∷ []) → Adds a c (ks ++ k ∷ []) (take (i + 1) xs)
@@ -58,6 +61,7 @@ pub whole_nil : IsWhole [] []
 whole_nil = record {
   code = record { long = refl; does = λ k node at m rest w. absurd (let wrong : None ≡ Some node = at in cc) };
   closed = All-nil (PartsBelow 0);
+  passing = λ t all. All-nil (NodePasses t);
 }
 
 pub code_of : AreCodeOf

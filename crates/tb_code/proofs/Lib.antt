@@ -1,4 +1,5 @@
 pub mod Trees
+pub mod Passing
 pub mod Agreeing
 pub mod Adding
 pub mod Pushing

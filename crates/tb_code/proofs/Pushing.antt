@@ -1,7 +1,7 @@
 -- One node more, which does what its statement does where its parts stand.
 use Rattle.std.proofs.Common.{◌≡◌, ℕ, ◌+◌, ◌<◌, ◌≤◌, inl, inr, List, [], ◌∷◌, ◌++◌, map, length, Some, slice_get, All, sym, ap, ◌∙◌, arith, append_assoc}
 use Rattle.std.proofs.lemmas.List.{length_push}
-use Rattle.std.proofs.lemmas.List.Elements.{All-nil, All-cons, All-push, All-weaker}
+use Rattle.std.proofs.lemmas.List.Elements.{All-nil, All-cons, All-head, All-push, All-weaker}
 use Rattle.std.proofs.lemmas.Option.{slice_get_within}
 use Rattle.vlog_syntax.specs.declared.stmt.Stmt.{Stmt, out-Stmt}
 use Rattle.tb_machine.specs.declared.node.Node.{Node}
@@ -9,13 +9,17 @@ use Rattle.tb_machine.specs.Worlds.{World}
 use Rattle.tb_machine.specs.Steps.{Meaning, Work, execute}
 use Rattle.tb_machine.specs.Nodes.{Tree, tree_of, node_step, PartsBelow}
 use Rattle.tb_code.specs.Codes.{IsWhole, Holds, Adds, Pushed}
-use Rattle.tb_code.proofs.Trees.{tree-front, tree-last, trees-front, get-push, all-get}
+use Rattle.tb_code.specs.Tests.{Tests, Passes, NodePasses}
+use Rattle.tb_code.proofs.Trees.{tree-front, tree-last, trees-front, get-push, all-get, all-front, all-behind}
 use Rattle.tb_code.proofs.Agreeing.{step_agrees, parts_below}
 
 -- the node does what the statement does, where its numbers are those of the parts
 pub record IsNodeOf (x : Stmt) (node : Node) (numbers : List ℕ) (parts : List Stmt) : Type 0 where
   pub does : (tree : Tree) → map tree numbers ≡ parts → (m : Meaning) (rest : List Work) (w : World) → execute m (out-Stmt x) rest w ≡ node_step m tree node rest w
   pub below : (limit : ℕ) → All (λ k. k < limit) numbers → PartsBelow limit node
+  -- where all in the statement passes tests, so does what the node holds itself, and all in the parts
+  pub own : (t : Tests) → Passes t x → NodePasses t node
+  pub inner : (t : Tests) → Passes t x → All (Passes t) parts
 
 -- what a node did before, it does with one statement more
 old-does : (nodes : List Node) (trees : List Stmt) (x : Stmt) (k : ℕ) (other : Node) → IsWhole nodes trees → slice_get nodes k ≡ Some other → (m : Meaning) (rest : List Work) (w : World) → execute m (out-Stmt (tree_of (trees ++ x ∷ []) k)) rest w ≡ node_step m (tree_of (trees ++ x ∷ [])) other rest w
@@ -54,11 +58,12 @@ whole-push nodes trees x node numbers parts whole is stand below =
       closed = All-push (PartsBelow (length (nodes ++ node ∷ []))) nodes node
           (All-weaker (PartsBelow (length nodes)) (PartsBelow (length (nodes ++ node ∷ []))) (λ other h. parts_below (length nodes) (length (nodes ++ node ∷ [])) wider other h) nodes whole.closed)
           (parts_below (length nodes) (length (nodes ++ node ∷ [])) wider node (is.below (length nodes) below));
+      passing = λ t all. All-push (NodePasses t) nodes node (whole.passing t (all-front (Passes t) trees (x ∷ []) all)) (is.own t (All-head (Passes t) x [] (all-behind (Passes t) trees (x ∷ []) all)));
     }
 
 -- a node behind those of its parts
-push-holds : (b : List Node) (trees more : List Stmt) (x : Stmt) (node : Node) (numbers : List ℕ) (parts : List Stmt) → IsNodeOf x node numbers parts → IsWhole b (trees ++ more) → map (tree_of (trees ++ more)) numbers ≡ parts → All (λ j. j < length b) numbers → Holds trees (b ++ node ∷ []) (length b ∷ []) (x ∷ [])
-push-holds b trees more x node numbers parts is whole stand below =
+push-holds : (b : List Node) (trees more : List Stmt) (x : Stmt) (node : Node) (numbers : List ℕ) (parts : List Stmt) → IsNodeOf x node numbers parts → IsWhole b (trees ++ more) → map (tree_of (trees ++ more)) numbers ≡ parts → All (λ j. j < length b) numbers → ((t : Tests) → All (Passes t) parts → All (Passes t) more) → Holds trees (b ++ node ∷ []) (length b ∷ []) (x ∷ [])
+push-holds b trees more x node numbers parts is whole stand below passing =
     let long : length (trees ++ more) ≡ length b = whole.code.long in
     let longer : length (b ++ node ∷ []) ≡ length b + 1 = length_push b node in
     let pushed : IsWhole (b ++ node ∷ []) (trees ++ more ++ x ∷ []) = whole-push b (trees ++ more) x node numbers parts whole is stand below in
@@ -68,9 +73,10 @@ push-holds b trees more x node numbers parts is whole stand below =
       whole = rw (← append_assoc trees more (x ∷ [])) pushed;
       stand = rw (← append_assoc trees more (x ∷ [])) (ap (λ (y : Stmt). y ∷ []) here);
       below = All-cons (λ j. j < length (b ++ node ∷ [])) (length b) [] (omega arith) (All-nil (λ j. j < length (b ++ node ∷ [])));
+      passing = λ t all. let here : Passes t x = All-head (Passes t) x [] all in All-push (Passes t) more x (passing t (is.inner t here)) here;
     }
 
 pub adds_push : (a b c : List Node) (x : Stmt) (node : Node) (number : ℕ) (numbers : List ℕ) (parts : List Stmt) → Adds a b numbers parts → IsNodeOf x node numbers parts → Pushed b node c number → Adds a c (number ∷ []) (x ∷ [])
 adds_push a b c x node number numbers parts adds is pushed trees whole =
     let held = adds trees whole in
-    rw (pushed.0, pushed.1) (push-holds b trees held.more x node numbers parts is held.whole held.stand held.below)
+    rw (pushed.0, pushed.1) (push-holds b trees held.more x node numbers parts is held.whole held.stand held.below held.passing)

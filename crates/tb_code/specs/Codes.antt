@@ -9,18 +9,22 @@ use Rattle.tb_machine.specs.declared.node.Choice.{Choice}
 use Rattle.tb_machine.specs.declared.node.Node.{Node}
 use Rattle.tb_machine.specs.Steps.{Do, Suspended}
 use Rattle.tb_machine.specs.Nodes.{tree_of, IsCode, AreClosed}
+use Rattle.tb_code.specs.Tests.{Tests, Passes, NodePasses}
 
--- Nodes that are code of these statements, and name one another alone.
+-- Nodes that are code of these statements, and name one another alone. What they evaluate, assign and perform is in the statements:
+-- where all in these passes tests, it does.
 pub record IsWhole (nodes : List Node) (trees : List Stmt) : Type 0 where
   pub code : IsCode nodes trees
   pub closed : AreClosed nodes
+  pub passing : (t : Tests) → All (Passes t) trees → All (NodePasses t) nodes
 
--- The nodes are code of these statements and of more, and those at the numbers are code of the parts.
+-- The nodes are code of these statements and of more, and those at the numbers are code of the parts. The more are parts of these.
 pub record Holds (trees : List Stmt) (nodes : List Node) (numbers : List ℕ) (parts : List Stmt) : Type 0 where
   pub more : List Stmt
   pub whole : IsWhole nodes (trees ++ more)
   pub stand : map (tree_of (trees ++ more)) numbers ≡ parts
   pub below : All (λ k. k < length nodes) numbers
+  pub passing : (t : Tests) → All (Passes t) parts → All (Passes t) more
 
 -- Nodes become more, those of the parts among them; of whatever statements they were code, they still are.
 abbrev pub Adds : (before after : List Node) (numbers : List ℕ) (parts : List Stmt) → Type 0
