@@ -1,0 +1,5 @@
+pub mod Nothing
+pub mod Expressions
+pub mod Faultless
+pub mod Processes
+pub mod Known
