@@ -2,7 +2,7 @@
 //!
 //! `starts` has the value of each signal before the first phase, of its width. Invariant: what is declared as a signal has the number of
 //! one with its width.
-ghost use Rattle.std.specs.Prelude.{◌≡◌, ◌<◌, ◌≤◌, ◌++◌, ◌∷◌, [], ℕ, List, Some, IfOk, IfSome, OnErr, map, length, slice_get, slice_index, slice_set};
+ghost use Rattle.std.specs.Prelude.{◌≡◌, ◌<◌, ◌≤◌, ◌++◌, ◌∷◌, [], ℕ, List, Some, IfOk, IfSome, IfNone, OnErr, map, length, slice_get, slice_index, slice_set};
 ghost use Rattle.vlog_meaning.specs.Scopes.{names_of, with_name};
 ghost use Rattle.elab_proc.specs.Refusals.{AreSized as EachSized};
 ghost use Rattle.flat_laws.specs.Sound.{AreSized, NamesSignal};
@@ -133,6 +133,7 @@ impl Signals {
     pub fn width(&self, number: u32) -> Option<u8>
         ensures width { result ≡ slice_get self.now.widths number }
         ensures sized { IfSome result (λ w. (1 ≤ w) × (w ≤ 128)) }
+        ensures outside { IfNone result (length self.now.values ≤ number) }
     {
         self.starts.get(number as usize).map(|word| word.width())
     }

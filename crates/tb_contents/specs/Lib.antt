@@ -1,0 +1,4 @@
+pub mod Designs
+pub mod Hidden
+pub mod Starts
+pub mod Nets
