@@ -5,9 +5,11 @@
     tests/searches.py --check    only compares the two files with what would be written
 
 This is the rule of the search, over lists: decide the least open free bit to 0, propagate by examining the new clauses in order
-and then those in which the next literal of the trail is false, and learn the free bits at which the walk down the trail stops. What comes of it is tested by the definition besides: each lemma
-is over free bits, has no earlier one as a part and follows by propagation, a model makes each clause true, and a refuted list of
-clauses has no model among all values of the free bits.
+and then those in which the next literal of the trail is false, and learn the free bits at which the walk down the trail stops.
+First it looks at the cone of the last clause alone; where no free bit of that is open, it begins anew with all clauses, and decides
+the other free bits after these. What comes of it is tested by the definition besides: each lemma is over free bits, has no earlier
+one as a part and follows by propagation, a model makes each clause true, and a refuted list of clauses has no model among all
+values of the free bits.
 """
 import itertools
 import pathlib
@@ -55,13 +57,36 @@ def models(clauses, free):
             yield known
 
 
+def cone(clauses, free):
+    """The clauses of the last one's cone, and their variables. Each clause but the last is of the gate of its greatest variable, or
+    over free bits alone, and then it is one of them."""
+    inside, reached = [], set()
+    for number, clause in enumerate(reversed(clauses)):
+        gate = max(map(abs, clause), default=0)
+        if number == 0 or gate <= free or gate in reached:
+            inside.append(clause)
+            reached |= set(map(abs, clause))
+    return inside[::-1], reached
+
+
 class Search:
     """A search, which goes on from lemma to lemma."""
 
     def __init__(self, clauses, free, limit):
         self.clauses, self.lemmas, self.free, self.limit = clauses, [], free, limit
+        self.used, reached = cone(clauses, free)
+        self.bits, self.whole = [bit for bit in range(1, free + 1) if bit in reached], False
+        self.begin()
+
+    def begin(self):
+        """All variables are open, and no clause is taken in."""
         self.trail, self.starts = [], []
         self.taken, self.head, self.holders = 0, 0, {}
+
+    def widen(self):
+        """Looks at all clauses and free bits from now on."""
+        self.used, self.bits, self.whole = self.clauses, self.bits + list(range(1, self.free + 1)), True
+        self.begin()
 
     def known(self):
         return {literal for literal, _ in self.trail}
@@ -76,7 +101,7 @@ class Search:
 
     def propagate(self):
         """The clause that is false in the end, if there is one."""
-        clauses = self.clauses + self.lemmas
+        clauses = self.used + self.lemmas
         while self.taken < len(clauses):
             clause = clauses[self.taken]
             if self.examine(clause):
@@ -98,9 +123,12 @@ class Search:
             if found is not None:
                 return found
             known = self.known()
-            open_ = [bit for bit in range(1, self.free + 1) if not {bit, -bit} & known]
-            if not open_:
+            open_ = [bit for bit in self.bits if not {bit, -bit} & known]
+            if not open_ and self.whole:
                 return None
+            if not open_:
+                self.widen()
+                continue
             self.starts.append(len(self.trail))
             self.trail.append((-open_[0], None))
 
@@ -239,6 +267,14 @@ def parity_orders(bits):
     return circuit.differ([(first, second)])
 
 
+def beside_sums(bits, wrong):
+    """An exclusive or beside another function, and sums of the same free bits which no difference reads."""
+    circuit = sums(bits)
+    circuit.clauses.pop()
+    first = circuit.xor(1, 2)
+    return circuit.differ([(first, circuit.disj(1, 2) if wrong else circuit.conj(circuit.disj(1, 2), -circuit.conj(1, 2)))])
+
+
 def sums(bits, wrong=False):
     """The sum of two words with carries as a mux and as a majority; or the second with one gate wrong."""
     circuit = Circuit(2 * bits)
@@ -318,6 +354,9 @@ def cases():
     made.circuit(sums(2))
     made.circuit(sums(3), 20, 7)
     made.circuit(sums(3, wrong=True))
+    made.title("Gates that no difference reads.")
+    made.circuit(beside_sums(2, False), 1000, 2)
+    made.circuit(beside_sums(2, True))
     made.title("Clauses that make no miter.")
     made.refused([[1, -3]], 2, 2, "Literal(1)")
     made.refused([[1], [2, 0]], 2, 2, "Literal(2)")

@@ -8,7 +8,7 @@ use Rattle.std.proofs.lemmas.Option.{slice_get-get_or, slice_get_within}
 use Rattle.clause_store.specs.Clauses.{variable}
 use Rattle.clause_store.specs.Propagation.{literal, is_some_false, is_positive, IsQuiet, clause_at}
 use Rattle.lrat_checker.specs.Tables.{known_of}
-use Rattle.lrat_checker.specs.LegalLogs.{AreFree, IsNew, IsLegalAfter, IsLegalLog}
+use Rattle.lrat_checker.specs.LegalLogs.{AreFree, IsNew, IsLegalAfter}
 use Rattle.lrat_checker.specs.Steps.{IsFalse}
 use Rattle.lrat_checker.proofs.Within.{literal-same}
 use Rattle.sat_solver.specs.declared.trail.Trail.{Trail}
@@ -50,7 +50,7 @@ ready-same clauses free old new same starts ready = record {
 }
 
 -- the clauses by number are there after more were added
-at-more : (clauses more : List (List ℤ)) (id : ℕ) (clause : List ℤ) → clause_at clauses id ≡ Some clause → clause_at (clauses ++ more) id ≡ Some clause
+pub at-more : (clauses more : List (List ℤ)) (id : ℕ) (clause : List ℤ) → clause_at clauses id ≡ Some clause → clause_at (clauses ++ more) id ≡ Some clause
 at-more clauses more zero clause at = absurd (let wrong : None ≡ Some clause = at in cc)
 at-more clauses more (suc k) clause at =
     let within : k < length clauses = slice_get_within clauses k clause at in
@@ -88,8 +88,8 @@ false-before limit literals n l apart h false_ = by (assigned (take n literals) 
       inl (ap is_some_false (literal-same (assigned (take n literals)) (assigned literals) l (e ∙ sym whole)) ∙ false_)
 
 -- a learned lemma contains no earlier one
-pub learned-new : (clauses lemmas : List (List ℤ)) (free : ℕ) (t : Trail) (lemma : List ℤ) (hints : List ℕ) (back : ℕ) → IsReady (clauses ++ lemmas) free t → IsLegalLog clauses free lemmas → All (λ e. 0 < length e) lemmas → IsLearned (clauses ++ lemmas) free t.literals.items t.starts.items lemma hints back → IsNew lemmas lemma
-learned-new clauses lemmas free t lemma hints back ready legal some learned k d h within =
+pub learned-new : (clauses lemmas : List (List ℤ)) (free : ℕ) (t : Trail) (lemma : List ℤ) (hints : List ℕ) (back : ℕ) → IsReady (clauses ++ lemmas) free t → All (AreFree free) lemmas → All (λ e. 0 < length e) lemmas → IsLearned (clauses ++ lemmas) free t.literals.items t.starts.items lemma hints back → IsNew lemmas lemma
+learned-new clauses lemmas free t lemma hints back ready are some learned k d h within =
     let earlier : List ℤ = get_or lemmas k d in
     elim (leb_tells (length t.starts.items) 0) [
       | inl none_ ↦
@@ -104,7 +104,7 @@ learned-new clauses lemmas free t lemma hints back ready legal some learned k d 
           let inside : length clauses + k < length (clauses ++ lemmas) = (let e : length (clauses ++ lemmas) ≡ length clauses + length lemmas = length-append clauses lemmas in omega (arith, h, e)) in
           let P : List ℤ → Type 0 = IsQuiet (assigned (take (last_start t.starts.items) t.literals.items)) in
           let quiet : IsQuiet (assigned (take (last_start t.starts.items) t.literals.items)) (get_or lemmas k d) = subst P place (ready.quiet (length t.starts.items - 1) last (length clauses + k) d inside) in
-          new-by_quiet free (assigned (take (last_start t.starts.items) t.literals.items)) lemma (get_or lemmas k d) (legal-free clauses free [] lemmas legal k d h) quiet learned.below
+          new-by_quiet free (assigned (take (last_start t.starts.items) t.literals.items)) lemma (get_or lemmas k d) (are k d h) quiet learned.below
           (λ has. false-before (length t.values.items) t.literals.items (last_start t.starts.items) (literal_at lemma 0) ready.trail.apart (omega (arith, start)) (learned.all_false 0 (pos 0) has)) within
     ]
 

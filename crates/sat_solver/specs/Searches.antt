@@ -1,10 +1,9 @@
 -- What a search holds.
-use Rattle.std.specs.Prelude.{◌≡◌, ◌+◌, ◌*◌, ◌≤◌, ◌++◌, length, sum_by}
+use Rattle.std.specs.Prelude.{◌≡◌, ◌+◌, ◌*◌, ◌≤◌, length, sum_by}
 use Rattle.clause_encoder.specs.Miters.{IsMiter}
 use Rattle.sat_solver.specs.declared.search.Search.TheInside.{Inside}
 use Rattle.sat_solver.specs.Found.{Hunt}
-use Rattle.sat_solver.specs.Trails.{IsReady}
-use Rattle.sat_solver.specs.Propagators.{IsKept}
+use Rattle.sat_solver.specs.Parts.{IsProbing}
 
 abbrev pub hunt_of : Inside → Hunt
 hunt_of s = record { log = s.checker; limit = s.limit }
@@ -16,6 +15,6 @@ pub record IsSearching (s : Inside) : Type 0 where
   pub limit : s.limit ≤ 100000
   pub lemmas : length s.checker.lemmas ≤ s.limit
   pub literals : sum_by length s.checker.lemmas ≤ 2048 * length s.checker.lemmas
-  pub len : length s.propagator.trail.values.items ≡ s.checker.variables + 1
-  pub ready : IsReady (s.checker.clauses ++ s.checker.lemmas) s.checker.free s.propagator.trail
-  pub kept : IsKept (s.checker.clauses ++ s.checker.lemmas) s.propagator
+  pub variables : s.variables ≡ s.checker.variables
+  pub len : length s.probe.propagator.trail.values.items ≡ s.checker.variables + 1
+  pub probing : IsProbing s.checker s.probe

@@ -93,6 +93,11 @@ pub record IsReady (clauses : List (List ℤ)) (free : ℕ) (t : Trail) : Type 0
   pub trail : IsTrail clauses free t.values.items t.literals.items t.reasons.items t.starts.items
   pub quiet : QuietLevels clauses t.literals.items t.starts.items
 
+-- no clause is false or unit, and none of these variables is open
+pub record IsDecided (clauses : List (List ℤ)) (bits : List ℕ) (values : List (Option Bool)) : Type 0 where
+  pub quiet : All (IsQuiet (known_of values)) clauses
+  pub decided : All (λ v. known_of values v ≢ None) bits
+
 -- no clause is false or unit, and no free bit is open
 pub record IsDone (clauses : List (List ℤ)) (free : ℕ) (values : List (Option Bool)) : Type 0 where
   pub quiet : All (IsQuiet (known_of values)) clauses

@@ -1,12 +1,13 @@
 //! Learning from a conflict.
 ghost use Rattle.std.specs.Prelude.{◌≡◌, ℕ, ◌+◌, ◌-◌, ◌<◌, ◌≤◌, ◌^◌, ◌++◌, ◌∷◌, [], length, sum_by, All, OnOk, OnErr};
 ghost use Rattle.lrat_checker.specs.Tables.{known_of};
-ghost use Rattle.sat_solver.specs.Trails.{IsReady, IsConflict};
-ghost use Rattle.sat_solver.specs.Propagators.{IsKept};
+ghost use Rattle.sat_solver.specs.Trails.{IsConflict};
+ghost use Rattle.sat_solver.specs.Parts.{IsProbing, in_use};
 ghost use Rattle.sat_solver.specs.Learning.{IsRoomy, HasLearned};
 
 use crate::analyze::analyze;
-use crate::propagator::Propagator;
+use crate::part::numbers_of;
+use crate::probe::Probe;
 use lrat_checker::{CheckError, Checker};
 use std::alloc::{AllocError, Global};
 
@@ -14,28 +15,36 @@ use std::alloc::{AllocError, Global};
 pub fn learn(
     alloc: Global,
     checker: &mut Checker,
-    propagator: &mut Propagator,
+    probe: &mut Probe,
     free: u32,
     conflict: u32,
 ) -> Result<(), AllocError>
     requires room { IsRoomy checker.old }
     requires free { free ≡ checker.old.free }
     requires some { All (λ lemma. 0 < length lemma) checker.old.lemmas }
-    requires len { length propagator.old.trail.values.items ≡ checker.old.variables + 1 }
-    requires ready { IsReady (checker.old.clauses ++ checker.old.lemmas) checker.old.free propagator.old.trail }
-    requires kept { IsKept (checker.old.clauses ++ checker.old.lemmas) propagator.old }
-    requires conflict { IsConflict (checker.old.clauses ++ checker.old.lemmas) (known_of propagator.old.trail.values.items) conflict }
+    requires len { length probe.old.propagator.trail.values.items ≡ checker.old.variables + 1 }
+    requires probing { IsProbing checker.old probe.old }
+    requires store { probe.old.part.store ≡ in_use checker.old probe.old }
+    requires conflict { IsConflict (in_use checker.old probe.old) (known_of probe.old.propagator.trail.values.items) conflict }
     ensures ok { OnOk result (HasLearned checker.old checker.new) }
     ensures err { OnErr result (checker.new ≡ checker.old) }
-    ensures ready { IsReady (checker.new.clauses ++ checker.new.lemmas) checker.new.free propagator.new.trail }
-    ensures kept { IsKept (checker.new.clauses ++ checker.new.lemmas) propagator.new }
-    ensures len { length propagator.new.trail.values.items ≡ length propagator.old.trail.values.items }
+    ensures probing { IsProbing checker.new probe.new }
+    ensures len { length probe.new.propagator.trail.values.items ≡ length probe.old.propagator.trail.values.items }
 {
-    let learned = analyze(alloc, checker.store(), &propagator.trail, free, conflict)?;
-    match checker.add(&learned.lemma, learned.hints.as_slice()) {
+    // By its clauses the lemmas are a legal log, and all literals are over these variables.
+    let _store = checker.store();
+    let learned = analyze(
+        alloc,
+        &probe.part.store,
+        &probe.propagator.trail,
+        free,
+        conflict,
+    )?;
+    let hints = numbers_of(alloc, &probe.part.numbers, learned.hints.as_slice())?;
+    match checker.add(&learned.lemma, &hints) {
         Ok(()) => {
-            if learned.back < propagator.trail.starts.len() {
-                propagator.undo(learned.back);
+            if learned.back < probe.propagator.trail.starts.len() {
+                probe.propagator.undo(learned.back);
             }
             Ok(())
         }

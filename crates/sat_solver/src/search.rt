@@ -1,18 +1,19 @@
 //! The search: it decides free bits alone, and propagates before each decision.
 //!
-//! Invariant: the trail's literals have reasons among the clauses and lemmas, and no clause was false or unit when a
-//! level began, so that the checker never refuses a lemma. The lists and counts of propagation are those of the clauses
-//! and lemmas that it has taken in. Contracts see the log and the limit.
+//! It looks at the cone of the last clause alone until nothing in it is open, and then at all clauses.
+//! Invariant: the trail's literals have reasons among the clauses that it looks at and the lemmas, and none of these was false or
+//! unit when a level began, so that the checker never refuses a lemma. The lists and counts of propagation are those of the
+//! clauses and lemmas that it has taken in. Contracts see the log and the limit.
 ghost use Rattle.std.specs.Prelude.{◌≡◌, ℕ, ◌+◌, ◌<◌, ◌≤◌, [], length, All, IfOk, OnOk, OnErr, IfSome, MatchOption, ⊤};
 ghost use Rattle.clause_store.specs.Clauses.{IsModel};
 ghost use Rattle.lrat_checker.specs.Tables.{known_of};
 ghost use Rattle.sat_solver.specs.Trails.{IsDone};
 ghost use Rattle.sat_solver.specs.Found.{Hunt, IsRunning, IsContinued, Finds, IsEnd, listed_values, values_of};
 
-use crate::decide::next_conflict;
+use crate::focus::Focus;
 use crate::found::{Assignment, Found};
 use crate::learn::learn;
-use crate::propagator::Propagator;
+use crate::probe::Probe;
 use clause_encoder::Miter;
 use lrat_checker::Checker;
 use std::alloc::{AllocError, Global};
@@ -23,7 +24,8 @@ use std::marker::Model;
 pub struct Search {
     alloc: Global,
     checker: Checker,
-    propagator: Propagator,
+    probe: Probe,
+    variables: u32,
     free: u32,
     limit: u32,
 }
@@ -47,13 +49,15 @@ impl Search {
         ensures new { IfOk result (λ s. s ≡ record { log = record { clauses = miter.store; variables = miter.variables; free = miter.free; lemmas = [] }; limit = limit }) }
         ensures running { IfOk result IsRunning }
     {
-        let free = miter.free;
-        let checker = Checker::new(alloc, miter.store, miter.variables, free)?;
-        let propagator = Propagator::new(alloc, miter.variables)?;
+        let (variables, free) = (miter.variables, miter.free);
+        let focus = Focus::on_cone(alloc, &miter.store, variables, free)?;
+        let checker = Checker::new(alloc, miter.store, variables, free)?;
+        let probe = Probe::new(alloc, focus, variables)?;
         Ok(Search {
             alloc,
             checker,
-            propagator,
+            probe,
+            variables,
             free,
             limit,
         })
@@ -85,13 +89,16 @@ impl Search {
         ensures none { IfOk result (λ o. MatchOption o ((length self.new.log.lemmas ≡ length self.old.log.lemmas + 1) × IsRunning self.new) (λ _. ⊤)) }
         ensures err { OnErr result (IsRunning self.new) }
     {
-        match next_conflict(self.checker.store(), &mut self.propagator, self.free)? {
-            None => Ok(Some(Found::Model(model(self.alloc, &self.propagator.trail.values)?))),
+        match self
+            .probe
+            .conflict(self.alloc, &self.checker, self.variables, self.free)?
+        {
+            None => Ok(Some(Found::Model(model(self.alloc, &self.probe.propagator.trail.values)?))),
             Some(conflict) => {
                 learn(
                     self.alloc,
                     &mut self.checker,
-                    &mut self.propagator,
+                    &mut self.probe,
                     self.free,
                     conflict,
                 )?;

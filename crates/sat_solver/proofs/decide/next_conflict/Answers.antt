@@ -1,7 +1,8 @@
-use Rattle.std.proofs.Common.{◌≡◌, ◌++◌, ◌∷◌, [], Bool, Option, None, Some, length, set, ap, ◌∙◌, rules, arith}
+use Rattle.std.proofs.Common.{◌≡◌, ◌<◌, ◌≤◌, ◌++◌, ◌∷◌, [], ℕ, Bool, Option, None, Some, length, set, ap, ◌∙◌, rules, arith}
 use Rattle.std.specs.Prelude.{All, FitsSigned}
 use Rattle.std.specs.Int.{w32}
 use Rattle.std.proofs.lemmas.Int.{to_z-of_z}
+use Rattle.std.proofs.lemmas.List.Elements.{All-contains}
 use Rattle.clause_store.specs.Clauses.{variable}
 use Rattle.clause_store.specs.Propagation.{is_positive, IsQuiet}
 use Rattle.lrat_checker.specs.Tables.{known_of}
@@ -29,7 +30,24 @@ pub decide-requires-clause-open : goal.decide-requires-clause-open
 decide-requires-clause-open c =
     let fits : FitsSigned w32 c.negative.result = search rules in
     let v : variable c.negative.result ≡ c.in-Some-open_bit.v = c.negative.ensures in
-    rw (to_z-of_z w32 c.negative.result fits, v, ← c.deref.ensures.value) c.in-Some-open_bit.ensures.found.2
+    rw (to_z-of_z w32 c.negative.result fits, v, ← c.deref.ensures.value) c.in-Some-open_bit.ensures.open
+
+pub open_bit-requires : goal.open_bit-requires
+open_bit-requires c = λ k d h. rw c.deref.ensures.value (omega (arith, (c.requires.bits k d h).1, c.requires.free, c.propagate.ensures.grown.len, c.decisions.invariant.1))
+
+pub decide-requires-clause-within : goal.decide-requires-clause-within
+decide-requires-clause-within c =
+    let fits : FitsSigned w32 c.negative.result = search rules in
+    let v : variable c.negative.result ≡ c.in-Some-open_bit.v = c.negative.ensures in
+    let P : ℕ → Type 0 = λ w. (0 < w) × (w ≤ c.args.free) in
+    let found : (0 < c.in-Some-open_bit.v) × (c.in-Some-open_bit.v ≤ c.args.free) = All-contains P c.args.bits.now c.in-Some-open_bit.v c.requires.bits c.in-Some-open_bit.ensures.found in
+    rw (to_z-of_z w32 c.negative.result fits) (omega (arith, v, found.1, c.requires.free, c.propagate.ensures.grown.len, c.decisions.invariant.1))
+
+pub negative-requires : goal.negative-requires
+negative-requires c =
+    let P : ℕ → Type 0 = λ w. (0 < w) × (w ≤ c.args.free) in
+    let found : (0 < c.in-Some-open_bit.v) × (c.in-Some-open_bit.v ≤ c.args.free) = All-contains P c.args.bits.now c.in-Some-open_bit.v c.requires.bits c.in-Some-open_bit.ensures.found in
+    omega (arith, found.1, c.requires.free, c.requires.short)
 
 pub decide-requires-clause-kept : goal.decide-requires-clause-kept
 decide-requires-clause-kept c = (c.args.store.now, c.propagate.ensures.kept)
@@ -40,9 +58,10 @@ decisions-preserved c =
     let quiet : All (IsQuiet (known_of c.propagate.new.self.trail.values.items)) c.args.store.now = rw c.in_default.is at c.in_ok-conflict.ensures.end in
     let fits : FitsSigned w32 c.negative.result = search rules in
     let decided : IsAssigned c.negative.result 0 c.propagate.new.self.trail c.decide.new.self.trail = rw (to_z-of_z w32 c.negative.result fits) at c.in_ok-decide-in-Some-open_bit.ensures.decided in
-    let found = c.in-Some-open_bit.ensures.found in
+    let P : ℕ → Type 0 = λ w. (0 < w) × (w ≤ c.args.free) in
+    let found : (0 < c.in-Some-open_bit.v) × (c.in-Some-open_bit.v ≤ c.args.free) = All-contains P c.args.bits.now c.in-Some-open_bit.v c.requires.bits c.in-Some-open_bit.ensures.found in
     let v : variable c.negative.result ≡ c.in-Some-open_bit.v = c.negative.ensures in
-    let open_ : known_of c.propagate.new.self.trail.values.items (variable c.negative.result) ≡ None = rw (v, ← c.deref.ensures.value) found.2 in
+    let open_ : known_of c.propagate.new.self.trail.values.items (variable c.negative.result) ≡ None = rw (v, ← c.deref.ensures.value) c.in-Some-open_bit.ensures.open in
     let len : length c.propagate.new.self.trail.values.items ≡ length c.args.propagator.now.trail.values.items = c.propagate.ensures.grown.len ∙ c.decisions.invariant.1 in
     let values : c.decide.new.self.trail.values.items ≡ set c.propagate.new.self.trail.values.items (variable c.negative.result) (Some (is_positive c.negative.result)) = decided.values in
     let literals : c.decide.new.self.trail.literals.items ≡ c.propagate.new.self.trail.literals.items ++ c.negative.result ∷ [] = decided.literals in (

@@ -1,6 +1,7 @@
-use Rattle.std.proofs.Common.{◌≢◌, ℕ, ◌<◌, ◌≤◌, None}
+use Rattle.std.proofs.Common.{◌≢◌, take, None}
+use Rattle.std.specs.Prelude.{All}
 use Rattle.lrat_checker.specs.Tables.{known_of}
 use Rattle.sat_solver.proofs.decide.open_bit.Given as goal
 
 abbrev pub invariant-loop-v : goal.invariant-loop-v
-invariant-loop-v l = (v : ℕ) → 0 < v → v ≤ l.v → known_of l.values v ≢ None
+invariant-loop-v l = All (λ w. known_of l.values w ≢ None) (take l.v-index l.bits)

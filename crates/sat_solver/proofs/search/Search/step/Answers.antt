@@ -23,20 +23,20 @@ invariant_of-self-in-Some c =
       limit = c.self.invariant.limit;
       lemmas = rw step.added (omega (arith, count, fewer));
       literals = rw step.added (omega (arith, count, sum, step.few, c.self.invariant.literals));
-      len = rw step.added (c.learn.ensures.len ∙ c.next_conflict.ensures.len ∙ c.self.invariant.len);
-      ready = c.learn.ensures.ready;
-      kept = c.learn.ensures.kept;
+      variables = rw step.added c.self.invariant.variables;
+      len = rw step.added (c.learn.ensures.len ∙ c.conflict.ensures.len ∙ ap (λ (n : ℕ). n + 1) c.self.invariant.variables);
+      probing = c.learn.ensures.probing;
     }
 
 pub returns-in_ok-model-in-None-clause-found : goal.returns-in_ok-model-in-None-clause-found
 returns-in_ok-model-in-None-clause-found c =
-    let done : IsDone (c.self.inside.checker.clauses ++ c.self.inside.checker.lemmas) c.self.inside.checker.free c.next_conflict.new.propagator.trail.values.items = rw (c.in-None.is, c.store.ensures.clauses, c.self.invariant.free) at c.in_ok-next_conflict.ensures.end in
-    let known : Known = known_of c.next_conflict.new.propagator.trail.values.items in
+    let done : IsDone (c.self.inside.checker.clauses ++ c.self.inside.checker.lemmas) c.self.inside.checker.free c.conflict.new.self.propagator.trail.values.items = rw (c.in-None.is, c.self.invariant.free) at c.in_ok-conflict.ensures.end in
+    let known : Known = known_of c.conflict.new.self.propagator.trail.values.items in
     let over : AreOver c.self.inside.checker.variables c.self.inside.checker.clauses = c.self.invariant.miter.over in
-    let quiet : All (IsQuiet (known_of c.next_conflict.new.propagator.trail.values.items)) c.self.inside.checker.clauses = quiet-left (known_of c.next_conflict.new.propagator.trail.values.items) c.self.inside.checker.clauses c.self.inside.checker.lemmas done.quiet in
-    let all : (v : ℕ) → 0 < v → v ≤ c.self.inside.checker.variables → known_of c.next_conflict.new.propagator.trail.values.items v ≢ None = λ v low high. settled c.self.inside.checker.clauses c.self.inside.checker.variables c.self.inside.checker.free (known_of c.next_conflict.new.propagator.trail.values.items) c.self.invariant.miter.settles quiet done.bits (v + 1) v (omega arith) low high in
-    let model : IsModel (values_of (known_of c.next_conflict.new.propagator.trail.values.items)) c.self.inside.checker.clauses = model-by_quiet c.self.inside.checker.clauses c.self.inside.checker.variables (known_of c.next_conflict.new.propagator.trail.values.items) over all quiet in
-    let same : listed_values c.in_ok-model-in-None.field-0 ≡ values_of (known_of c.next_conflict.new.propagator.trail.values.items) = λ i v. (rw c.deref.ensures.value at (c.in_ok-model-in-None.ensures v)) i in
+    let quiet : All (IsQuiet (known_of c.conflict.new.self.propagator.trail.values.items)) c.self.inside.checker.clauses = quiet-left (known_of c.conflict.new.self.propagator.trail.values.items) c.self.inside.checker.clauses c.self.inside.checker.lemmas done.quiet in
+    let all : (v : ℕ) → 0 < v → v ≤ c.self.inside.checker.variables → known_of c.conflict.new.self.propagator.trail.values.items v ≢ None = λ v low high. settled c.self.inside.checker.clauses c.self.inside.checker.variables c.self.inside.checker.free (known_of c.conflict.new.self.propagator.trail.values.items) c.self.invariant.miter.settles quiet done.bits (v + 1) v (omega arith) low high in
+    let model : IsModel (values_of (known_of c.conflict.new.self.propagator.trail.values.items)) c.self.inside.checker.clauses = model-by_quiet c.self.inside.checker.clauses c.self.inside.checker.variables (known_of c.conflict.new.self.propagator.trail.values.items) over all quiet in
+    let same : listed_values c.in_ok-model-in-None.field-0 ≡ values_of (known_of c.conflict.new.self.propagator.trail.values.items) = λ i v. (rw c.deref.ensures.value at (c.in_ok-model-in-None.ensures v)) i in
     let P : Values → Type 0 = λ values. IsModel values c.self.inside.checker.clauses in
     (subst P (sym same) model, rw (← c.self.view_is) at c.requires)
 
