@@ -1,16 +1,17 @@
 -- Masks in a table, and the bits that masks have in common.
-use Rattle.std.proofs.Common.{◌≡◌, zero, suc, ℕ, ◌^◌, ◌<◌, ◌≤◌, min, max, Bool, true, false, not, ◌&&◌, ◌||◌, nat_eq, List, [], ◌∷◌, ◌++◌, length, get_or, set, refl, sym, ap, ◌∙◌, arith}
+use Rattle.std.proofs.Common.{◌≡◌, zero, suc, ℕ, ◌-◌, ◌^◌, ◌<◌, ◌≤◌, min, max, Bool, true, false, not, ◌&&◌, ◌||◌, nat_eq, nat_lt, List, [], ◌∷◌, ◌++◌, length, get_or, set, refl, sym, ap, ◌∙◌, arith}
 use Rattle.std.proofs.Math.Path.{fun_ext}
 use Rattle.std.specs.Int.{bit_at}
 use Rattle.std.specs.Int.Bits.{bit_and, bit_or}
 use Rattle.std.proofs.lemmas.Bool.Decides.{nat_tests}
 use Rattle.std.proofs.lemmas.List.{get_or-set_same, get_or-set_other}
 use Rattle.std.proofs.lemmas.Nat.{and_le_l}
-use Rattle.std.proofs.lemmas.Nat.Bits.{bit_at_and, bit_at_or, bit_at-lt, bit_at-zero, same_from_bits_below}
+use Rattle.std.proofs.lemmas.Nat.Bits.{bit_at_and, bit_at_or, bit_at-lt, bit_at-zero, bit_at_ones, bit_at_ones_above, same_from_bits_below}
 use Rattle.vlog_meaning.specs.Senses.{no_bits, either}
 use Rattle.signal_masks.specs.Masks.{has_bit}
 use Rattle.tb_writers.specs.Writes.{some_below}
 use Rattle.tb_writers.specs.Views.{bits_of, mask_bits}
+use Rattle.tb_writers.specs.Writers.{whole_signal}
 
 or_test : (x y : ℕ) → x < 2 → y < 2 → nat_eq (max x y) 1 ≡ (nat_eq x 1 || nat_eq y 1)
 or_test zero zero h k = refl
@@ -126,3 +127,12 @@ meet_masks a b small = go (some_below 128 (both a b)) refl
             let f : has_bit (bit_and a b) there.0 ≡ false = ap (λ (x : ℕ). has_bit x there.0) zeros ∙ has_none there.0 in
             absurd cc
         some false is there = ap not is
+
+-- all bits of a signal
+
+ones : (i : ℕ) (b : Bool) → nat_lt i 128 ≡ b → has_bit (2 ^ 128 - 1) i ≡ b
+ones i true e = ap (λ (x : ℕ). nat_eq x 1) (bit_at_ones 128 i (grind (arith, nat_tests)))
+ones i false e = ap (λ (x : ℕ). nat_eq x 1) (bit_at_ones_above 128 i (grind (arith, nat_tests)))
+
+pub whole_mask : (k : ℕ) → mask_bits k (2 ^ 128 - 1) ≡ whole_signal k
+whole_mask k = fun_ext (λ n. fun_ext (λ i. ap (λ (b : Bool). nat_eq n k && b) (ones i (nat_lt i 128) refl)))

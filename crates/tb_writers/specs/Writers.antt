@@ -1,6 +1,6 @@
 -- Second writers in a testbench: a bit that nets write, which are assigned for good, is written by nothing else. Processes may write one
 -- bit several times.
-use Rattle.std.specs.Prelude.{Bool, true, false, List, [], ◌∷◌, ◌++◌, option_to_list, Option, None, Some}
+use Rattle.std.specs.Prelude.{ℕ, Bool, true, false, ◌&&◌, nat_eq, nat_lt, List, [], ◌∷◌, ◌++◌, option_to_list, Option, None, Some}
 use Rattle.mcy_base.specs.declared.span.Span.{Span}
 use Rattle.vlog_syntax.specs.declared.feature.Feature.TheVariants.{Helper}
 use Rattle.vlog_syntax.specs.declared.left_side.LeftSide.{LeftSide}
@@ -32,6 +32,15 @@ taken Process w = w.nets
 abbrev pub with_bits : Writer → Written → Bits → Written
 with_bits Net w bits = record w { nets = either w.nets bits }
 with_bits Process w bits = record w { variables = either w.variables bits }
+
+-- The design writes all bits of the hidden signals of its outputs, of which each has at most 128.
+
+abbrev pub whole_signal : ℕ → Bits
+whole_signal k n i = nat_eq n k && nat_lt i 128
+
+abbrev pub with_outputs : Written → List ℕ → Written
+with_outputs w [] = w
+with_outputs w (k ∷ more) = with_outputs (with_bits Net w (whole_signal k)) more
 
 -- Parts of left sides, one after the other. A second writer is refused at its name.
 

@@ -9,8 +9,9 @@ ghost use Rattle.elab_proc.specs.Refusals.{AreSized};
 ghost use Rattle.process_latches.specs.Marking.{IsPart};
 ghost use Rattle.tb_faults.specs.Order.{IsFirst};
 ghost use Rattle.signal_masks.specs.Masks.{has_bit};
+ghost use Rattle.tb_writers.specs.declared.writers.Writer.TheVariants as n;
 ghost use Rattle.tb_writers.specs.Writes.{some_below};
-ghost use Rattle.tb_writers.specs.Writers.{nothing, taken, with_bits, with_part, fault_where, part_faults, with_parts, parts_faults, with_lefts, lefts_faults, writer_faults, with_item};
+ghost use Rattle.tb_writers.specs.Writers.{nothing, taken, with_bits, whole_signal, with_outputs, with_part, fault_where, part_faults, with_parts, parts_faults, with_lefts, lefts_faults, writer_faults, with_item};
 ghost use Rattle.tb_writers.specs.Views.{mask_bits, written_of};
 
 use crate::lefts::stmt_lefts;
@@ -57,6 +58,24 @@ impl Writers {
             nets: Table::new(alloc),
             variables: Table::new(alloc),
         }
+    }
+
+    /// The design writes its outputs, whose hidden signals have these numbers, and nothing else is written.
+    pub fn of_design(alloc: Global, outputs: &[u32]) -> Result<Writers, AllocError>
+        ensures { IfOk result (λ w. written_of w ≡ with_outputs nothing outputs.now) }
+    {
+        let mut writers = Writers::new(alloc);
+        for number in outputs {
+            writers.add_signal(*number)?;
+        }
+        Ok(writers)
+    }
+
+    /// Adds all bits of a signal that the design writes.
+    fn add_signal(&mut self, number: u32) -> Result<(), AllocError>
+        ensures { OnOk result (written_of self.new ≡ with_bits n.Net (written_of self.old) (whole_signal number)) }
+    {
+        self.add(Writer::Net, number, u128::MAX)
     }
 
     /// The bits of a signal that a writer may not write.

@@ -1,0 +1,7 @@
+use Rattle.std.proofs.Common.{◌≡◌, drop}
+use Rattle.tb_writers.specs.Views.{written_of}
+use Rattle.tb_writers.specs.Writers.{nothing, with_outputs}
+use Rattle.tb_writers.proofs.writers.Writers.of_design.Given as goal
+
+abbrev pub invariant-loop-number : goal.invariant-loop-number
+invariant-loop-number l = with_outputs (written_of l.writers) (drop l.number-index l.outputs) ≡ with_outputs nothing l.outputs
