@@ -1,0 +1,11 @@
+pub mod Replacing
+pub mod Stores
+pub mod Reading
+pub mod Sides
+pub mod Placing
+pub mod Windows
+pub mod Passing
+pub mod Ending
+pub mod Scenes
+pub mod Showing
+pub mod Turning

@@ -1,0 +1,88 @@
+-- A turn of the pass: one node more has settled.
+use Rattle.std.proofs.Common.{◌≡◌, zero, suc, ℕ, ◌+◌, ◌<◌, List, [], ◌∷◌, map, length, take, get_or, slice_get, Some, sym, ap, ◌∙◌, subst, arith}
+use Rattle.std.specs.Prelude.{slice_index}
+use Rattle.netlist_core.specs.Checked.{Plan}
+use Rattle.netlist_core.specs.Runs.{bits_at}
+use Rattle.cycle_sim.specs.Simulated.{Simulated, settled_nets}
+use Rattle.vlog_syntax.specs.declared.stmt.Assignment.{Assignment}
+use Rattle.vlog_meaning.specs.Scopes.{Names}
+use Rattle.tb_machine.specs.Worlds.{World, assigned, all_applied}
+use Rattle.tb_evaluator.specs.Meanings.{HasSignals}
+use Rattle.tb_nets.specs.declared.node.NetNode.{NetNode}
+use Rattle.tb_nets.specs.declared.node.NetNode.TheVariants.{Assign}
+use Rattle.tb_nets.specs.declared.nets.Nets.{Nets}
+use Rattle.tb_settling.specs.Settling.{CanSettle}
+use Rattle.tb_settling.specs.Nodes.{Situation, situation, PortsFit, IsSide, node_updates, IsCycleOf, IsStore, HaveSettled}
+use Rattle.tb_settling.proofs.Passing.{side_of, next_settled}
+
+node_at : (nodes : List NetNode) (k : ℕ) (node : NetNode) → node ≡ get_or nodes k node → k < length nodes → slice_get nodes k ≡ Some node
+node_at [] k node is h = absurd (omega arith)
+node_at (x ∷ xs) zero node is h = ap Some (sym is)
+node_at (x ∷ xs) (suc k) node is h = node_at xs k node is (omega arith)
+
+same_situation : (names : Names) (inputs outputs : List ℕ) (phase : ℕ) (a b : Simulated) → a.plan ≡ b.plan → a.registers ≡ b.registers → situation names inputs outputs phase a ≡ situation names inputs outputs phase b
+same_situation names inputs outputs phase a b plan registers =
+    let by_plan : Plan → Situation = λ p. record { names = names; inputs = inputs; outputs = outputs; phase = phase; netlist = p.raw; registers = a.registers } in
+    let by_registers : List ℕ → Situation = λ r. record { names = names; inputs = inputs; outputs = outputs; phase = phase; netlist = b.plan.raw; registers = r } in
+    ap by_plan plan ∙ ap by_registers registers
+
+-- What the pass keeps.
+pub record Passed (names : Names) (inputs outputs : List ℕ) (phase : ℕ) (first : Simulated) (scene : World) (nets : Nets) (k : ℕ) (sim : Simulated) (now : World) : Type 0 where
+  pub is : IsStore names now.widths now.store
+  pub settled : HaveSettled (situation names inputs outputs phase first) nets.nodes (take k nets.order) (settled_nets sim) scene.store now.store
+  pub scene_is : now ≡ record scene { store = now.store }
+  pub plan : sim.plan ≡ first.plan
+  pub registers : sim.registers ≡ first.registers
+
+module _ (names : Names) (inputs outputs : List ℕ) (phase : ℕ) (first : Simulated) (scene : World) (nets : Nets) (can : CanSettle names scene.widths inputs outputs nets) (signals : HasSignals names scene.widths) (entered : map (slice_index scene.widths) inputs ≡ map length (bits_at first.plan.raw.inputs)) (shows : map (slice_index scene.widths) outputs ≡ map length (bits_at first.plan.raw.outputs)) where
+  pub first_ports : PortsFit scene.widths inputs (bits_at first.plan.raw.inputs)
+  first_ports = record { widths_are = entered; known = can.entered }
+
+  pub first_shows : PortsFit scene.widths outputs (bits_at first.plan.raw.outputs)
+  first_shows = record { widths_are = shows; known = can.shown }
+
+  module _ (k : ℕ) (sim : Simulated) (now : World) (p : Passed names inputs outputs phase first scene nets k sim now) where
+    pub widths_same : now.widths ≡ scene.widths
+    widths_same = ap (λ (w : World). w.widths) p.scene_is
+
+    pub still_signals : HasSignals names now.widths
+    still_signals = subst (HasSignals names) (sym widths_same) signals
+
+    pub still_entered : PortsFit now.widths inputs (bits_at sim.plan.raw.inputs)
+    still_entered = subst (λ (l : List ℕ). PortsFit l inputs (bits_at sim.plan.raw.inputs)) (sym widths_same) (subst (λ (q : Plan). PortsFit scene.widths inputs (bits_at q.raw.inputs)) (sym p.plan) first_ports)
+
+    pub still_shown : PortsFit now.widths outputs (bits_at sim.plan.raw.outputs)
+    still_shown = subst (λ (l : List ℕ). PortsFit l outputs (bits_at sim.plan.raw.outputs)) (sym widths_same) (subst (λ (q : Plan). PortsFit scene.widths outputs (bits_at q.raw.outputs)) (sym p.plan) first_shows)
+
+    module _ (nodes : List NetNode) (order : List ℕ) (nodes_are : nodes ≡ nets.nodes) (order_is : order ≡ nets.order) (inside : k < length order) where
+      pub place_inside : slice_index order k < length nodes
+      place_inside =
+          let below : slice_index nets.order k < length nets.nodes = (can.settled.order.places k (subst (λ (l : List ℕ). k < length l) order_is inside)).ready.node in
+          subst (λ (l : List NetNode). slice_index order k < length l) (sym nodes_are) (subst (λ (l : List ℕ). slice_index l k < length nets.nodes) (sym order_is) below)
+
+      module _ (node : NetNode) (is_node : node ≡ get_or nodes (slice_index order k) node) where
+        at_place : slice_get nets.nodes (slice_index nets.order k) ≡ Some node
+        at_place = subst (λ (l : List ℕ). slice_get nets.nodes (slice_index l k) ≡ Some node) order_is (subst (λ (l : List NetNode). slice_get l (slice_index order k) ≡ Some node) nodes_are (node_at nodes (slice_index order k) node is_node place_inside))
+
+        pub has_side : IsSide names node
+        has_side = side_of names scene.widths inputs outputs nets can (slice_index nets.order k) node at_place
+
+        pub turned : (after : Simulated) (next : World) → IsCycleOf (situation names inputs outputs phase sim) (settled_nets after) now.store node → next ≡ assigned now (node_updates (situation names inputs outputs phase sim) (settled_nets after) now.store node) → ((a : Assignment) → node ≡ Assign a → settled_nets after ≡ settled_nets sim) → after.plan ≡ sim.plan → after.registers ≡ sim.registers → IsStore names next.widths next.store → Passed names inputs outputs phase first scene nets (k + 1) after next
+        turned after next cycle goes other plan registers is_next =
+            let s : Situation = situation names inputs outputs phase first in
+            let same : situation names inputs outputs phase sim ≡ s = same_situation names inputs outputs phase sim first p.plan p.registers in
+            let cycle_too : IsCycleOf s (settled_nets after) now.store node = subst (λ (t : Situation). IsCycleOf t (settled_nets after) now.store node) same cycle in
+            let goes_too : next ≡ assigned now (node_updates s (settled_nets after) now.store node) = subst (λ (t : Situation). next ≡ assigned now (node_updates t (settled_nets after) now.store node)) same goes in
+            let store_is : next.store ≡ all_applied now.store (node_updates s (settled_nets after) now.store node) = ap (λ (w : World). w.store) goes_too in
+            let widths_next : next.widths ≡ scene.widths = ap (λ (w : World). w.widths) goes_too ∙ widths_same in
+            let is_now : IsStore names scene.widths now.store = subst (λ (l : List ℕ). IsStore names l now.store) widths_same p.is in
+            let is_after : IsStore names scene.widths next.store = subst (λ (l : List ℕ). IsStore names l next.store) widths_next is_next in
+            let within : k < length nets.order = subst (λ (l : List ℕ). k < length l) order_is inside in
+            let rest : World → World = λ w. record w { store = next.store } in
+            record {
+              is = is_next;
+              settled = next_settled s nets scene.widths can signals first_ports first_shows k within node at_place (settled_nets sim) (settled_nets after) now.store next.store is_now is_after store_is other cycle_too scene.store p.settled;
+              scene_is = ap rest goes_too ∙ ap rest p.scene_is;
+              plan = plan ∙ p.plan;
+              registers = registers ∙ p.registers;
+            }

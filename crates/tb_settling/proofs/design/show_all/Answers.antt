@@ -1,0 +1,41 @@
+use Rattle.std.proofs.Common.{◌≡◌, ℕ, ◌+◌, ◌<◌, ◌≤◌, List, ◌∷◌, length, drop, sym, ap, ◌∙◌, arith}
+use Rattle.std.proofs.lemmas.List.{length-map}
+use Rattle.netlist_core.specs.declared.bit.Bit.{Bit}
+use Rattle.netlist_core.specs.declared.port.Port.{Port}
+use Rattle.netlist_core.specs.Numbers.{number}
+use Rattle.netlist_core.specs.Runs.{bits_at, plain, shown, values}
+use Rattle.cycle_sim.specs.Simulated.{settled_nets}
+use Rattle.tb_machine.specs.declared.update.Update.{Update}
+use Rattle.tb_machine.specs.Worlds.{World, assigned}
+use Rattle.tb_settling.specs.Settling.{whole_updates}
+use Rattle.tb_settling.specs.Nodes.{whole_update}
+use Rattle.tb_settling.proofs.Showing.{drop_whole, whole_past, ports_long}
+use Rattle.tb_settling.proofs.design.show_all.Goals as goal
+
+pub loop-port-preserved : goal.loop-port-preserved
+loop-port-preserved c =
+    let raw = c.args.sim.now.plan.raw in
+    let numbers : List ℕ = c.args.outputs.now in
+    let ports : List (List Bit) = bits_at raw.outputs in
+    let vs : List ℕ = shown (plain (settled_nets c.args.sim.now)) raw in
+    let k : ℕ = c.loop-port.port in
+    let whole : List Update = whole_updates numbers ports vs in
+    let long = ports_long c.args.scene.now.widths numbers ports c.requires in
+    let count = length-map raw.outputs (λ (p : Port). p.bits) in
+    let values_long : length vs ≡ length ports = length-map ports (λ (bits : List Bit). number (values (settled_nets c.args.sim.now) bits)) in
+    let inside : k < length numbers = omega (arith, long, count, c.loop-port-test.true, c.output_count-port-end.ensures) in
+    let cut : drop k whole ≡ whole_update numbers ports vs k ∷ drop (k + 1) whole = drop_whole numbers ports vs k long values_long inside in (
+      ap (λ (w : World). assigned w (drop (k + 1) whole)) c.show.ensures ∙ ap (assigned c.loop-port.scene) (sym cut) ∙ c.loop-port.invariant.0,
+      ap (λ (w : World). w.widths) c.show.ensures ∙ c.loop-port.invariant.1,
+    )
+
+pub returns : goal.returns
+returns c =
+    let raw = c.args.sim.now.plan.raw in
+    let numbers : List ℕ = c.args.outputs.now in
+    let ports : List (List Bit) = bits_at raw.outputs in
+    let vs : List ℕ = shown (plain (settled_nets c.args.sim.now)) raw in
+    let long = ports_long c.args.scene.now.widths numbers ports c.requires in
+    let count = length-map raw.outputs (λ (p : Port). p.bits) in
+    let past : length numbers ≤ c.loop-port.port = omega (arith, long, count, c.loop-port-test.false, c.output_count-port-end.ensures) in
+    sym (ap (assigned c.loop-port.scene) (whole_past numbers ports vs c.loop-port.port past)) ∙ c.loop-port.invariant.0

@@ -1,0 +1,10 @@
+//! Laws of assignments among nets, over their definitions alone.
+ghost use Rattle.tb_settling.specs.Laws.{UpdatesRestOnReads, UpdatesStayInside, SidesFit};
+
+/// The updates of an assignment depend on the bits that it reads alone, and give values to bits that its left side can write.
+/// Sides with shapes fit.
+pub fn assignments_rest()
+    ensures reads { UpdatesRestOnReads }
+    ensures inside { UpdatesStayInside }
+    ensures fit { SidesFit }
+{}

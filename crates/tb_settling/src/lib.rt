@@ -1,0 +1,12 @@
+//! The nets of a testbench settle: one pass over its assigns and the design, in their order.
+#![tactic(auto)]
+
+mod assign;
+mod design;
+mod laws;
+mod node;
+mod pass;
+
+pub use laws::assignments_rest;
+pub use pass::settle;
+pub use tb_nets::{NetNode, Nets};
