@@ -6,12 +6,12 @@ use Rattle.mcy_keeper.specs.Books.{with_entry}
 use Rattle.mcy_top.specs.declared.prepared.Prepared.{Prepared}
 use Rattle.mcy_top.specs.Campaigns.{IsPlan}
 use Rattle.result_book.specs.Rows.{IsWellFormed}
-use Rattle.mcy_top.specs.Rows.{AreTrue, IsGood, IsWithinOne}
+use Rattle.mcy_top.specs.Rows.{AreRight, IsGood, IsWithinOne}
 use Rattle.mcy_top.specs.Changes.{opened}
 use Rattle.mcy_top.proofs.Growing.{append-nil, length_more}
 
-pub good_of : (c : Prepared) (book : Book) → IsPlan c → IsWellFormed c.campaign book → AreTrue c book.journal → IsGood book
-good_of c book plan form all = record { prepared = c; plan = plan; form = form; words_true = all }
+pub good_of : (c : Prepared) (book : Book) → IsPlan c → IsWellFormed c.campaign book → AreRight c book.journal → IsGood book
+good_of c book plan form all = record { prepared = c; plan = plan; form = form; words_right = all }
 
 pub opened_form : (c : Prepared) → IsWellFormed c.campaign (opened c)
 opened_form c = record { meta = refl; mutations = refl; rows = tt }

@@ -8,7 +8,7 @@ use Rattle.mutation_sites.specs.declared.site.Site.{Site}
 use Rattle.mutation_select.specs.Draws.{drawn, generator}
 use Rattle.mutation_select.specs.Selection.{selected}
 use Rattle.mcy_top.specs.Mutations.{all_sites, pick_of, picked_sites}
-use Rattle.mcy_top.proofs.Within.{within_size}
+use Rattle.mutation_select.proofs.Within.{within_size}
 
 -- Lists.
 

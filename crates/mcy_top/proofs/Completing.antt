@@ -50,7 +50,7 @@ unmade_not held r refusal why fault = go refusal why fault
         let project : at.project ≡ r.project = project_same r.map at.project r.project at.got.before r.got.before in
         let files : at.files ≡ r.files = sources_same r.map at.project r.project at.files r.files at.got r.got in
         let bad : IsUntakenDesign r.project r.files q = subst (λ (p : Project). IsUntakenDesign p r.files q) project (subst (λ (fs : List SourceFile). IsUntakenDesign at.project fs q) files at.why) in
-        untaken_design_not r.project r.files r.netlist q r.design r.few_sites r.few some bad
+        untaken_design_not r.project r.files r.netlist q r.design r.few some bad
 
     go : (q : Refusal) → IsUnmade (Some r.map) q → ((name : List ℕ) → q ≢ RefusedRead name) → q ≡ RefusedMemory
     go (RefusedMissing name) why fault = let at = read_there r.map r.project r.files name r.got why.0 in absurd (lacks_not r.map name at.0 at.1 why.1)

@@ -171,7 +171,6 @@ readable_of map c made = record {
   got = record { before = record { config = made.config; got = made.got_config; says = made.made.says; built = built_of made.made.project made.made.script made.made.report made.made.tests made.made.scripts }; names = made.made.names; got = made.got_files };
   netlist = c.netlist;
   design = made.made.design;
-  few_sites = made.made.few_sites;
   few = made.made.few;
 }
 

@@ -1,5 +1,5 @@
--- The rows of a good book that is finished are what the campaign defines.
-use Rattle.std.proofs.Common.{◌≡◌, ◌≢◌, inl, inr, arith, ℕ, zero, suc, ◌+◌, ◌<◌, true, List, [], ◌∷◌, ◌++◌, length, slice_get, Option, None, Some, refl, sym, subst, append_assoc}
+-- The rows of a good book that is finished are what the campaign defines with the pairs that they give up.
+use Rattle.std.proofs.Common.{◌≡◌, ◌≢◌, inl, inr, arith, ℕ, zero, suc, ◌+◌, ◌<◌, Bool, true, ◌==◌, MatchBool, List, [], ◌∷◌, ◌++◌, length, slice_get, Option, None, Some, refl, sym, subst, ◌∙◌, append_assoc}
 use Rattle.std.proofs.lemmas.Bool.Decides.{eqb_tells}
 use Rattle.mcy_keeper.specs.declared.book.Entry.{Entry}
 use Rattle.mcy_keeper.specs.declared.book.Book.{Book}
@@ -9,51 +9,53 @@ use Rattle.mcy_top.specs.declared.prepared.Prepared.{Prepared}
 use Rattle.tag_script.specs.declared.answer.Ask.TheVariants.{Need}
 use Rattle.result_book.specs.Scripts.{Answer, ask, is_ended}
 use Rattle.result_book.specs.Rows.{answers_of, AreRows, IsFinished, IsWellFormed}
-use Rattle.mcy_top.specs.Rows.{AreTrue, IsTrueWord, IsTrueWordAt}
+use Rattle.mcy_top.specs.Rows.{AreRight, IsGivenUpAt, IsRightWord, IsTrueWord}
 use Rattle.result_book.specs.Rows.{groups, groups_from}
 use Rattle.source_report.specs.Texts.{status_text}
-use Rattle.mcy_top.specs.Defined.{given_up, AreAllAnswers, AreAnswers, IsFinalText, Pair}
+use Rattle.mcy_top.specs.Defined.{given_up, is_given_up, AreAllAnswers, AreAnswers, IsFinalText, IsWordOf, Pair}
 use Rattle.mcy_top.proofs.Growing.{append-nil}
+use Rattle.mcy_top.proofs.Pairs.{given_at}
 use Rattle.result_book.proofs.Grouping.{answers_of-other, answers_of-same}
 
--- a true word is not UNKNOWN
-known_word : (netlist : RawNetlist) (site : Option Site) (word : ℕ) → IsTrueWordAt netlist site word → word ≢ 3
-known_word netlist None word right = absurd right
-known_word netlist (Some site) word (inl right) = λ is. let pass : word ≡ 0 = right.0 in absurd (omega (arith, pass, is))
-known_word netlist (Some site) word (inr right) = λ is. let fail : word ≡ 1 = right.0 in absurd (omega (arith, fail, is))
+-- a word that is given up is UNKNOWN
+unknown_word : (netlist : RawNetlist) (site : Option Site) (limit word : ℕ) → IsGivenUpAt netlist site limit word → word ≡ 3
+unknown_word netlist None limit word given = absurd given
+unknown_word netlist (Some site) limit word given = given.0
 
--- no pair is given up
-none_given_up : (c : Prepared) (rows : List Entry) → AreTrue c rows → given_up rows ≡ []
-none_given_up c [] right = refl
-none_given_up c (e ∷ more) right = elim (eqb_tells e.word 3) [
-  | inl h ↦ absurd (known_word c.netlist (slice_get c.sites e.mutation) e.word right.0 h.1)
-  | inr h ↦ rw h.0 (none_given_up c more right.1)
+-- another right word is true
+known_word : (c : Prepared) (m word : ℕ) → IsRightWord c m word → word ≢ 3 → IsTrueWord c m word
+known_word c m word (inl right) known = right
+known_word c m word (inr given) known = absurd (known (unknown_word c.netlist (slice_get c.sites m) c.conflicts word given))
+
+-- a right word is that of its pair, where this is given up just if the word is UNKNOWN
+word_of : (c : Prepared) (pairs : List Pair) (m t word : ℕ) → is_given_up pairs m t ≡ (word == 3) → IsRightWord c m word → IsWordOf c pairs m t word
+word_of c pairs m t word given right = elim (eqb_tells word 3) [
+  | inl h ↦ subst (λ (b : Bool). MatchBool b (word ≡ 3) (IsTrueWord c m word)) (sym (given ∙ h.0)) h.1
+  | inr h ↦ subst (λ (b : Bool). MatchBool b (word ≡ 3) (IsTrueWord c m word)) (sym (given ∙ h.0)) (known_word c m word right h.1)
 ]
 
--- a mutation's rows are the answers that the campaign defines
-answers_are : (c : Prepared) (m : ℕ) (earlier rows : List Entry) → AreRows c.campaign earlier rows → AreTrue c rows → is_ended (ask c.campaign (answers_of m (earlier ++ rows))) ≡ true → AreAnswers c [] m (answers_of m earlier) (answers_of m rows)
-answers_are c m earlier [] all right ended = subst (λ (rows : List Entry). is_ended (ask c.campaign (answers_of m rows)) ≡ true) (append-nil earlier) ended
-answers_are c m earlier (e ∷ more) all right ended =
-    let moved : is_ended (ask c.campaign (answers_of m ((earlier ++ e ∷ []) ++ more))) ≡ true = subst (λ (rows : List Entry). is_ended (ask c.campaign (answers_of m rows)) ≡ true) (sym (append_assoc earlier (e ∷ []) more)) ended in
-    let rest : AreAnswers c [] m (answers_of m (earlier ++ e ∷ [])) (answers_of m more) = answers_are c m (earlier ++ e ∷ []) more all.1 right.1 moved in
+-- of all rows, those from one on: a mutation's rows are the answers that the campaign defines
+answers_are : (c : Prepared) (m : ℕ) (all earlier rows : List Entry) → earlier ++ rows ≡ all → AreRows c.campaign earlier rows → AreRight c rows → is_ended (ask c.campaign (answers_of m all)) ≡ true → AreAnswers c (given_up all) m (answers_of m earlier) (answers_of m rows)
+answers_are c m all earlier [] are form right ended = subst (λ (rows : List Entry). is_ended (ask c.campaign (answers_of m rows)) ≡ true) (sym are ∙ append-nil earlier) ended
+answers_are c m all earlier (e ∷ more) are form right ended =
+    let rest : AreAnswers c (given_up all) m (answers_of m (earlier ++ e ∷ [])) (answers_of m more) = answers_are c m all (earlier ++ e ∷ []) more (append_assoc earlier (e ∷ []) more ∙ are) form.1 right.1 ended in
+    let given : is_given_up (given_up all) e.mutation e.test ≡ (e.word == 3) = subst (λ (rows : List Entry). is_given_up (given_up rows) e.mutation e.test ≡ (e.word == 3)) are (given_at c.campaign earlier e more form) in
     elim (eqb_tells e.mutation m) [
       | inl h ↦ rw h.0 (
-        subst (λ (k : ℕ). ask c.campaign (answers_of k earlier) ≡ Need e.test) h.1 all.0.asked,
-        subst (λ (k : ℕ). IsTrueWord c k e.word) h.1 right.0,
-        subst (λ (answers : List Answer). AreAnswers c [] m answers (answers_of m more)) (answers_of-same m earlier e h.1) rest,
+        subst (λ (k : ℕ). ask c.campaign (answers_of k earlier) ≡ Need e.test) h.1 form.0.asked,
+        subst (λ (k : ℕ). IsWordOf c (given_up all) k e.test e.word) h.1 (word_of c (given_up all) e.mutation e.test e.word given right.0),
+        subst (λ (answers : List Answer). AreAnswers c (given_up all) m answers (answers_of m more)) (answers_of-same m earlier e h.1) rest,
       )
-      | inr h ↦ rw h.0 (subst (λ (answers : List Answer). AreAnswers c [] m answers (answers_of m more)) (answers_of-other m earlier e h.1) rest)
+      | inr h ↦ rw h.0 (subst (λ (answers : List Answer). AreAnswers c (given_up all) m answers (answers_of m more)) (answers_of-other m earlier e h.1) rest)
     ]
 
-all_answers : (c : Prepared) (m n : ℕ) (rows : List Entry) → m + n ≡ length c.campaign.mutations → ((k : ℕ) → k < length c.campaign.mutations → AreAnswers c [] k [] (answers_of k rows)) → AreAllAnswers c [] m (groups_from m n rows)
-all_answers c m zero rows whole each = let e : m ≡ length c.campaign.mutations = omega (arith, whole) in e
-all_answers c m (suc n) rows whole each = (each m (omega (arith, whole)), all_answers c (m + 1) n rows (omega (arith, whole)) each)
+all_answers : (c : Prepared) (pairs : List Pair) (m n : ℕ) (rows : List Entry) → m + n ≡ length c.campaign.mutations → ((k : ℕ) → k < length c.campaign.mutations → AreAnswers c pairs k [] (answers_of k rows)) → AreAllAnswers c pairs m (groups_from m n rows)
+all_answers c pairs m zero rows whole each = let e : m ≡ length c.campaign.mutations = omega (arith, whole) in e
+all_answers c pairs m (suc n) rows whole each = (each m (omega (arith, whole)), all_answers c pairs (m + 1) n rows (omega (arith, whole)) each)
 
-pub final_is : (c : Prepared) (book : Book) → IsWellFormed c.campaign book → AreTrue c book.journal → IsFinished c.campaign book → IsFinalText c (given_up book.journal) (status_text c.campaign book.journal)
-final_is c book form right finished =
-    let defined : AreAllAnswers c [] 0 (groups c.campaign book.journal) = all_answers c 0 (length c.campaign.mutations) book.journal (omega arith) (λ k below. answers_are c k [] book.journal form.rows right (finished k below)) in
-    record {
-      all = groups c.campaign book.journal;
-      defined = subst (λ (pairs : List Pair). AreAllAnswers c pairs 0 (groups c.campaign book.journal)) (sym (none_given_up c book.journal right)) defined;
-      is = refl;
-    }
+pub final_is : (c : Prepared) (book : Book) → IsWellFormed c.campaign book → AreRight c book.journal → IsFinished c.campaign book → IsFinalText c (given_up book.journal) (status_text c.campaign book.journal)
+final_is c book form right finished = record {
+  all = groups c.campaign book.journal;
+  defined = all_answers c (given_up book.journal) 0 (length c.campaign.mutations) book.journal (omega arith) (λ k below. answers_are c k book.journal [] book.journal refl form.rows right (finished k below));
+  is = refl;
+}

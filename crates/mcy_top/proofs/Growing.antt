@@ -10,7 +10,7 @@ use Rattle.mcy_keeper.specs.declared.keeper.KeepError.TheVariants.{Fault, Memory
 use Rattle.mcy_keeper.specs.Books.{AreNumbered, IsNext, Keeps, LeavesEither, LeavesNothingNew, with_entry}
 use Rattle.mcy_top.specs.declared.prepared.Prepared.{Prepared}
 use Rattle.result_book.specs.Rows.{AreRows, IsPair, IsRow, IsWellFormed}
-use Rattle.mcy_top.specs.Rows.{AreTrue, IsNextRow, IsTrueWord}
+use Rattle.mcy_top.specs.Rows.{AreRight, IsNextRow, IsRightWord}
 use Rattle.mcy_top.specs.Commands.{IsWithin}
 use Rattle.mcy_top.specs.Changes.{Course, IsChange}
 use Rattle.mcy_top.specs.Running.{book_of, AddsRow, LeavesNext, Ran}
@@ -25,9 +25,9 @@ rows_more c earlier [] e all row = (subst (λ (rs : List Entry). IsRow c.campaig
 rows_more c earlier (x ∷ rows) e all row =
     (all.0, rows_more c (earlier ++ x ∷ []) rows e all.1 (subst (λ (rs : List Entry). IsRow c.campaign rs e) (sym (append_assoc earlier (x ∷ []) rows)) row))
 
-pub true_more : (c : Prepared) (rows : List Entry) (e : Entry) → AreTrue c rows → IsTrueWord c e.mutation e.word → AreTrue c (rows ++ e ∷ [])
-true_more c [] e all row = (row, tt)
-true_more c (x ∷ rows) e all row = (all.0, true_more c rows e all.1 row)
+pub right_more : (c : Prepared) (rows : List Entry) (e : Entry) → AreRight c rows → IsRightWord c e.mutation e.word → AreRight c (rows ++ e ∷ [])
+right_more c [] e all row = (row, tt)
+right_more c (x ∷ rows) e all row = (all.0, right_more c rows e all.1 row)
 
 -- rows are numbered by their places
 pub are_numbered : (c : Prepared) (earlier rows : List Entry) (from : ℕ) → length earlier ≡ from → AreRows c.campaign earlier rows → AreNumbered from rows
@@ -54,7 +54,7 @@ ran_more c start rows e ran next = record {
     rows = ap (λ (l : List Entry). l ++ e ∷ []) ran.goes_on.rows ∙ append_assoc start ran.goes_on.more (e ∷ []);
   };
   form = form_more c (book_of c rows) e ran.form next;
-  words_true = λ all. true_more c rows e (ran.words_true all) next.word_true;
+  words_right = λ all. right_more c rows e (ran.words_right all) next.word_right;
   changes = ran.changes ++ book_of c (rows ++ e ∷ []) ∷ [];
   course = course_more c (book_of c start) ran.changes (book_of c rows) (book_of c (rows ++ e ∷ [])) ran.course (inr (ran.form, (e, next, refl)));
 }
@@ -89,5 +89,5 @@ within_spare (Some n) start rows gained same other within =
     let differ : n ≡ gained → ⊥ = eqb-false n gained other in
     omega (arith, same, differ, within)
 
-pub next_row_of : (c : Prepared) (rows : List Entry) (e : Entry) (m t word : ℕ) → IsRow c.campaign rows e → IsPair m t e → e.word ≡ word → IsTrueWord c m word → IsNextRow c (book_of c rows) e
-next_row_of c rows e m t word row pair is right = record { row = row; word_true = rw (pair.0, is) right }
+pub next_row_of : (c : Prepared) (rows : List Entry) (e : Entry) (m t word : ℕ) → IsRow c.campaign rows e → IsPair m t e → e.word ≡ word → IsRightWord c m word → IsNextRow c (book_of c rows) e
+next_row_of c rows e m t word row pair is right = record { row = row; word_right = rw (pair.0, is) right }

@@ -1,7 +1,7 @@
 -- Lists of lives.
 use Rattle.std.proofs.Common.{◌≡◌, inl, inr, arith, ℕ, ◌+◌, ◌≤◌, List, [], ◌∷◌, ◌++◌, length, refl, sym, ap, subst, ◌∙◌, append_assoc, length-append, Option, Some}
-use Rattle.std.specs.List.{All, AllPairs, Contains}
-use Rattle.std.proofs.lemmas.List.Elements.{All-cons, All-contains, All-nil, All-weaker, Contains-append_left, Contains-push}
+use Rattle.std.specs.List.{All, AllPairs}
+use Rattle.std.proofs.lemmas.List.Elements.{All-cons, All-nil, All-weaker}
 use Rattle.std.proofs.lemmas.List.Kept.{AllPairs-cons}
 use Rattle.mcy_keeper.specs.declared.book.Entry.{Entry}
 use Rattle.mcy_keeper.specs.declared.book.Book.{Book}
@@ -11,17 +11,18 @@ use Rattle.mcy_top.specs.declared.prepared.Prepared.{Prepared}
 use Rattle.mcy_top.specs.declared.outcome.Outcome.{Outcome}
 use Rattle.mcy_top.specs.Campaigns.{IsPlan}
 use Rattle.mcy_top.specs.Changes.{Course, IsChange, IsNear}
-use Rattle.result_book.specs.Rows.{AreRows, IsPair}
-use Rattle.mcy_top.specs.Rows.{AreTrue, GoesOn, IsBlankOrGood, IsGood, IsPrefix, IsWithinOne}
+use Rattle.result_book.specs.Rows.{AreRows}
+use Rattle.mcy_top.specs.Rows.{AreRight, GoesOn, IsBlankOrGood, IsGood, IsPrefix, IsWithinOne}
 use Rattle.mcy_top.specs.Crashes.{LeavesBooks}
 use Rattle.mcy_top.specs.Life.{Life}
 use Rattle.mcy_top.specs.Lives.{books_of, AreSafe, HasFinalText, HasPairsOnce, IsHistory, Lived}
 use Rattle.mcy_top.specs.Calls.{IsCovered, IsLived, IsSureBook}
 use Rattle.mcy_top.proofs.Crashes.{weaker_books}
-use Rattle.mcy_top.proofs.Growing.{form_more, true_more}
+use Rattle.mcy_top.proofs.Growing.{form_more, right_more}
 use Rattle.mcy_top.proofs.Advancing.{good_of, opened_form, within_itself}
 use Rattle.mcy_top.proofs.Finishing.{final_is}
-use Rattle.mcy_top.proofs.Once.{true_of}
+use Rattle.mcy_top.proofs.Once.{right_of}
+use Rattle.mcy_top.proofs.Pairs.{pairs_once}
 
 -- First parts.
 
@@ -60,7 +61,7 @@ change_prefix c book next (inr (form, (e, row, is))) = subst (λ (b : Book). IsP
 change_good : (c : Prepared) (book next : Book) → IsPlan c → IsChange c book next → IsBlankOrGood book → IsBlankOrGood next
 change_good c book next plan (inl begin) was = inr (subst IsGood (sym begin.1) (good_of c _ plan (opened_form c) tt))
 change_good c book next plan (inr (form, (e, row, is))) was =
-    inr (subst IsGood (sym is) (good_of c _ plan (form_more c book e form row) (true_more c book.journal e (true_of c book plan form was) row.word_true)))
+    inr (subst IsGood (sym is) (good_of c _ plan (form_more c book e form row) (right_more c book.journal e (right_of c book plan form was) row.word_right)))
 
 near_prefix : (c : Prepared) (sure next : Book) → IsNear c sure next → IsPrefix sure next
 near_prefix c sure next (inl same) = subst (λ (b : Book). IsPrefix sure b) (sym same) (prefix_itself sure)
@@ -117,19 +118,9 @@ all_kept start (l ∷ more) (same, life, (next, near, history)) =
 
 -- No pair stands twice.
 
-others_later : (c : Prepared) (row : Entry) (earlier rows : List Entry) → Contains earlier row → AreRows c.campaign earlier rows → All (λ e. ¬ IsPair e.mutation e.test row) rows
-others_later c row earlier [] has all = All-nil (λ e. ¬ IsPair e.mutation e.test row)
-others_later c row earlier (e ∷ rows) has all =
-    All-cons (λ e. ¬ IsPair e.mutation e.test row) e rows (All-contains (λ row. ¬ IsPair e.mutation e.test row) earlier row all.0.new has) (others_later c row (earlier ++ e ∷ []) rows (Contains-append_left earlier (e ∷ []) row has) all.1)
-
-rows_once : (c : Prepared) (earlier rows : List Entry) → AreRows c.campaign earlier rows → AllPairs (λ row e. ¬ IsPair e.mutation e.test row) rows
-rows_once c earlier [] all = λ i j d lt within. absurd (omega (arith, within))
-rows_once c earlier (row ∷ rows) all =
-    AllPairs-cons (λ row e. ¬ IsPair e.mutation e.test row) row rows (others_later c row (earlier ++ row ∷ []) rows (Contains-push earlier row) all.1) (rows_once c (earlier ++ row ∷ []) rows all.1)
-
-pairs_once : (book : Book) → IsBlankOrGood book → HasPairsOnce book
-pairs_once book (inl empty) = subst HasPairsOnce (sym empty) (λ i j d lt within. absurd (omega (arith, within)))
-pairs_once book (inr good) = rows_once good.prepared [] book.journal good.form.rows
+book_pairs_once : (book : Book) → IsBlankOrGood book → HasPairsOnce book
+book_pairs_once book (inl empty) = subst HasPairsOnce (sym empty) (λ i j d lt within. absurd (omega (arith, within)))
+book_pairs_once book (inr good) = pairs_once good.prepared.campaign [] book.journal good.form.rows
 
 -- A finished book's text.
 
@@ -137,7 +128,7 @@ all_final : (start : Book) (lives : List Lived) → IsBlankOrGood start → IsHi
 all_final start [] was history = All-nil (λ l. HasFinalText l.prepared l.sure)
 all_final start (l ∷ more) was (same, life, (next, near, history)) =
     let end : IsBlankOrGood l.sure = course_good l.prepared l.start l.changes l.sure life.plan life.course (subst IsBlankOrGood (sym same) was) in
-    All-cons (λ l. HasFinalText l.prepared l.sure) l more (λ form finished. final_is l.prepared l.sure form (true_of l.prepared l.sure life.plan form end) finished)
+    All-cons (λ l. HasFinalText l.prepared l.sure) l more (λ form finished. final_is l.prepared l.sure form (right_of l.prepared l.sure life.plan form end) finished)
     (all_final next more (near_good l.prepared l.sure next life.plan near end) history)
 
 pub lives_safe : (lives : List Lived) → IsHistory blank lives → AreSafe lives
@@ -145,7 +136,7 @@ lives_safe lives history =
     let good : All IsBlankOrGood (books_of lives) = all_good blank lives (inl refl) history in
     record {
       good = good;
-      once = All-weaker IsBlankOrGood HasPairsOnce pairs_once (books_of lives) good;
+      once = All-weaker IsBlankOrGood HasPairsOnce book_pairs_once (books_of lives) good;
       kept = all_kept blank lives history;
       final = all_final blank lives (inl refl) history;
     }
@@ -156,9 +147,9 @@ rows_first : (c : Prepared) (earlier rows more : List Entry) → AreRows c.campa
 rows_first c earlier [] more all = tt
 rows_first c earlier (row ∷ rows) more all = (all.0, rows_first c (earlier ++ row ∷ []) rows more all.1)
 
-true_first : (c : Prepared) (rows more : List Entry) → AreTrue c (rows ++ more) → AreTrue c rows
-true_first c [] more all = tt
-true_first c (row ∷ rows) more all = (all.0, true_first c rows more all.1)
+right_first : (c : Prepared) (rows more : List Entry) → AreRight c (rows ++ more) → AreRight c rows
+right_first c [] more all = tt
+right_first c (row ∷ rows) more all = (all.0, right_first c rows more all.1)
 
 pub part_good : (book part : Book) → IsGood book → GoesOn part book → IsGood part
 part_good book part good on = record {
@@ -169,7 +160,7 @@ part_good book part good on = record {
     mutations = sym on.mutations ∙ good.form.mutations;
     rows = rows_first good.prepared [] part.journal on.more (subst (λ (rows : List Entry). AreRows good.prepared.campaign [] rows) on.rows good.form.rows);
   };
-  words_true = true_first good.prepared part.journal on.more (subst (AreTrue good.prepared) on.rows good.words_true);
+  words_right = right_first good.prepared part.journal on.more (subst (AreRight good.prepared) on.rows good.words_right);
 }
 
 -- What a call is sure of.

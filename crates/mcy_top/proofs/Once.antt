@@ -15,7 +15,7 @@ use Rattle.mcy_top.specs.Mutations.{all_sites, picked_sites}
 use Rattle.result_book.specs.Scripts.{Answer, ask, is_ended}
 use Rattle.mcy_top.specs.Campaigns.{campaign_of, file_item, meta_of, IsPlan}
 use Rattle.result_book.specs.Rows.{IsWellFormed}
-use Rattle.mcy_top.specs.Rows.{AreTrue, IsBlankOrGood, IsTrueWord, IsTrueWordAt}
+use Rattle.mcy_top.specs.Rows.{AreRight, IsBlankOrGood, IsTrueWord, IsTrueWordAt}
 use Rattle.source_report.specs.Texts.{lines, status_text}
 use Rattle.mcy_top.specs.Defined.{given_up, is_given_up, AreAllAnswers, AreAnswers, IsFinalText, IsWordOf, Pair}
 use Rattle.mcy_top.specs.Once.{GaveUpSame, IsEnded}
@@ -43,12 +43,13 @@ plan_once c d one two same =
     let derived : campaign_of one.config one.made.project one.made.script one.made.report one.files c.netlist ≡ campaign_of two.config two.made.project two.made.script two.made.report two.files d.netlist = λ i. campaign_of (config i) (project i) (script i) (report i) (files i) (netlist i) in
     let campaign : c.campaign ≡ d.campaign = one.made.campaign ∙ derived ∙ sym two.made.campaign in
     let sources : c.files ≡ d.files = one.made.sources ∙ files ∙ sym two.made.sources in
-    λ i. record { campaign = campaign i; site_count = count i; sites = places i; netlist = netlist i; files = sources i }
+    let conflicts : c.conflicts ≡ d.conflicts = one.made.conflicts ∙ ap (λ (p : Project). p.conflicts) project ∙ sym two.made.conflicts in
+    λ i. record { campaign = campaign i; site_count = count i; sites = places i; netlist = netlist i; conflicts = conflicts i; files = sources i }
 
--- a good book's words are true for the campaign that it is well-formed for
-pub true_of : (c : Prepared) (book : Book) → IsPlan c → IsWellFormed c.campaign book → IsBlankOrGood book → AreTrue c book.journal
-true_of c book plan form (inl empty) = subst (λ (b : Book). AreTrue c b.journal) (sym empty) tt
-true_of c book plan form (inr good) = subst (λ (d : Prepared). AreTrue d book.journal) (plan_once good.prepared c good.plan plan (sym good.form.meta ∙ form.meta)) good.words_true
+-- a good book's words are right for the campaign that it is well-formed for
+pub right_of : (c : Prepared) (book : Book) → IsPlan c → IsWellFormed c.campaign book → IsBlankOrGood book → AreRight c book.journal
+right_of c book plan form (inl empty) = subst (λ (b : Book). AreRight c b.journal) (sym empty) tt
+right_of c book plan form (inr good) = subst (λ (d : Prepared). AreRight d book.journal) (plan_once good.prepared c good.plan plan (sym good.form.meta ∙ form.meta)) good.words_right
 
 -- What it defines.
 
@@ -111,7 +112,7 @@ final_text_once c pairs text other h k = final_text_by_pairs c pairs pairs text 
 
 -- the text that the campaign defines for a finished book
 ended_text : (c : Prepared) (book : Book) → IsPlan c → IsEnded c book → IsFinalText c (given_up book.journal) (status_text c.campaign book.journal)
-ended_text c book plan ended = final_is c book ended.form (true_of c book plan ended.form (inr ended.good)) ended.finished
+ended_text c book plan ended = final_is c book ended.form (right_of c book plan ended.form (inr ended.good)) ended.finished
 
 pub finished_text_once : (c : Prepared) (book other : Book) → IsPlan c → IsEnded c book → IsEnded c other → GaveUpSame book other → status_text c.campaign book.journal ≡ status_text c.campaign other.journal
 finished_text_once c book other plan ended done same =

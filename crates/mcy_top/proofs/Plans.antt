@@ -1,27 +1,25 @@
--- What a plan's netlist is: small enough for the equivalence test, with the campaign's sites.
+-- What a plan's netlist is: small enough for the equivalence test where there is one, with the campaign's sites.
 use Rattle.std.proofs.Common.{◌≡◌, ℕ, zero, suc, ◌<◌, ◌≤◌, List, [], ◌∷◌, length, map, get_or, slice_get, true, Option, None, Some, Ok, inl, inr, refl, sym, ◌∙◌, ap, subst, arith}
 use Rattle.std.proofs.lemmas.List.{length-map}
 use Rattle.std.proofs.lemmas.Option.{slice_get-get_or}
 use Rattle.mutation_sites.specs.declared.site.Site.{Site}
 use Rattle.mcy_top.specs.declared.prepared.Prepared.{Prepared}
-use Rattle.step_trials.specs.Inputs.{free_list}
-use Rattle.step_trials.specs.Equal.{OneStepEqual, design, mutant}
-use Rattle.mcy_top.specs.Rows.{IsTrueWord, IsTrueWordAt}
-use Rattle.mcy_top.proofs.Placed.{sites-placed}
+use Rattle.mcy_top.specs.Rows.{IsGivenUpAt, IsRightWord, IsTrueWordAt}
 use Rattle.project_limits.proofs.Files.{files_few}
-use Rattle.project_limits.proofs.Sizes.{size_within}
+use Rattle.project_limits.proofs.Sizes.{conflicts_within, size_within}
 use Rattle.hier_once.proofs.OneAnswer.{netlist_cells}
-use Rattle.mcy_top.proofs.FreeBits.{length-free_list}
-use Rattle.std.specs.List.{All}
+use Rattle.std.specs.List.{All, Any}
 use Rattle.std.specs.Prelude.{IsSomeAnd}
 use Rattle.netlist_core.specs.declared.raw.RawNetlist.{RawNetlist}
 use Rattle.result_book.specs.declared.campaign.Campaign.{Campaign}
 use Rattle.result_book.specs.Campaigns.{eq_kind, IsEqWord, IsFit, IsWordOf, IsWordOfKind}
 use Rattle.mutation_sites.specs.SiteTexts.{site_text}
 use Rattle.mutation_sites.specs.Mutants.{IsSite}
-use Rattle.netlist_core.specs.Checked.{net_bits}
-use Rattle.mcy_top.specs.Mutations.{mode_set, picked_sites, site_line}
-use Rattle.mcy_top.proofs.Chosen.{within-size, All-picked}
+use Rattle.netlist_core.specs.Checked.{free_bits, net_bits}
+use Rattle.pair_gates.specs.Refusals.{max_free}
+use Rattle.pair_gates.specs.Weights.{design_gates, max_design_gates}
+use Rattle.mcy_top.specs.Mutations.{picked_sites, site_line}
+use Rattle.mcy_top.proofs.Chosen.{within-size}
 use Rattle.mcy_base.specs.declared.file.SourceFile.{SourceFile}
 use Rattle.project_file.specs.declared.project.Project.{Project}
 use Rattle.project_file.specs.declared.project.TestPlan.{TestPlan}
@@ -38,11 +36,28 @@ use Rattle.report_script.specs.declared.report.Report.{Report}
 use Rattle.report_script.specs.Fits.{report_fits}
 use Rattle.report_script.specs.Reading.{report_of}
 use Rattle.report_script.proofs.Fitting.{reads_fit as report_reads_fit}
-use Rattle.mcy_top.specs.Projects.{AreBuilt, HasScripts, kind_of, test_kinds, test_names}
+use Rattle.mcy_top.specs.Projects.{AreBuilt, HasEquality, HasScripts, kind_of, test_kinds, test_names}
 use Rattle.mcy_top.specs.Campaigns.{campaign_of, file_item, meta_of, names_of, IsPlan}
 
-pub plan_small : (c : Prepared) → IsPlan c → length (free_list c.netlist) ≤ 8
-plan_small c plan = omega (arith, length-free_list c.netlist, plan.made.few)
+-- a project that is built and has a test has one that is an equality
+built_equality : (tests : List TestPlan) → All (λ t. t.kind ≡ Eq) tests → 0 < length tests → Any (λ t. t.kind ≡ Eq) tests
+built_equality [] all some = absurd (omega (arith, some))
+built_equality (t ∷ tests) all some = (0, t, omega arith, refl, all 0 t (omega arith))
+
+plan_equality : (c : Prepared) (plan : IsPlan c) → 0 < length c.campaign.kinds → HasEquality plan.made.project
+plan_equality c plan some =
+    let kinds : length c.campaign.kinds ≡ length (test_kinds plan.made.project) = ap (λ (k : Campaign). length k.kinds) plan.made.campaign in
+    built_equality plan.made.project.tests plan.made.tests (omega (arith, some, kinds, length-map plan.made.project.tests (λ (t : TestPlan). kind_of t.kind)))
+
+-- where it has a test, its design is within the limits of an equivalence test
+pub plan_limits : (c : Prepared) → IsPlan c → 0 < length c.campaign.kinds → (free_bits c.netlist ≤ max_free) × (design_gates c.netlist ≤ max_design_gates)
+plan_limits c plan some = let equality = plan_equality c plan some in (plan.made.few.few_bits equality, plan.made.few.few_gates equality)
+
+-- and gives this test 1 to 100,000 lemmas
+pub plan_conflicts : (c : Prepared) → IsPlan c → (1 ≤ c.conflicts) × (c.conflicts ≤ 100000)
+plan_conflicts c plan =
+    let within = conflicts_within plan.config plan.made.project plan.made.says in
+    (omega (arith, within.0, plan.made.conflicts), omega (arith, within.1, plan.made.conflicts))
 
 -- it has few cells and bits
 pub plan_nets : (c : Prepared) → IsPlan c → (length c.netlist.cells ≤ 65535) × (net_bits c.netlist ≤ 1048576)
@@ -50,19 +65,7 @@ plan_nets c plan = (netlist_cells plan.made.design.modules plan.made.project.top
 
 -- there is a bit at the site of each mutation
 pub plan_site : (c : Prepared) (m : ℕ) (d : Site) → IsPlan c → m < length c.sites → IsSite c.netlist (get_or c.sites m d)
-plan_site c m d plan below =
-    let placed : All (IsSite c.netlist) (picked_sites plan.made.project c.netlist) = All-picked (IsSite c.netlist) plan.made.project c.netlist (sites-placed (mode_set plan.made.project.modes) c.netlist) in
-    let here : All (IsSite c.netlist) c.sites = subst (λ (list : List Site). All (IsSite c.netlist) list) (sym plan.made.places) placed in
-    here m d below
-
--- the true word of a mutation, from what the equivalence test found
-pub true_pass : (c : Prepared) (list : List Site) (m : ℕ) (d : Site) → list ≡ c.sites → m < length c.sites → OneStepEqual (design c.netlist) (mutant c.netlist (get_or list m d)) → IsTrueWord c m 0
-true_pass c list m d is below equal =
-    subst (λ (o : Option Site). IsTrueWordAt c.netlist o 0) (sym (slice_get-get_or c.sites m d below)) (inl (refl, subst (λ (l : List Site). OneStepEqual (design c.netlist) (mutant c.netlist (get_or l m d))) is equal))
-
-pub true_fail : (c : Prepared) (list : List Site) (m : ℕ) (d : Site) → list ≡ c.sites → m < length c.sites → (¬ OneStepEqual (design c.netlist) (mutant c.netlist (get_or list m d))) → IsTrueWord c m 1
-true_fail c list m d is below differ =
-    subst (λ (o : Option Site). IsTrueWordAt c.netlist o 1) (sym (slice_get-get_or c.sites m d below)) (inr (refl, subst (λ (l : List Site). ¬ OneStepEqual (design c.netlist) (mutant c.netlist (get_or l m d))) is differ))
+plan_site c m d plan below = plan.made.placed m d below
 
 pub plan_meta : (c : Prepared) (plan : IsPlan c) → c.campaign.meta ≡ meta_of plan.config plan.files
 plan_meta c plan = ap (λ (k : Campaign). k.meta) plan.made.campaign
@@ -119,14 +122,22 @@ plan_fit c plan =
     let few : length (picked_sites plan.made.project c.netlist) ≤ 10000 = omega (arith, within-size plan.made.project c.netlist, (size_within plan.config plan.made.project plan.made.says)) in
     subst IsFit (sym plan.made.campaign) (fit_of plan.config plan.made.project plan.made.script plan.made.report plan.files c.netlist plan.made.says plan.made.tests plan.made.scripts few)
 
-verdict : (netlist : RawNetlist) (site : Option Site) (word : ℕ) → IsTrueWordAt netlist site word → IsEqWord word
-verdict netlist None word right = absurd right
-verdict netlist (Some site) word (inl right) = inl right.0
-verdict netlist (Some site) word (inr right) = inr (inl right.0)
+true_is_word : (netlist : RawNetlist) (site : Option Site) (word : ℕ) → IsTrueWordAt netlist site word → IsEqWord word
+true_is_word netlist None word right = absurd right
+true_is_word netlist (Some site) word (inl right) = inl right.0
+true_is_word netlist (Some site) word (inr right) = inr (inl right.0)
 
--- a true word is one of each test's kind
-pub plan_word : (c : Prepared) (m test word : ℕ) → IsPlan c → test < length c.campaign.kinds → IsTrueWord c m word → IsWordOf c.campaign test word
+given_up_is_word : (netlist : RawNetlist) (site : Option Site) (limit word : ℕ) → IsGivenUpAt netlist site limit word → IsEqWord word
+given_up_is_word netlist None limit word given = absurd given
+given_up_is_word netlist (Some site) limit word given = inr (inr given.0)
+
+right_is_word : (c : Prepared) (m word : ℕ) → IsRightWord c m word → IsEqWord word
+right_is_word c m word (inl right) = true_is_word c.netlist (slice_get c.sites m) word right
+right_is_word c m word (inr given) = given_up_is_word c.netlist (slice_get c.sites m) c.conflicts word given
+
+-- a right word is one of each test's kind
+pub plan_word : (c : Prepared) (m test word : ℕ) → IsPlan c → test < length c.campaign.kinds → IsRightWord c m word → IsWordOf c.campaign test word
 plan_word c m test word plan below right =
     let all : All (λ kind. kind ≡ eq_kind) c.campaign.kinds = subst (λ (k : Campaign). All (λ kind. kind ≡ eq_kind) k.kinds) (sym plan.made.campaign) (equal_kinds plan.made.project.tests plan.made.tests) in
     let at : slice_get c.campaign.kinds test ≡ Some eq_kind = slice_get-get_or c.campaign.kinds test 0 below ∙ ap (λ (kind : ℕ). Some kind) (all test 0 below) in
-    subst (λ (o : Option ℕ). IsSomeAnd o (λ kind. IsWordOfKind kind word)) (sym at) (inl (refl, verdict c.netlist (slice_get c.sites m) word right))
+    subst (λ (o : Option ℕ). IsSomeAnd o (λ kind. IsWordOfKind kind word)) (sym at) (inl (refl, right_is_word c m word right))

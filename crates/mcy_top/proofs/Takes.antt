@@ -21,17 +21,14 @@ use Rattle.mcy_top.specs.declared.outcome.Refusal.TheVariants.{ProjectBad, Scrip
 use Rattle.tag_script.specs.declared.script.Script.{Script}
 use Rattle.tag_script.specs.declared.script.ScriptError.{ScriptError}
 use Rattle.report_script.specs.declared.report.Report.{Report}
-use Rattle.mcy_top.specs.Limits.{max_bytes, max_sites}
-use Rattle.mcy_top.specs.Mutations.{all_sites}
-use Rattle.step_trials.specs.Inputs.{max_free_bits}
+use Rattle.mcy_top.specs.Limits.{max_bytes, IsWithinLimits}
 use Rattle.mcy_top.specs.Projects.{AreBuilt, HasScripts, IsBuilt, IsUnbuilt, logic_read, report_read}
 use Rattle.mcy_top.specs.declared.prepared.Prepared.{Prepared}
 use Rattle.mcy_top.specs.Campaigns.{config_name, file_item, names_of, Got, GotAll, IsMade, IsPrepared}
 use Rattle.mcy_top.specs.Reads.{GotSources, HasProject, IsExcess, IsNext, IsRead, IsRefusedAsLarge, IsSourceBad, IsTooLarge, IsUnmade, IsUnprepared, refused_as, IsUnscripted, IsUntaken, IsUntakenDesign}
 use Rattle.mcy_base.specs.declared.kind.Kind.{Kind}
-use Rattle.mcy_base.specs.declared.kind.Kind.TheVariants.{FreeBits, Sites}
+use Rattle.mcy_base.specs.declared.kind.Kind.TheVariants.{FreeBits, Gates, Sites}
 use Rattle.netlist_core.specs.declared.raw.RawNetlist.{RawNetlist}
-use Rattle.netlist_core.specs.Checked.{free_bits}
 use Rattle.source_faults.specs.declared.fault.SourceError.{SourceError}
 use Rattle.source_faults.specs.Faults.{too_many}
 use Rattle.project_sources.specs.Netlists.{HasNetlist}
@@ -237,22 +234,29 @@ read_there told p files name got (inr (q, has, next)) = source_there told p q fi
 -- Designs.
 
 -- there is too much of one thing
-excess_once : (sites bits : ℕ) (k j : Kind) → IsExcess sites bits k → IsExcess sites bits j → k ≡ j
-excess_once sites bits Sites Sites h g = refl
-excess_once sites bits Sites FreeBits h g = absurd (omega (arith, h, g.0))
-excess_once sites bits FreeBits Sites h g = absurd (omega (arith, h.0, g))
-excess_once sites bits FreeBits FreeBits h g = refl
-excess_once sites bits Sites j h g = absurd g
-excess_once sites bits FreeBits j h g = absurd g
-excess_once sites bits k j h g = absurd h
+excess_once : (p : Project) (netlist : RawNetlist) (k j : Kind) → IsExcess p netlist k → IsExcess p netlist j → k ≡ j
+excess_once p netlist Sites Sites h g = refl
+excess_once p netlist Sites Gates h g = absurd (omega (arith, h, g.0.0))
+excess_once p netlist Sites FreeBits h g = absurd (omega (arith, h, g.0.0))
+excess_once p netlist Gates Sites h g = absurd (omega (arith, h.0.0, g))
+excess_once p netlist Gates Gates h g = refl
+excess_once p netlist Gates FreeBits h g = absurd (omega (arith, h.1, g.1))
+excess_once p netlist FreeBits Sites h g = absurd (omega (arith, h.0.0, g))
+excess_once p netlist FreeBits Gates h g = absurd (omega (arith, h.1, g.1))
+excess_once p netlist FreeBits FreeBits h g = refl
+excess_once p netlist Sites j h g = absurd g
+excess_once p netlist Gates j h g = absurd g
+excess_once p netlist FreeBits j h g = absurd g
+excess_once p netlist k j h g = absurd h
 
-no_excess : (sites bits : ℕ) (k : Kind) → sites ≤ max_sites → bits ≤ max_free_bits → ¬ IsExcess sites bits k
-no_excess sites bits Sites few small h = omega (arith, few, h)
-no_excess sites bits FreeBits few small h = omega (arith, small, h.1)
-no_excess sites bits k few small h = absurd h
+no_excess : (p : Project) (netlist : RawNetlist) (k : Kind) → IsWithinLimits p netlist → ¬ IsExcess p netlist k
+no_excess p netlist Sites few h = omega (arith, few.few_sites, h)
+no_excess p netlist Gates few h = omega (arith, few.few_gates h.0.1, h.1)
+no_excess p netlist FreeBits few h = omega (arith, few.few_bits h.0.1, h.2)
+no_excess p netlist k few h = absurd h
 
 large_once : (p : Project) (netlist : RawNetlist) (x y : SourceError) → IsTooLarge p netlist x → IsTooLarge p netlist y → x ≡ y
-large_once p netlist x y (k, h, is) (j, g, are) = is ∙ ap too_many (excess_once (length (all_sites p netlist)) (free_bits netlist) k j h g) ∙ sym are
+large_once p netlist x y (k, h, is) (j, g, are) = is ∙ ap too_many (excess_once p netlist k j h g) ∙ sym are
 
 bad_once : (p : Project) (files : List SourceFile) (x y : SourceError) → IsSourceBad p files x → IsSourceBad p files y → x ≡ y
 bad_once p files x y (inl h) (inl k) = faults_are_one files p.top x y h k
@@ -270,12 +274,12 @@ untaken_design_once p files (SourceBad e) q m n h k = absurd k
 untaken_design_once p files r q m n h k = absurd h
 
 -- and those that are taken for none
-pub untaken_design_not : (p : Project) (files : List SourceFile) (netlist : RawNetlist) (r : Refusal) → HasNetlist files p.top netlist → length (all_sites p netlist) ≤ max_sites → free_bits netlist ≤ max_free_bits → r ≢ Memory → ¬ IsUntakenDesign p files r
-untaken_design_not p files netlist Memory has few small some h = some refl
-untaken_design_not p files netlist (SourceBad e) has few small some (inl h) = netlist_without_fault files p.top netlist e has h
-untaken_design_not p files netlist (SourceBad e) has few small some (inr (other, also, (kind, excess, is))) =
-    no_excess (length (all_sites p netlist)) (free_bits netlist) kind few small (subst (λ n. IsExcess (length (all_sites p n)) (free_bits n) kind) (netlists_are_one files p.top other netlist also has) excess)
-untaken_design_not p files netlist r has few small some h = absurd h
+pub untaken_design_not : (p : Project) (files : List SourceFile) (netlist : RawNetlist) (r : Refusal) → HasNetlist files p.top netlist → IsWithinLimits p netlist → r ≢ Memory → ¬ IsUntakenDesign p files r
+untaken_design_not p files netlist Memory has few some h = some refl
+untaken_design_not p files netlist (SourceBad e) has few some (inl h) = netlist_without_fault files p.top netlist e has h
+untaken_design_not p files netlist (SourceBad e) has few some (inr (other, also, (kind, excess, is))) =
+    no_excess p netlist kind few (subst (λ n. IsExcess p n kind) (netlists_are_one files p.top other netlist also has) excess)
+untaken_design_not p files netlist r has few some h = absurd h
 
 -- A project has few files.
 pub sources_few : (config : List ℕ) (p : Project) (files : List SourceFile) → IsProject config p → names_of files ≡ design_files p → length files ≤ 64

@@ -23,7 +23,7 @@ use Rattle.mcy_top.specs.declared.outcome.Outcome.{Outcome}
 use Rattle.mcy_top.specs.declared.outcome.Outcome.TheVariants.{Done, Unfinished, NoCampaign, AlreadyBegun, BookBad, KeeperFault, WriteFault, Memory}
 use Rattle.mcy_top.specs.Commands.{stop_of, IsWithin, OnlyReads, Runs}
 use Rattle.mcy_top.specs.Campaigns.{IsPlan}
-use Rattle.mcy_top.specs.Rows.{AreTrue, IsBlankOrGood, IsGood, IsNextRow, IsPrefix, IsWithinOne}
+use Rattle.mcy_top.specs.Rows.{AreRight, IsBlankOrGood, IsGood, IsNextRow, IsPrefix, IsWithinOne}
 use Rattle.mcy_top.specs.Changes.{Course, IsNear, opened}
 use Rattle.mcy_top.specs.Running.{book_of, Broke, Ran, Reached}
 use Rattle.mcy_top.specs.Texts.{init_text, text_of}
@@ -35,8 +35,8 @@ use Rattle.mcy_top.proofs.Advancing.{good_of, opened_form, within_itself, within
 use Rattle.mcy_top.proofs.Counting.{all_counted, counted_all, counted_few}
 use Rattle.mcy_top.proofs.Crashes.{either_books, only_books, weaker_books}
 use Rattle.mcy_top.proofs.Finishing.{final_is}
-use Rattle.mcy_top.proofs.Growing.{form_more, length_more, true_more}
-use Rattle.mcy_top.proofs.Once.{true_of}
+use Rattle.mcy_top.proofs.Growing.{form_more, length_more, right_more}
+use Rattle.mcy_top.proofs.Once.{right_of}
 use Rattle.mcy_top.proofs.Plans.{plan_meta}
 
 -- a begun book has meta
@@ -201,7 +201,7 @@ grew_broke : (leaves : Option Book → Type 0) (stop : Option ℕ) (c : Prepared
 grew_broke leaves stop c start before now outcome plan form b not = record {
   grown = inr b.ran.goes_on;
   within_one = weaker_books leaves Next (IsWithinOne sure) within b.left;
-  good = λ was. weaker_books leaves Next (λ x. IsGood x ⊎ (IsBlank x × IsBlank (book_of c start))) (λ other next. inl (good (b.ran.words_true (true_of c (book_of c start) plan form was)) other next)) b.left;
+  good = λ was. weaker_books leaves Next (λ x. IsGood x ⊎ (IsBlank x × IsBlank (book_of c start))) (λ other next. inl (good (b.ran.words_right (right_of c (book_of c start) plan form was)) other next)) b.left;
   reads = λ h. absurd h;
   no_entry = λ h. absurd (h tt);
   gained = within_less stop (length start) (length b.rows) b.within;
@@ -223,10 +223,10 @@ grew_broke leaves stop c start before now outcome plan form b not = record {
     within other (inl same) = subst (λ (x : Book). IsWithinOne sure x) (sym same) (within_itself sure)
     within other (inr (e, next, more)) = subst (λ (x : Book). IsWithinOne sure x) (sym more) (within_more sure e)
 
-    good : AreTrue c b.rows → (other : Book) → Next other → IsGood other
+    good : AreRight c b.rows → (other : Book) → Next other → IsGood other
     good right other (inl same) = subst IsGood (sym same) (good_of c sure plan b.ran.form right)
     good right other (inr (e, next, more)) =
-        subst IsGood (sym more) (good_of c (with_entry sure e) plan (form_more c sure e b.ran.form next) (true_more c b.rows e right next.word_true))
+        subst IsGood (sym more) (good_of c (with_entry sure e) plan (form_more c sure e b.ran.form next) (right_more c b.rows e right next.word_right))
 
     stops : (other : Book) → Next other → IsWithin stop (length start) (length other.journal)
     stops other (inl same) = subst (λ (x : Book). IsWithin stop (length start) (length x.journal)) (sym same) (within_less stop (length start) (length b.rows) b.within)
@@ -277,7 +277,7 @@ whole c stop start rows went finished = (
   went.ran.form,
   λ runs. record {
     finished = finished;
-    final = λ was. final_is c (book_of c rows) went.ran.form (went.ran.words_true (true_of c (book_of c start) went.plan went.form was)) finished;
+    final = λ was. final_is c (book_of c rows) went.ran.form (went.ran.words_right (right_of c (book_of c start) went.plan went.form was)) finished;
   },
 )
 
@@ -310,7 +310,7 @@ pub work_ran : (holds : Book → Type 0) (leaves : Option Book → Type 0) (writ
 work_ran holds leaves written written' before now stop c start rows ending went kept steps wrote = record {
   sure = book_of c rows;
   book = grew_exact leaves (Run stop) c (book_of c start) (book_of c rows) went.ran.changes (ended_outcome (run_outcome c rows) ending) went.ran.course kept.crash (inr went.ran.goes_on)
-      (λ was. inl (good_of c (book_of c rows) went.plan went.ran.form (went.ran.words_true (true_of c (book_of c start) went.plan went.form was)))) (λ h. absurd h) (λ h. absurd (h tt)) went.within (λ h. plan_begun c went.plan);
+      (λ was. inl (good_of c (book_of c rows) went.plan went.ran.form (went.ran.words_right (right_of c (book_of c start) went.plan went.form was)))) (λ h. absurd h) (λ h. absurd (h tt)) went.within (λ h. plan_begun c went.plan);
   steps = record { bound = omega (arith, steps); equal = λ is. steps; stops = within_steps stop (length start) (length rows) before now (omega (arith, steps)) went.within; idle = λ h. absurd (h tt) };
   text = text ending wrote;
   answer = answer ending;

@@ -1,5 +1,5 @@
 -- The campaign of a project and its sources.
-use Rattle.std.specs.Prelude.{◌≡◌, ℕ, ◌≤◌, List, ◌∷◌, ◌++◌, length, map, codes, ⊤, Option, None, Some}
+use Rattle.std.specs.Prelude.{◌≡◌, ℕ, List, ◌∷◌, ◌++◌, length, map, codes, ⊤, Option, None, Some}
 use Rattle.std.specs.List.{All}
 use Rattle.mcy_base.specs.declared.file.SourceFile.{SourceFile}
 use Rattle.mcy_outside.specs.Files.{Held, Gives, IsLarge}
@@ -10,11 +10,10 @@ use Rattle.result_book.specs.declared.campaign.Campaign.{Campaign}
 use Rattle.tag_script.specs.declared.script.Script.{Script}
 use Rattle.report_script.specs.declared.report.Report.{Report}
 use Rattle.mcy_top.specs.declared.prepared.Prepared.{Prepared}
-use Rattle.mcy_top.specs.Limits.{max_bytes, max_sites}
-use Rattle.netlist_core.specs.Checked.{free_bits}
-use Rattle.step_trials.specs.Inputs.{max_free_bits}
+use Rattle.mcy_top.specs.Limits.{max_bytes, IsWithinLimits}
 use Rattle.mcy_top.specs.Projects.{AreBuilt, HasScripts, test_kinds, test_names}
 use Rattle.project_sources.specs.Netlists.{HasNetlist}
+use Rattle.mutation_sites.specs.Mutants.{IsSite}
 use Rattle.mutation_sites.specs.SiteTexts.{site_text}
 use Rattle.mcy_top.specs.Mutations.{all_sites, picked_sites, site_line}
 
@@ -48,7 +47,7 @@ campaign_of config project script report files netlist = record {
   report = report;
 }
 
--- a campaign, with its sources and their netlist, how many sites that has, and those of the mutations
+-- a campaign, with its sources and their netlist, how many sites that has, and those of the mutations, which are bits of it
 pub record IsPrepared (config : List ℕ) (files : List SourceFile) (c : Prepared) : Type 0 where
   pub project : Project
   pub says : IsProject config project
@@ -58,11 +57,12 @@ pub record IsPrepared (config : List ℕ) (files : List SourceFile) (c : Prepare
   pub scripts : HasScripts project script report
   pub names : names_of files ≡ design_files project
   pub design : HasNetlist files project.top c.netlist
-  pub few_sites : length (all_sites project c.netlist) ≤ max_sites
-  pub few : free_bits c.netlist ≤ max_free_bits
+  pub few : IsWithinLimits project c.netlist
+  pub conflicts : c.conflicts ≡ project.conflicts
   pub campaign : c.campaign ≡ campaign_of config project script report files c.netlist
   pub count : c.site_count ≡ length (all_sites project c.netlist)
   pub places : c.sites ≡ picked_sites project c.netlist
+  pub placed : All (IsSite c.netlist) c.sites
   pub sources : c.files ≡ files
 
 -- that of some project and sources

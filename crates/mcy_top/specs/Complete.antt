@@ -1,5 +1,5 @@
 -- When a call must succeed.
-use Rattle.std.specs.Prelude.{◌≡◌, ◌≢◌, ℕ, ◌≤◌, List, length, Option, None, Some, ⊤}
+use Rattle.std.specs.Prelude.{◌≡◌, ◌≢◌, ℕ, List, Option, None, Some, ⊤}
 use Rattle.mcy_base.specs.Causes.{Rose}
 use Rattle.mcy_keeper.specs.declared.book.Book.{Book}
 use Rattle.mcy_base.specs.declared.file.SourceFile.{SourceFile}
@@ -10,13 +10,10 @@ use Rattle.mcy_top.specs.declared.prepared.Prepared.{Prepared}
 use Rattle.netlist_core.specs.declared.raw.RawNetlist.{RawNetlist}
 use Rattle.mcy_top.specs.declared.outcome.Outcome.{Outcome}
 use Rattle.mcy_top.specs.declared.outcome.Outcome.TheVariants.{Done, Unfinished, Memory}
-use Rattle.netlist_core.specs.Checked.{free_bits}
-use Rattle.step_trials.specs.Inputs.{max_free_bits}
 use Rattle.command_words.specs.Commands.{command_of}
 use Rattle.mcy_top.specs.Commands.{stop_of}
 use Rattle.project_sources.specs.Netlists.{HasNetlist}
-use Rattle.mcy_top.specs.Limits.{max_sites}
-use Rattle.mcy_top.specs.Mutations.{all_sites}
+use Rattle.mcy_top.specs.Limits.{IsWithinLimits}
 use Rattle.mcy_top.specs.Campaigns.{IsMade}
 use Rattle.mcy_top.specs.Reads.{GotSources}
 use Rattle.mcy_top.specs.Life.{Takes}
@@ -30,8 +27,7 @@ pub record IsReadable (held : Option Held) : Type 0 where
   pub got : GotSources (Some map) project files
   pub netlist : RawNetlist
   pub design : HasNetlist files project.top netlist
-  pub few_sites : length (all_sites project netlist) ≤ max_sites
-  pub few : free_bits netlist ≤ max_free_bits
+  pub few : IsWithinLimits project netlist
 
 -- the command is given, the files are there, and each book that a load may give is one that the command takes
 pub record IsReady (words : List (List ℕ)) (held : Option Held) (holds : Book → Type 0) (leaves : Option Book → Type 0) (command : Command) : Type 0 where

@@ -3,6 +3,7 @@ pub mod Commands
 pub mod Projects
 pub mod Mutations
 pub mod Campaigns
+pub mod GivenUp
 pub mod Rows
 pub mod Texts
 pub mod Defined

@@ -1,6 +1,6 @@
 -- Which projects are built so far, and the part of another one that is not (docs/PROFILE.md); and their scripts.
 use Rattle.std.specs.Prelude.{◌≡◌, ◌≢◌, ◌⊎◌, ℕ, List, Result, Ok, Err, map}
-use Rattle.std.specs.List.{All}
+use Rattle.std.specs.List.{All, Any}
 use Rattle.project_file.specs.declared.project.Project.{Project}
 use Rattle.project_file.specs.declared.project.TestKind.{TestKind}
 use Rattle.project_file.specs.declared.project.TestKind.TheVariants.{Eq}
@@ -17,6 +17,10 @@ use Rattle.mcy_top.specs.declared.outcome.Part.TheVariants.{Tests}
 -- each test compares the mutant with the design
 abbrev pub AreBuilt : Project → Type 0
 AreBuilt project = All (λ test. test.kind ≡ Eq) project.tests
+
+-- one of its tests compares the mutant with the design
+abbrev pub HasEquality : Project → Type 0
+HasEquality project = Any (λ test. test.kind ≡ Eq) project.tests
 
 -- the part of the project that is not built
 abbrev pub IsUnbuilt : Project → Part → Type 0

@@ -1,8 +1,8 @@
 -- What is read, in its order, and why the files make no campaign.
-use Rattle.std.specs.Prelude.{◌≡◌, ◌⊎◌, ℕ, ◌<◌, ◌≤◌, List, [], ◌∷◌, length, map, ⊤, Option}
+use Rattle.std.specs.Prelude.{◌≡◌, ◌⊎◌, ◌<◌, ◌≤◌, ℕ, List, [], ◌∷◌, length, map, ⊤, Option}
 use Rattle.mcy_base.specs.declared.file.SourceFile.{SourceFile}
 use Rattle.mcy_base.specs.declared.kind.Kind.{Kind}
-use Rattle.mcy_base.specs.declared.kind.Kind.TheVariants.{FreeBits, Sites}
+use Rattle.mcy_base.specs.declared.kind.Kind.TheVariants.{FreeBits, Gates, Sites}
 use Rattle.mcy_base.specs.Causes.{Rose}
 use Rattle.mcy_outside.specs.Files.{Held}
 use Rattle.project_file.specs.declared.project.Project.{Project}
@@ -16,8 +16,9 @@ use Rattle.mcy_top.specs.declared.preparing.PrepareError.{PrepareError}
 use Rattle.mcy_top.specs.declared.preparing.PrepareError.TheVariants.{Source as Unprepared, Memory as ShortOfMemory}
 use Rattle.mcy_top.specs.declared.outcome.Refusal.TheVariants.{ProjectBad, ScriptBad, SourceBad, Missing, TooLarge, ReadFault, Memory, Unbuilt}
 use Rattle.netlist_core.specs.Checked.{free_bits}
-use Rattle.step_trials.specs.Inputs.{max_free_bits}
-use Rattle.mcy_top.specs.Projects.{AreBuilt, IsBuilt, IsScriptFault, IsUnbuilt}
+use Rattle.pair_gates.specs.Refusals.{max_free}
+use Rattle.pair_gates.specs.Weights.{design_gates, max_design_gates}
+use Rattle.mcy_top.specs.Projects.{AreBuilt, HasEquality, IsBuilt, IsScriptFault, IsUnbuilt}
 use Rattle.mcy_top.specs.Limits.{max_sites}
 use Rattle.mcy_top.specs.Mutations.{all_sites}
 use Rattle.mcy_top.specs.Campaigns.{config_name, Got, GotAll, Lacks, Exceeds}
@@ -59,15 +60,20 @@ pub record GotSources (held : Option Held) (project : Project) (files : List Sou
   pub names : map (λ file. file.name) files ≡ design_files project
   pub got : GotAll held files
 
--- there are more sites than the limit, or else more free bits than the equivalence test takes
-abbrev pub IsExcess : (sites bits : ℕ) → Kind → Type 0
-IsExcess sites bits Sites = max_sites < sites
-IsExcess sites bits FreeBits = (sites ≤ max_sites) × (max_free_bits < bits)
-IsExcess sites bits kind = ⊥
+-- It has few sites, and a test of the project compares mutants with it.
+abbrev pub IsCompared : Project → RawNetlist → Type 0
+IsCompared project netlist = (length (all_sites project netlist) ≤ max_sites) × HasEquality project
+
+-- There are more sites than the limit, else more gates than an equivalence test takes, or else more free bits.
+abbrev pub IsExcess : Project → RawNetlist → Kind → Type 0
+IsExcess project netlist Sites = max_sites < length (all_sites project netlist)
+IsExcess project netlist Gates = IsCompared project netlist × (max_design_gates < design_gates netlist)
+IsExcess project netlist FreeBits = IsCompared project netlist × (design_gates netlist ≤ max_design_gates) × (max_free < free_bits netlist)
+IsExcess project netlist kind = ⊥
 
 -- the netlist is too large
 abbrev pub IsTooLarge : Project → RawNetlist → SourceError → Type 0
-IsTooLarge project netlist error = (kind : Kind) × IsExcess (length (all_sites project netlist)) (free_bits netlist) kind × (error ≡ too_many kind)
+IsTooLarge project netlist error = (kind : Kind) × IsExcess project netlist kind × (error ≡ too_many kind)
 
 abbrev pub IsRefusedAsLarge : Project → RawNetlist → PrepareError → Type 0
 IsRefusedAsLarge project netlist (Unprepared error) = IsTooLarge project netlist error

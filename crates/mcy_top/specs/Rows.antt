@@ -1,9 +1,9 @@
--- True words, good books, and how books grow.
+-- True words, words given up, good books, and how books grow.
 use Rattle.std.specs.Prelude.{◌≡◌, ◌⊎◌, ℕ, ◌+◌, ◌≤◌, List, [], ◌∷◌, ◌++◌, length, slice_get, Option, None, Some}
 use Rattle.mcy_keeper.specs.declared.book.Entry.{Entry}
 use Rattle.mcy_keeper.specs.declared.book.Book.{Book}
 use Rattle.mcy_keeper.specs.Books.{IsBlank}
-use Rattle.result_book.specs.declared.script.TestWord.TheVariants.{Pass, Fail}
+use Rattle.result_book.specs.declared.script.TestWord.TheVariants.{Pass, Fail, Unknown}
 use Rattle.result_book.specs.Scripts.{word_code}
 use Rattle.result_book.specs.Rows.{IsRow, IsWellFormed}
 use Rattle.mutation_sites.specs.declared.site.Site.{Site}
@@ -11,6 +11,7 @@ use Rattle.netlist_core.specs.declared.raw.RawNetlist.{RawNetlist}
 use Rattle.mcy_top.specs.declared.prepared.Prepared.{Prepared}
 use Rattle.step_trials.specs.Equal.{OneStepEqual, design, mutant}
 use Rattle.mcy_top.specs.Campaigns.{IsPlan}
+use Rattle.mcy_top.specs.GivenUp.{HasAttempt}
 
 -- The word of an equivalence test: PASS where the mutant does in one step what the design does, FAIL where it does
 -- not.
@@ -21,17 +22,29 @@ IsTrueWordAt netlist (Some site) word = ((word ≡ word_code Pass) × OneStepEqu
 abbrev pub IsTrueWord : Prepared → ℕ → ℕ → Type 0
 IsTrueWord c m word = IsTrueWordAt c.netlist (slice_get c.sites m) word
 
--- each row's word is the true one
-abbrev pub AreTrue : Prepared → List Entry → Type 0
-AreTrue c [] = Unit {0}
-AreTrue c (e ∷ more) = IsTrueWord c e.mutation e.word × AreTrue c more
+-- UNKNOWN where the clauses of the mutant and the design have an attempt for the limit
+abbrev pub IsGivenUpAt : RawNetlist → Option Site → (limit word : ℕ) → Type 0
+IsGivenUpAt netlist None limit word = ⊥
+IsGivenUpAt netlist (Some site) limit word = (word ≡ word_code Unknown) × HasAttempt netlist site limit
 
--- the book is well-formed for the project that it keeps itself, and its words are true
+abbrev pub IsGivenUp : Prepared → ℕ → ℕ → Type 0
+IsGivenUp c m word = IsGivenUpAt c.netlist (slice_get c.sites m) c.conflicts word
+
+-- the word that the test may have: the true one, or UNKNOWN where it may be given up
+abbrev pub IsRightWord : Prepared → ℕ → ℕ → Type 0
+IsRightWord c m word = IsTrueWord c m word ⊎ IsGivenUp c m word
+
+-- each row has such a word
+abbrev pub AreRight : Prepared → List Entry → Type 0
+AreRight c [] = Unit {0}
+AreRight c (e ∷ more) = IsRightWord c e.mutation e.word × AreRight c more
+
+-- the book is well-formed for the project that it keeps itself, and its words are right
 pub record IsGood (book : Book) : Type 0 where
   pub prepared : Prepared
   pub plan : IsPlan prepared
   pub form : IsWellFormed prepared.campaign book
-  pub words_true : AreTrue prepared book.journal
+  pub words_right : AreRight prepared book.journal
 
 abbrev pub IsBlankOrGood : Book → Type 0
 IsBlankOrGood book = IsBlank book ⊎ IsGood book
@@ -52,7 +65,7 @@ pub record IsWithinOne (book other : Book) : Type 0 where
   pub prefix : IsPrefix book other
   pub one : length other.journal ≤ length book.journal + 1
 
--- the row may come next, with its true word
+-- the row may come next, with a word that its test may have
 pub record IsNextRow (c : Prepared) (book : Book) (e : Entry) : Type 0 where
   pub row : IsRow c.campaign book.journal e
-  pub word_true : IsTrueWord c e.mutation e.word
+  pub word_right : IsRightWord c e.mutation e.word

@@ -5,7 +5,7 @@ use Rattle.mcy_keeper.specs.declared.book.Book.{Book}
 use Rattle.mcy_keeper.specs.Books.{with_entry}
 use Rattle.result_book.specs.Rows.{IsWellFormed}
 use Rattle.mcy_top.specs.declared.prepared.Prepared.{Prepared}
-use Rattle.mcy_top.specs.Rows.{AreTrue, GoesOn, IsNextRow}
+use Rattle.mcy_top.specs.Rows.{AreRight, GoesOn, IsNextRow}
 use Rattle.mcy_top.specs.Commands.{IsWithin}
 use Rattle.mcy_top.specs.Crashes.{LeavesBooks}
 use Rattle.mcy_top.specs.Changes.{Course}
@@ -18,7 +18,7 @@ book_of c rows = record { meta = c.campaign.meta; mutations = c.campaign.mutatio
 pub record Ran (c : Prepared) (start end : List Entry) : Type 0 where
   pub goes_on : GoesOn (book_of c start) (book_of c end)
   pub form : IsWellFormed c.campaign (book_of c end)
-  pub words_true : AreTrue c start → AreTrue c end
+  pub words_right : AreRight c start → AreRight c end
   pub changes : List Book
   pub course : Course c (book_of c start) changes (book_of c end)
 

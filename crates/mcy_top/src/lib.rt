@@ -1,6 +1,7 @@
 //! One campaign from words to a text, over files, a keeper, a sink and a counter of steps.
 #![tactic(auto)]
 
+mod equality;
 mod fault_lines;
 pub mod laws;
 mod main_call;

@@ -2,19 +2,17 @@
 //!
 //! `campaign` is what the book and the texts are made of. Mutation n of it is `netlist` broken at site n of `sites`, which
 //! are picked of the `site_count` sites that there are.
-ghost use Rattle.std.specs.Prelude.{◌≡◌, ◌≤◌, All, IfOk, length, map};
+ghost use Rattle.std.specs.Prelude.{◌≡◌, All, IfOk, map};
 ghost use Rattle.project_file.specs.Projects.{design_files, IsProject};
-ghost use Rattle.netlist_core.specs.Checked.{free_bits};
-ghost use Rattle.step_trials.specs.Inputs.{max_free_bits};
 ghost use Rattle.mcy_top.specs.Projects.{AreBuilt, HasScripts};
 ghost use Rattle.project_sources.specs.Netlists.{HasNetlist};
 ghost use Rattle.mutation_sites.specs.Mutants.{IsSite};
-ghost use Rattle.mcy_top.specs.Limits.{max_sites};
+ghost use Rattle.mcy_top.specs.Limits.{IsWithinLimits};
 ghost use Rattle.mcy_top.specs.Mutations.{all_sites as sites_at};
 
 use crate::mutations::{picked_sites, site_lines, site_texts};
 use crate::project::{Scripted, test_kinds, test_names};
-use mcy_base::{Bytes, BytesList, FileList, Items, SourceFile, Text};
+use mcy_base::{Bytes, BytesList, FileList, Items, SourceFile};
 use mutation_sites::Site;
 use project_file::TestPlan;
 use project_sources::CheckedNetlist;
@@ -37,6 +35,8 @@ pub struct Prepared {
     pub site_count: usize,
     pub sites: SiteList,
     pub netlist: CheckedNetlist,
+    /// How many lemmas an equivalence test may add.
+    pub conflicts: u32,
     /// The sources in the order of reading.
     pub files: FileList,
 }
@@ -66,27 +66,6 @@ fn make_meta(alloc: Global, config: &[u8], files: &[SourceFile]) -> Result<Bytes
     Ok(BytesList::from_vec(meta))
 }
 
-/// A copy of a file.
-fn copy_file(alloc: Global, file: &SourceFile) -> Result<SourceFile, AllocError>
-    ensures { IfOk result (λ copy. copy ≡ file.now) }
-{
-    Ok(SourceFile {
-        name: Text::copy(alloc, file.name.as_str())?,
-        bytes: Bytes::copy(alloc, file.bytes.as_slice())?,
-    })
-}
-
-/// A copy of the files.
-fn copy_files(alloc: Global, files: &[SourceFile]) -> Result<FileList, AllocError>
-    ensures { IfOk result (λ copies. copies ≡ files.now) }
-{
-    let mut copies = Vec::new(alloc);
-    for file in files {
-        copies.push(copy_file(alloc, file)?)?;
-    }
-    Ok(FileList::from_vec(copies))
-}
-
 /// The words that are expected of each test.
 fn expected(alloc: Global, tests: &[TestPlan]) -> Result<NumberList, AllocError>
     ensures { IfOk result (λ list. list ≡ map (λ test. test.expect) tests.now) }
@@ -99,20 +78,19 @@ pub(crate) fn make_campaign(
     alloc: Global,
     config: &[u8],
     taken: Scripted,
-    files: &[SourceFile],
+    files: FileList,
     checked: CheckedNetlist,
     all: &[Site],
 ) -> Result<Prepared, AllocError>
     requires says { IsProject config.now taken.project }
     requires tests { AreBuilt taken.project }
     requires scripts { HasScripts taken.project taken.script taken.report }
-    requires names { names_of files.now ≡ design_files taken.project }
-    requires design { HasNetlist files.now taken.project.top checked }
+    requires names { names_of files ≡ design_files taken.project }
+    requires design { HasNetlist files taken.project.top checked }
     requires sites { all.now ≡ sites_at taken.project checked }
     requires placed { All (IsSite checked) all.now }
-    requires few_sites { length all.now ≤ max_sites }
-    requires few { free_bits checked ≤ max_free_bits }
-    ensures { IfOk result (λ prepared. IsPrepared config.now files.now prepared) }
+    requires few { IsWithinLimits taken.project checked }
+    ensures { IfOk result (λ prepared. IsPrepared config.now files prepared) }
 {
     let Scripted {
         project,
@@ -123,8 +101,8 @@ pub(crate) fn make_campaign(
     let sites = picked_sites(alloc, &project, netlist, all)?;
     let tests = project.tests.as_slice();
     let campaign = Campaign {
-        meta: make_meta(alloc, config, files)?,
-        mutations: site_texts(alloc, netlist, files, &sites)?,
+        meta: make_meta(alloc, config, files.as_slice())?,
+        mutations: site_texts(alloc, netlist, files.as_slice(), &sites)?,
         lines: site_lines(alloc, netlist, &sites)?,
         test_names: test_names(alloc, tests)?,
         kinds: test_kinds(alloc, tests)?,
@@ -137,7 +115,8 @@ pub(crate) fn make_campaign(
         campaign,
         site_count: all.len(),
         sites: SiteList::from_vec(sites),
-        files: copy_files(alloc, files)?,
         netlist: checked,
+        conflicts: project.conflicts,
+        files,
     })
 }

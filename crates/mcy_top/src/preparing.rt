@@ -1,13 +1,12 @@
 //! From a project and the bytes of its sources to their campaign.
 //!
-//! The sources are judged in this order: their files, their modules, their netlist, the limit on sites, and the limit on free bits.
+//! The sources are judged in this order: their files, their modules, their netlist, the limit on sites, and where a test
+//! is an equality, the limits on gates and on free bits.
 ghost use Rattle.std.specs.Prelude.{◌≡◌, ◌≤◌, length, All, IfOk, IfErr, MatchOption, OnOk};
-ghost use Rattle.netlist_core.specs.Checked.{free_bits};
 ghost use Rattle.mutation_sites.specs.Mutants.{IsSite};
 ghost use Rattle.project_file.specs.Projects.{design_files, IsProject};
 ghost use Rattle.project_sources.specs.Netlists.{HasNetlist};
-ghost use Rattle.step_trials.specs.Inputs.{max_free_bits};
-ghost use Rattle.mcy_top.specs.Limits.{max_bytes, max_sites};
+ghost use Rattle.mcy_top.specs.Limits.{max_bytes, IsWithinLimits};
 ghost use Rattle.mcy_top.specs.Mutations.{all_sites as sites_at};
 ghost use Rattle.mcy_top.specs.Projects.{AreBuilt, HasScripts};
 ghost use Rattle.mcy_top.specs.Campaigns.{names_of, IsPrepared};
@@ -16,20 +15,25 @@ ghost use Rattle.mcy_top.specs.Reads.{IsExcess, IsRefusedAsLarge, IsUnprepared};
 use crate::mutations::{all_sites, site_total};
 use crate::outcome::Refusal;
 use crate::prepared::{Prepared, make_campaign};
-use crate::project::Scripted;
-use mcy_base::{Kind, SourceFile};
+use crate::project::{Scripted, has_equality};
+use mcy_base::{FileList, Kind, SourceFile};
 use mutation_sites::Site;
 use netlist_core::Netlist;
+use pair_gates::design_gates;
 use project_file::Project;
 use project_sources::{CheckedNetlist, NetlistError, read_netlist};
 use report_script::Report;
 use source_faults::{SourceError, too_many};
 use std::alloc::{AllocError, Global};
-use step_trials::MAX_FREE_BITS;
 use tag_script::Script;
 
 /// How many sites a netlist may have.
 const MAX_SITES: u64 = 2_000_000;
+
+/// How many gates a design may count, and how many bits its inputs and registers may have, where a test is an equality.
+const MAX_GATES: usize = 100_000;
+
+const MAX_FREE_BITS: u32 = 2048;
 
 /// Why sources make no campaign.
 #[derive(Drop)]
@@ -70,18 +74,18 @@ pub fn prepare(
     project: Project,
     script: Script,
     report: Report,
-    sources: &[SourceFile],
+    sources: FileList,
     config: &[u8],
 ) -> Result<Prepared, PrepareError>
     requires says { IsProject config.now project }
     requires tests { AreBuilt project }
     requires scripts { HasScripts project script report }
-    requires names { names_of sources.now ≡ design_files project }
-    requires short { All (λ file. length file.bytes ≤ max_bytes) sources.now }
-    ensures made { IfOk result (IsPrepared config.now sources.now) }
-    ensures refused { IfErr result (IsUnprepared project sources.now) }
+    requires names { names_of sources ≡ design_files project }
+    requires short { All (λ file. length file.bytes ≤ max_bytes) sources }
+    ensures made { IfOk result (IsPrepared config.now sources) }
+    ensures refused { IfErr result (IsUnprepared project sources) }
 {
-    let netlist = take_netlist(alloc, &project, sources)?;
+    let netlist = take_netlist(alloc, &project, sources.as_slice())?;
     let all = take_sites(alloc, &project, netlist.netlist())?;
     let taken = Scripted {
         project,
@@ -109,13 +113,17 @@ fn take_netlist(
     }
 }
 
-/// What there is too much of, if anything is: sites, or else free bits.
-fn excess(sites: u64, bits: u32) -> Option<Kind>
-    ensures { MatchOption result ((sites ≤ max_sites) × (bits ≤ max_free_bits)) (IsExcess sites bits) }
+/// What there is too much of, if anything is: sites, or else, where a test is an equality, gates, or else free bits.
+fn excess(project: &Project, netlist: &Netlist) -> Option<Kind>
+    ensures { MatchOption result (IsWithinLimits project.now netlist.now.raw) (IsExcess project.now netlist.now.raw) }
 {
-    if sites > MAX_SITES {
+    if site_total(project, netlist) > MAX_SITES {
         Some(Kind::Sites)
-    } else if bits as usize > MAX_FREE_BITS {
+    } else if !has_equality(project) {
+        None
+    } else if design_gates(netlist) > MAX_GATES {
+        Some(Kind::Gates)
+    } else if netlist.free_bits() > MAX_FREE_BITS {
         Some(Kind::FreeBits)
     } else {
         None
@@ -130,11 +138,10 @@ fn take_sites(
 ) -> Result<Vec<Site>, PrepareError>
     ensures sites { IfOk result (λ list. list.items ≡ sites_at project.now netlist.now.raw) }
     ensures placed { IfOk result (λ list. All (IsSite netlist.now.raw) list.items) }
-    ensures few_sites { OnOk result (length (sites_at project.now netlist.now.raw) ≤ max_sites) }
-    ensures few { OnOk result (free_bits netlist.now.raw ≤ max_free_bits) }
+    ensures few { OnOk result (IsWithinLimits project.now netlist.now.raw) }
     ensures refused { IfErr result (IsRefusedAsLarge project.now netlist.now.raw) }
 {
-    match excess(site_total(project, netlist), netlist.free_bits()) {
+    match excess(project, netlist) {
         None => Ok(all_sites(alloc, project, netlist)?),
         Some(kind) => Err(PrepareError::Source(too_many(alloc, kind)?)),
     }

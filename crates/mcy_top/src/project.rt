@@ -3,7 +3,7 @@ ghost use Rattle.std.specs.Prelude.{◌≡◌, ◌≢◌, ◌↔◌, IfErr, IfOk
 ghost use Rattle.std.specs.List.{All};
 ghost use Rattle.project_file.specs.declared.project.TestKind.TheVariants.{Eq};
 ghost use Rattle.tag_script.specs.Checks.{Reads};
-ghost use Rattle.mcy_top.specs.Projects.{AreBuilt, HasScripts, IsScriptFault, IsUnbuilt, kind_of, logic_read};
+ghost use Rattle.mcy_top.specs.Projects.{AreBuilt, HasEquality, HasScripts, IsScriptFault, IsUnbuilt, kind_of, logic_read};
 
 use crate::outcome::Part;
 use mcy_base::{Text, TextList};
@@ -25,6 +25,13 @@ fn is_equal(test: &TestPlan) -> bool
     ensures { IsTrue result ↔ (test.now.kind ≡ Eq) }
 {
     matches!(test.kind, TestKind::Eq)
+}
+
+/// Whether one of the tests compares the mutant with the design.
+pub(crate) fn has_equality(project: &Project) -> bool
+    ensures { IsTrue result ↔ HasEquality project.now }
+{
+    project.tests.as_slice().iter().any(is_equal)
 }
 
 /// Whether each of the tests compares the mutant with the design.

@@ -184,5 +184,5 @@ pub(crate) fn read_campaign<F: SourceFiles>(
         script,
         report,
     } = taken;
-    Ok(prepare(alloc, project, script, report, sources.as_slice(), &config)?)
+    Ok(prepare(alloc, project, script, report, sources, &config)?)
 }

@@ -8,53 +8,46 @@ ghost use Rattle.result_book.specs.Rows.{ask_on, IsFinished};
 ghost use Rattle.result_book.specs.States.{IsStateOf};
 ghost use Rattle.mcy_top.specs.Campaigns.{IsPlan};
 ghost use Rattle.mcy_top.specs.Commands.{IsWithin};
-ghost use Rattle.mcy_top.specs.Rows.{IsTrueWord};
+ghost use Rattle.mcy_top.specs.Rows.{IsRightWord};
 ghost use Rattle.mcy_top.specs.Running.{book_of, AddsRow, Broke, LeavesNext, Ran, Reached};
 
+use crate::equality::{find_verdict, word_of};
 use crate::prepared::Prepared;
 use mcy_base::Steps;
 use mcy_keeper::{KeepError, Keeper};
+use mutation_sites::mutate;
+use pair_gates::mutants_are_accepted;
 use result_book::{State, TestWord};
 use std::alloc::{AllocError, Global};
 use std::sync::ledger::Ledger;
-use step_trials::Design;
+use step_trials::mutants_are_netlists;
 use tag_script::Ask;
 
-/// What runs the tests of a campaign: its design is computed once for all mutations.
+/// What runs the tests of a campaign.
 #[derive(Drop)]
 pub(crate) struct Tester<'a> {
-    alloc: Global,
-    prepared: &'a Prepared,
-    design: Design<'a>,
-    ghost same: { design.netlist.now.raw ≡ prepared.now.netlist },
+    pub(crate) alloc: Global,
+    pub(crate) prepared: &'a Prepared,
 }
 
-impl<'a> Tester<'a> {
-    /// A tester of this campaign.
-    pub(crate) fn new(alloc: Global, prepared: &'a Prepared) -> Result<Tester<'a>, AllocError>
-        requires { IsPlan prepared.now }
-        ensures { IfOk result (λ tester. tester.prepared.now ≡ prepared.now) }
-    {
-        let design = Design::of(alloc, prepared.netlist.netlist())?;
-        Ok(Tester {
-            alloc,
-            prepared,
-            design,
-        })
-    }
-
+impl Tester<'_> {
     /// The word of the equivalence test on a mutation.
     fn run_test(&self, mutation: u32) -> Result<TestWord, AllocError>
         requires plan { IsPlan self.now.prepared.now }
+        requires tested { 0 < length self.now.prepared.now.campaign.kinds }
         requires mutation { mutation < length self.now.prepared.now.campaign.mutations }
-        ensures { IfOk result (λ word. IsTrueWord self.now.prepared.now mutation (word_code word)) }
+        ensures { IfOk result (λ word. IsRightWord self.now.prepared.now mutation (word_code word)) }
     {
+        // By these laws the mutant has clauses beside the netlist, and their verdict is one on the mutation.
+        mutants_are_accepted();
+        mutants_are_netlists();
+        let netlist = self.prepared.netlist.netlist();
+        // By its clauses the netlist is sound.
+        let _parts = netlist.raw();
         let site = &self.prepared.sites.as_slice()[mutation as usize];
-        if self.design.is_equal_to_mutant(self.alloc, site)? {
-            Ok(TestWord::Pass)
-        } else {
-            Ok(TestWord::Fail)
-        }
+        let mutant = mutate(self.alloc, netlist, site)?;
+        let verdict = find_verdict(self.alloc, netlist, &mutant, self.prepared.conflicts)?;
+        Ok(word_of(&verdict))
     }
 
     /// Runs the test that the script needs on a mutation, and adds its row to the kept book and to the state.

@@ -224,8 +224,9 @@ impl Task<'_> {
         ensures work { K.tells keeper.new → Work (K.leaves keeper.new) (O.written out.old) (O.written out.new) steps.old steps.new (Command.Run stop_after) self.now.prepared.now (book_of self.now.prepared.now state.rows) result }
         ensures ends { Ends (O.written out.old) (O.written out.new) (K.faults keeper.old) (K.faults keeper.new) (O.faults out.old) (O.faults out.new) result }
     {
-        let Ok(tester) = Tester::new(self.alloc, self.prepared) else {
-            return Outcome::Memory;
+        let tester = Tester {
+            alloc: self.alloc,
+            prepared: self.prepared,
         };
         let mut state = state;
         match tester.run_tests(stop_after, &mut state, keeper, steps) {

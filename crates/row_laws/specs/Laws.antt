@@ -1,11 +1,12 @@
 -- What the rows of a good book say: a row of an equivalence test is about the mutant at the site of its mutation.
-use Rattle.std.specs.Prelude.{◌≡◌, ℕ, Some, slice_get}
+use Rattle.std.specs.Prelude.{◌≡◌, ◌<◌, ◌^◌, ℕ, Some, slice_get}
 use Rattle.std.specs.List.{Contains}
+use Rattle.netlist_core.specs.Checked.{free_bits}
 use Rattle.mutation_sites.specs.declared.site.Site.{Site}
 use Rattle.mcy_keeper.specs.declared.book.Book.{Book}
 use Rattle.mcy_keeper.specs.declared.book.Entry.{Entry}
 use Rattle.step_trials.specs.Equal.{EqualOnAllRuns, Machine, OneStepEqual, design, mutant}
-use Rattle.result_book.specs.declared.script.TestWord.TheVariants.{Pass, Fail}
+use Rattle.result_book.specs.declared.script.TestWord.TheVariants.{Pass, Fail, Unknown}
 use Rattle.result_book.specs.Scripts.{word_code}
 use Rattle.mcy_top.specs.declared.prepared.Prepared.{Prepared}
 use Rattle.mcy_top.specs.Rows.{IsGood}
@@ -23,3 +24,8 @@ PassesAreAlike = (book : Book) (good : IsGood book) (row : Entry) → Contains b
 -- One with a row FAIL is not equal to the design in one step.
 abbrev pub FailsDiffer : Type 0
 FailsDiffer = (book : Book) (good : IsGood book) (row : Entry) → Contains book.journal row → row.word ≡ word_code Fail → IsOfMutant good.prepared row.mutation (λ a b. ¬ OneStepEqual a b)
+
+-- A row UNKNOWN stands only where fewer lemmas were allowed than the free bits have assignments of 0, 1 and none: never where the
+-- limit is at least 3 ^ k for k free bits.
+abbrev pub UnknownsAreLong : Type 0
+UnknownsAreLong = (book : Book) (good : IsGood book) (row : Entry) → Contains book.journal row → row.word ≡ word_code Unknown → good.prepared.conflicts < 3 ^ free_bits good.prepared.netlist

@@ -1,13 +1,15 @@
 //! What the rows of a good book say of the mutants.
-ghost use Rattle.row_laws.specs.Laws.{FailsDiffer, PassesAreAlike};
+ghost use Rattle.row_laws.specs.Laws.{FailsDiffer, PassesAreAlike, UnknownsAreLong};
 
 use step_trials::one_step_equality_lasts;
 
 /// A row PASS says that the mutant gives what the design gives, on every list of inputs from equal registers, and a row FAIL that
-/// there is a cycle in which it does not, or leaves other values in the registers.
+/// there is a cycle in which it does not, or leaves other values in the registers. A row UNKNOWN
+/// stands only where the limit on lemmas is below 3 ^ k for k free bits.
 pub fn rows_tell_of_all_runs()
     ensures pass { PassesAreAlike }
     ensures fail { FailsDiffer }
+    ensures unknown { UnknownsAreLong }
 {
     one_step_equality_lasts();
 }

@@ -1,4 +1,4 @@
-use Rattle.row_laws.proofs.Telling.{fails_differ, passes_alike}
+use Rattle.row_laws.proofs.Telling.{fails_differ, passes_alike, unknowns_long}
 use Rattle.row_laws.proofs.laws.rows_tell_of_all_runs.Goals as goal
 
 pub returns-clause-pass : goal.returns-clause-pass
@@ -6,3 +6,6 @@ returns-clause-pass c = passes_alike c.one_step_equality_lasts.ensures
 
 pub returns-clause-fail : goal.returns-clause-fail
 returns-clause-fail c = fails_differ
+
+pub returns-clause-unknown : goal.returns-clause-unknown
+returns-clause-unknown c = unknowns_long

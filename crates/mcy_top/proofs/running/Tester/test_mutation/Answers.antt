@@ -1,4 +1,4 @@
-use Rattle.std.proofs.Common.{◌<◌, List, length, refl, ap, sym, subst, Result, OnErr}
+use Rattle.std.proofs.Common.{◌<◌, List, length, refl, ap, sym, subst, Result, OnErr, arith}
 use Rattle.std.proofs.lemmas.Result.{err_from_is_err_and}
 use Rattle.mcy_keeper.specs.declared.book.Book.{Book}
 use Rattle.mcy_keeper.specs.declared.book.Entry.{Entry}
@@ -12,6 +12,12 @@ use Rattle.mcy_top.specs.Running.{book_of, LeavesNext}
 use Rattle.mcy_top.proofs.Growing.{append_left, next_of, next_row_of}
 use Rattle.mcy_top.proofs.Plans.{plan_fit, plan_word}
 use Rattle.mcy_top.proofs.running.Tester.test_mutation.Goals as goal
+
+pub run_test-requires-clause-tested : goal.run_test-requires-clause-tested
+run_test-requires-clause-tested g c =
+    let prepared = c.args.self.now.prepared.now in
+    let below : c.args.test < length prepared.campaign.kinds = need_test prepared.campaign (answers_of c.args.mutation c.args.state.now.rows) c.args.test (plan_fit prepared c.requires.plan) c.requires.asked in
+    omega (arith, below)
 
 pub entry_for-entry-requires-clause-fit : goal.entry_for-entry-requires-clause-fit
 entry_for-entry-requires-clause-fit g c = plan_fit c.args.self.now.prepared.now c.requires.plan

@@ -3,6 +3,7 @@ use Rattle.mcy_keeper.specs.declared.keeper.KeepError.{KeepError}
 use Rattle.mcy_keeper.specs.Books.{blank, LeavesEither}
 use Rattle.mcy_top.specs.Changes.{opened}
 use Rattle.command_words.specs.declared.command.Command.TheVariants.{Init}
+use Rattle.mcy_top.specs.declared.work.Ending.TheVariants.{NoMemory}
 use Rattle.mcy_top.specs.Endings.{Delivers}
 use Rattle.mcy_top.proofs.Working.{begin_left, work_init, work_unopened}
 use Rattle.mcy_top.proofs.work.Task.init.Goals as goal
@@ -18,3 +19,8 @@ returns-in-Ok-begun_text-clause-work g c tells n =
     let kept = c.requires.kept (c.in-Ok.ensures.tells tells) in
     rw c.outcome.ensures (work_init (g.K.Keeper.holds c.begin.new.self) (g.K.Keeper.leaves c.begin.new.self) (g.O.Sink.written c.args.out.now) (g.O.Sink.written c.deliver.new.out) n c.args.self.now.prepared.now c.deliver.result c.requires.plan (c.in-Ok.ensures.done tells blank kept.told)
     (subst (λ (text : List ℕ). Delivers (g.O.Sink.written c.args.out.now) (g.O.Sink.written c.deliver.new.out) text c.deliver.result) (c.as_bytes.ensures.value ∙ c.in-Ok-begun_text.ensures) c.deliver.ensures.wrote))
+
+pub returns-in-Err-begun_text-clause-work : goal.returns-in-Err-begun_text-clause-work
+returns-in-Err-begun_text-clause-work g c tells n =
+    let kept = c.requires.kept (c.in-Ok.ensures.tells tells) in
+    work_init (g.K.Keeper.holds c.begin.new.self) (g.K.Keeper.leaves c.begin.new.self) (g.O.Sink.written c.args.out.now) (g.O.Sink.written c.args.out.now) n c.args.self.now.prepared.now NoMemory c.requires.plan (c.in-Ok.ensures.done tells blank kept.told) refl
