@@ -1,0 +1,20 @@
+use Rattle.std.proofs.Common.{◌≡◌, List, length, map, ap, sym, ◌∙◌, subst}
+use Rattle.std.specs.List.{All}
+use Rattle.mcy_base.specs.declared.word.Word.{Word}
+use Rattle.netlist_core.specs.Checked.{Plan}
+use Rattle.tb_machine.specs.Worlds.{World}
+use Rattle.tb_bench.specs.declared.parts.Parts.{Parts}
+use Rattle.tb_bench.specs.declared.parts.Waiting.{Waiting}
+use Rattle.tb_bench.specs.Runnable.{FitsDesign, IsBelow}
+use Rattle.tb_process.proofs.run.Run.new.Goals as goal
+
+pub returns-clause-of : goal.returns-clause-of
+returns-clause-of c =
+    let b = c.args.bench.now in
+    let same : c.parts-parts.result.now ≡ b = c.parts-parts.ensures.value in
+    record {
+      design = subst (λ (p : Plan). FitsDesign b p.raw) (sym c.in_ok-new.ensures.plan) c.requires;
+      below = c.in_ok-begin_all.ensures.below (length b.code) (subst (λ (ws : List Waiting). All (IsBelow (length b.code)) ws) (sym (c.as_slice-2.ensures ∙ ap (λ (p : Parts). p.initial) same)) c.parts-parts.ensures.runnable.initial);
+      widths = ap (λ (w : World). w.widths) c.new-2.ensures ∙ ap (map (λ (w : Word). w.width)) (c.in_ok-store.ensures.items_if_clones_equal (λ x y e. e) ∙ c.as_slice.ensures ∙ ap (λ (p : Parts). p.starts) same);
+      updates = ap (λ (w : World). w.updates) c.new-2.ensures;
+    }

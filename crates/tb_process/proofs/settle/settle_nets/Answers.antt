@@ -1,0 +1,24 @@
+use Rattle.std.proofs.Common.{◌≡◌, ℕ, List, OnOk, refl, ap, sym, subst}
+use Rattle.netlist_core.specs.Checked.{Plan}
+use Rattle.netlist_core.specs.Runs.{bits_at, plain, taken}
+use Rattle.cycle_sim.specs.Simulated.{settled_nets}
+use Rattle.tb_machine.specs.Phases.{Setting, Settles}
+use Rattle.tb_settling.specs.Settling.{values_at, whole_updates, IsNetsOf}
+use Rattle.tb_bench.specs.Settings.{names, setting_of}
+use Rattle.tb_process.specs.Running.{next_of}
+use Rattle.tb_process.proofs.settle.settle_nets.Goals as goal
+
+pub returns-clause-settles : goal.returns-clause-settles
+returns-clause-settles c = λ tree.
+    let b = c.args.parts.now in
+    let design = c.args.sim.now.plan.raw in
+    let new = c.settle.new.sim in
+    let g : Setting = setting_of b tree design in
+    let of : IsNetsOf g (names b) c.as_slice.result.now c.as_slice-2.result.now b.nets.nodes design = record {
+      netlist_is = refl;
+      inputs_are = ap values_at (sym c.as_slice.ensures);
+      outputs_are = ap (λ (ks : List ℕ). whole_updates ks (bits_at design.outputs)) (sym c.as_slice-2.ensures);
+      assigns_are = refl;
+    } in
+    let same : taken (plain (settled_nets new)) 0 design.registers ≡ next_of new = ap (λ (p : Plan). taken (plain (settled_nets new)) 0 p.raw.registers) (sym c.settle.ensures.plan) in
+    subst (λ (next : List ℕ). OnOk c.settle.result (Settles g c.args.phase c.args.sim.now.registers c.args.scene.now.store c.settle.new.scene.store next)) same (c.settle.ensures.settles g of)
