@@ -16,7 +16,7 @@ use Rattle.tb_settling.specs.Nodes.{Situation, node_updates, HasSettled, HaveSet
 
 -- the assign of each of the updates, and the updates of each assign
 
-record IsAssignOf (names : Names) (nodes : List NetNode) (f : ℕ → List ℕ → List Update) : Type 0 where
+pub record IsAssignOf (names : Names) (nodes : List NetNode) (f : ℕ → List ℕ → List Update) : Type 0 where
   pub place : ℕ
   pub assign : Assignment
   pub at : slice_get nodes place ≡ Some (Assign assign)
@@ -32,20 +32,20 @@ some_is f g e = ap (unwrap f) e
 not_none : (f : ℕ → List ℕ → List Update) → None ≡ Some f → ⊥
 not_none f e = absurd cc
 
-assign_of : (names : Names) (nodes : List NetNode) (k : ℕ) (f : ℕ → List ℕ → List Update) → slice_get (assigns_of names nodes) k ≡ Some f → IsAssignOf names nodes f
+pub assign_of : (names : Names) (nodes : List NetNode) (k : ℕ) (f : ℕ → List ℕ → List Update) → slice_get (assigns_of names nodes) k ≡ Some f → IsAssignOf names nodes f
 assign_of names [] k f e = absurd (not_none f e)
 assign_of names (Assign a ∷ more) zero f e = record { place = 0; assign = a; at = refl; is = sym (some_is (assign_updates names a) f e) }
 assign_of names (Assign a ∷ more) (suc k) f e = let rest = assign_of names more k f e in record { place = suc rest.place; assign = rest.assign; at = rest.at; is = rest.is }
 assign_of names (Design ∷ more) k f e = let rest = assign_of names more k f e in record { place = suc rest.place; assign = rest.assign; at = rest.at; is = rest.is }
 
-assign_among : (names : Names) (nodes : List NetNode) (c : ℕ) (a : Assignment) → slice_get nodes c ≡ Some (Assign a) → (k : ℕ) × (slice_get (assigns_of names nodes) k ≡ Some (assign_updates names a))
+pub assign_among : (names : Names) (nodes : List NetNode) (c : ℕ) (a : Assignment) → slice_get nodes c ≡ Some (Assign a) → (k : ℕ) × (slice_get (assigns_of names nodes) k ≡ Some (assign_updates names a))
 assign_among names [] c a e = absurd cc
 assign_among names (Assign b ∷ more) zero a e = (0, ap (λ x. Some (assign_updates names x)) (let same : b ≡ a = cc in same))
 assign_among names (Design ∷ more) zero a e = absurd cc
 assign_among names (Assign b ∷ more) (suc c) a e = let rest = assign_among names more c a e in (suc rest.0, rest.1)
 assign_among names (Design ∷ more) (suc c) a e = assign_among names more c a e
 
-inside_of : (nodes : List NetNode) (c : ℕ) (node : NetNode) → slice_get nodes c ≡ Some node → c < length nodes
+pub inside_of : (nodes : List NetNode) (c : ℕ) (node : NetNode) → slice_get nodes c ≡ Some node → c < length nodes
 inside_of [] c node e = absurd cc
 inside_of (x ∷ xs) zero node e = omega arith
 inside_of (x ∷ xs) (suc c) node e = let rest = inside_of xs c node e in omega (arith, rest)
@@ -65,7 +65,7 @@ module _ (s : Situation) (nets : Nets) (widths : List ℕ) (can : CanSettle s.na
       let of = assign_of s.names nets.nodes j f e in
       subst (λ (g : ℕ → List ℕ → List Update). Hold store (g s.phase store)) (sym of.is) (settled_at of.place (Assign of.assign) of.at).holds
 
-  free_node : (n i : ℕ) → ((j : ℕ) (f : ℕ → List ℕ → List Update) → slice_get (assigns_of s.names nets.nodes) j ≡ Some f → some_gives (f s.phase store) n i ≡ false) → some_gives (whole_updates s.outputs (bits_at s.netlist.outputs) (shown (plain x) s.netlist)) n i ≡ false → (c : ℕ) (node : NetNode) → slice_get nets.nodes c ≡ Some node → some_gives (node_updates s x store node) n i ≡ false
+  pub free_node : (n i : ℕ) → ((j : ℕ) (f : ℕ → List ℕ → List Update) → slice_get (assigns_of s.names nets.nodes) j ≡ Some f → some_gives (f s.phase store) n i ≡ false) → some_gives (whole_updates s.outputs (bits_at s.netlist.outputs) (shown (plain x) s.netlist)) n i ≡ false → (c : ℕ) (node : NetNode) → slice_get nets.nodes c ≡ Some node → some_gives (node_updates s x store node) n i ≡ false
   free_node n i assigns outputs c (Assign a) at = let among = assign_among s.names nets.nodes c a at in assigns among.0 (assign_updates s.names a) among.1
   free_node n i assigns outputs c Design at = outputs
 

@@ -9,3 +9,4 @@ pub mod Ending
 pub mod Scenes
 pub mod Showing
 pub mod Turning
+pub mod Once

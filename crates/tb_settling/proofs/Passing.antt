@@ -70,7 +70,7 @@ is_lt a b h = grind (arith, nat_tests)
 is_number : (n : ℕ) → nat_eq n n ≡ true
 is_number n = elim (eqb_tells n n) [ inl same ↦ same.0 | inr other ↦ absurd (other.1 refl) ]
 
-none_true : (b : Bool) → b ≡ false → b ≡ true → ⊥
+pub none_true : (b : Bool) → b ≡ false → b ≡ true → ⊥
 none_true b e f = absurd cc
 
 -- each bit that they give is one of the signals
@@ -105,7 +105,7 @@ whole_fits widths (k ∷ ks) (bits ∷ ports) x e known some =
     (whole_fits widths ks ports x (tails (slice_index widths k) (length bits) (map (slice_index widths) ks) (map length ports) e) (λ j d below. known (suc j) d (omega (arith, below))) some)
 
 -- the same values at inputs
-inputs_same : (ks s t : List ℕ) → ((n : ℕ) → slice_index s n < 2 ^ 128) → ((n : ℕ) → slice_index t n < 2 ^ 128) → ((n i : ℕ) → signal_bits ks n i ≡ true → store_bit s n i ≡ store_bit t n i) → values_at ks s ≡ values_at ks t
+pub inputs_same : (ks s t : List ℕ) → ((n : ℕ) → slice_index s n < 2 ^ 128) → ((n : ℕ) → slice_index t n < 2 ^ 128) → ((n i : ℕ) → signal_bits ks n i ≡ true → store_bit s n i ≡ store_bit t n i) → values_at ks s ≡ values_at ks t
 inputs_same [] s t a b same = refl
 inputs_same (k ∷ ks) s t a b same =
     let first : slice_index s k ≡ slice_index t k = same_from_bits_below 128 (slice_index s k) (slice_index t k) (a k) (b k) (λ i h. same k i (or_left (nat_eq k k && nat_lt i 128) (signal_bits ks k i) (and_both (nat_eq k k) (nat_lt i 128) (is_number k) (is_lt i 128 h)))) in
@@ -115,16 +115,16 @@ inputs_same (k ∷ ks) s t a b same =
 -- Nodes.
 
 module _ (s : Situation) (widths : List ℕ) (signals : HasSignals s.names widths) (entered : PortsFit widths s.inputs (bits_at s.netlist.inputs)) (shows : PortsFit widths s.outputs (bits_at s.netlist.outputs)) where
-  node_fits : (x : Values) (store : List ℕ) (node : NetNode) → IsStore s.names widths store → All (Fits widths) (node_updates s x store node)
+  pub node_fits : (x : Values) (store : List ℕ) (node : NetNode) → IsStore s.names widths store → All (Fits widths) (node_updates s x store node)
   node_fits x store (Assign a) is = updates_fit s.names widths (assign_updates s.names a s.phase store) signals (all_fit s.names s.phase a (λ n. slice_index store n) still)
   node_fits x store Design is = whole_fits widths s.outputs (bits_at s.netlist.outputs) x shows.widths_are shows.known is.some
 
-  gives_writes : (x : Values) (store : List ℕ) (node : NetNode) (n i : ℕ) → IsStore s.names widths store → some_gives (node_updates s x store node) n i ≡ true → node_writes (wiring s.names s.inputs s.outputs) node n i ≡ true
+  pub gives_writes : (x : Values) (store : List ℕ) (node : NetNode) (n i : ℕ) → IsStore s.names widths store → some_gives (node_updates s x store node) n i ≡ true → node_writes (wiring s.names s.inputs s.outputs) node n i ≡ true
   gives_writes x store (Assign a) n i is h = stay_inside s.names s.phase a still (λ k. slice_index store k) n i h
   gives_writes x store Design n i is h = whole_gives widths s.outputs (bits_at s.netlist.outputs) (shown (plain x) s.netlist) n i shows.widths_are is.most h
 
   -- where the bits that are read are the same
-  updates_same : (x : Values) (u t : List ℕ) (node : NetNode) → IsSide s.names node → IsStore s.names widths u → IsStore s.names widths t → ((n i : ℕ) → node_reads (wiring s.names s.inputs s.outputs) node n i ≡ true → store_bit u n i ≡ store_bit t n i) → node_updates s x u node ≡ node_updates s x t node
+  pub updates_same : (x : Values) (u t : List ℕ) (node : NetNode) → IsSide s.names node → IsStore s.names widths u → IsStore s.names widths t → ((n i : ℕ) → node_reads (wiring s.names s.inputs s.outputs) node n i ≡ true → store_bit u n i ≡ store_bit t n i) → node_updates s x u node ≡ node_updates s x t node
   updates_same x u t (Assign a) side is is_too same = ap (λ r. r.0) (updates_rest s.names s.phase a still side (λ n. slice_index u n) (λ n. slice_index t n) is.within is_too.within same)
   updates_same x u t Design side is is_too same = refl
 
@@ -149,7 +149,7 @@ module _ (s : Situation) (widths : List ℕ) (signals : HasSignals s.names width
 
 -- Places of an order.
 
-take_cases : (xs : List ℕ) (k c : ℕ) → k < length xs → Contains (take (k + 1) xs) c → Contains (take k xs) c ⊎ (c ≡ get_or xs k 0)
+pub take_cases : (xs : List ℕ) (k c : ℕ) → k < length xs → Contains (take (k + 1) xs) c → Contains (take k xs) c ⊎ (c ≡ get_or xs k 0)
 take_cases xs k c inside has =
     let long : length (take (k + 1) xs) ≡ k + 1 = length-take-le (k + 1) xs (omega arith) in
     let j : ℕ = has.0 in
@@ -162,7 +162,7 @@ take_cases xs k c inside has =
           inr (sym at ∙ sym (get_or_default xs j 0 c (omega (arith, last))) ∙ ap (λ (m : ℕ). get_or xs m 0) last)
     ]
 
-take_last : (xs : List ℕ) (k : ℕ) → k < length xs → Contains (take (k + 1) xs) (get_or xs k 0)
+pub take_last : (xs : List ℕ) (k : ℕ) → k < length xs → Contains (take (k + 1) xs) (get_or xs k 0)
 take_last xs k inside =
     let long : length (take (k + 1) xs) ≡ k + 1 = length-take-le (k + 1) xs (omega arith) in
     (k, omega (arith, long), get_or-take (k + 1) xs k (get_or xs k 0) (omega arith) ∙ sym (get_or_default xs k 0 (get_or xs k 0) inside))
@@ -173,7 +173,7 @@ take_keeps xs j k c le inside has =
     (has.0, omega (arith, below, length-take-le k xs inside), get_or-take k xs has.0 c (omega (arith, below)) ∙ sym (get_or-take j xs has.0 c below) ∙ has.2)
 
 -- what a node of the first ones reads is one of them
-before : (count : ℕ) (R : ℕ → ℕ → Type 0) (order : List ℕ) → IsInOrder count R order → (k : ℕ) → k ≤ length order → (c d : ℕ) → Contains (take k order) c → R c d → Contains (take k order) d
+pub before : (count : ℕ) (R : ℕ → ℕ → Type 0) (order : List ℕ) → IsInOrder count R order → (k : ℕ) → k ≤ length order → (c d : ℕ) → Contains (take k order) c → R c d → Contains (take k order) d
 before count R order places k inside c d has r =
     let j : ℕ = has.0 in
     let below : j < k = omega (arith, has.1, length-take-le k order inside) in
@@ -184,13 +184,13 @@ before count R order places k inside c d has r =
 
 -- A step.
 
-reads_at : (w : Wiring) (nodes : List NetNode) (c : ℕ) (node : NetNode) (n i : ℕ) → slice_get nodes c ≡ Some node → node_reads w node n i ≡ true → reads_of w (slice_get nodes c) n i ≡ true
+pub reads_at : (w : Wiring) (nodes : List NetNode) (c : ℕ) (node : NetNode) (n i : ℕ) → slice_get nodes c ≡ Some node → node_reads w node n i ≡ true → reads_of w (slice_get nodes c) n i ≡ true
 reads_at w nodes c node n i at h = ap (λ (o : Option NetNode). reads_of w o n i) at ∙ h
 
-writes_at : (w : Wiring) (nodes : List NetNode) (c : ℕ) (node : NetNode) (n i : ℕ) → slice_get nodes c ≡ Some node → node_writes w node n i ≡ true → writes_of w (slice_get nodes c) n i ≡ true
+pub writes_at : (w : Wiring) (nodes : List NetNode) (c : ℕ) (node : NetNode) (n i : ℕ) → slice_get nodes c ≡ Some node → node_writes w node n i ≡ true → writes_of w (slice_get nodes c) n i ≡ true
 writes_at w nodes c node n i at h = ap (λ (o : Option NetNode). writes_of w o n i) at ∙ h
 
-same_node : (a b : NetNode) → Some a ≡ Some b → a ≡ b
+pub same_node : (a b : NetNode) → Some a ≡ Some b → a ≡ b
 same_node a b e = cc
 
 pub side_of : (names : Names) (widths inputs outputs : List ℕ) (nets : Nets) → CanSettle names widths inputs outputs nets → (k : ℕ) (node : NetNode) → slice_get nets.nodes k ≡ Some node → IsSide names node

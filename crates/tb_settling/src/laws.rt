@@ -1,5 +1,7 @@
-//! Laws of assignments among nets, over their definitions alone.
-ghost use Rattle.tb_settling.specs.Laws.{UpdatesRestOnReads, UpdatesStayInside, SidesFit};
+//! Laws of assignments among nets and of nets that settle, over their definitions alone.
+ghost use Rattle.tb_settling.specs.Laws.{UpdatesRestOnReads, UpdatesStayInside, SidesFit, NetsSettleOnce};
+
+use netlist_core::one_run;
 
 /// The updates of an assignment depend on the bits that it reads alone, and give values to bits that its left side can write.
 /// Sides with shapes fit.
@@ -8,3 +10,10 @@ pub fn assignments_rest()
     ensures inside { UpdatesStayInside }
     ensures fit { SidesFit }
 {}
+
+/// What nets settle to is determined.
+pub fn nets_settle_once()
+    ensures { NetsSettleOnce }
+{
+    one_run();
+}

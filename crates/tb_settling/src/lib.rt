@@ -7,6 +7,6 @@ mod laws;
 mod node;
 mod pass;
 
-pub use laws::assignments_rest;
+pub use laws::{assignments_rest, nets_settle_once};
 pub use pass::settle;
 pub use tb_nets::{NetNode, Nets};
