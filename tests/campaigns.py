@@ -123,14 +123,6 @@ def case(design, options, **given):
     return given_lines, told
 
 
-def wide():
-    """Nine inputs are too many, however many of the sites are to be taken."""
-    ports = ", ".join(f"input {name}" for name in "abcdefhij")
-    lines = [f"module g({ports}, output y);", "  assign y = a & j;", "endmodule"]
-    given = ["new", f"hold config.mcy {tilde(project(['size 2', 'modes inv']))}", f"hold g.v {tilde(lines)}", "fail-keeper 0 0", "call run"]
-    return given, ["> run", "status 5", "mcy: TooMany FreeBits", "0 items, 0 mutations"]
-
-
 LAST = 2**64 - 1
 
 PARTS = [
@@ -154,7 +146,6 @@ PARTS = [
         case(PARITY, ["size 7", "pick plain", "seed 7"], size=7, seed=7),
         case(REDUNDANT, ["size 9", "pick even", "modes inv const1 const0"], size=9, modes=["inv", "const1", "const0"], pick="even"),
     ]),
-    ("# Inputs that are too many are told whatever the size is.", [wide()]),
 ]
 
 

@@ -301,6 +301,22 @@ ends 0 "$(cat status)" "" status
 sed 's/& last/\& lost/' "$root/examples/counter/rtl/top.v" >rtl/top.v
 refuses 5 "mcy: rtl/top.v:3:24: Unknown" "" run
 
+# A counter with ten free bits, no test of which is given up; and a design whose tests have one lemma each, so that those of mutants
+# that change nothing are.
+rm -rf "$room/here" && cp -r "$root/examples/saturating" "$room/here" && cd "$room/here" && chmod -R go+rX . && chmod 777 . || exit 1
+ends 0 "$(cat status)" "" run
+sed 's/^conflicts .*/conflicts 1\nmodes const0/' "$root/examples/saturating/config.mcy" >config.mcy
+refuses 10 "mcy: database: meta 1" "./mcy.db-wal " run
+rm mcy.db* && printf 'module sat(input a, input b, output y);\n  wire u = a & b;\n  assign y = a | u;\nendmodule\n' >sat.v
+ends 0 'Mutations: 6
+Finished: 6
+Test same: PASS 0 FAIL 2 UNKNOWN 4
+Tag CHANGED: 2
+Tag NOCHANGE: 0
+Tag GIVENUP: 4
+Asserts: 0
+Unexpected: 0' "" run
+
 # Three mutations of twelve sites in two modes, picked from each line first.
 rm -rf "$room/here" && cp -r "$root/examples/parity" "$room/here" && cd "$room/here" && chmod -R go+rX . && chmod 777 . || exit 1
 sed 's/^modes inv$/modes inv const0/; s/^tags /size 3\npick even\n&/' "$root/examples/parity/config.mcy" >config.mcy

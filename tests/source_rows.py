@@ -172,8 +172,7 @@ r.at("Loop", module("  assign y = a §& y;"))
 r.note("A limit is told with its kind and no place.")
 r.refused("TooMany LoopTurns", {"g.v": module("  genvar i;~  for (i = 0; i < 4097; i = i + 1) begin : k wire v; end")})
 r.refused("TooMany RegisterBits", {"g.v": module("  genvar i;~  for (i = 0; i < 33; i = i + 1) begin : k reg [127:0] v; always @(posedge a) v <= 0; end")})
-r.refused("TooMany FreeBits", {"g.v": module("  always @(posedge a) y <= y + 1'b1;", "input a, input [4:0] b, output reg [3:0] y")})
-r.init(15, 15, {"g.v": module("  always @(posedge a) y <= y + 1'b1;", "input a, input [4:0] b, output reg [2:0] y")},
+r.init(20, 20, {"g.v": module("  always @(posedge a) y <= y + 1'b1;", "input a, input [4:0] b, output reg [3:0] y")},
        config=SHORT.replace("[script]", "[options]~modes inv~[script]"))
 H = "module h(input d, output q);~  assign q = d;~endmodule~"
 G = "module g(input a, output y);~  h u(a, y);~endmodule~"
