@@ -24,7 +24,7 @@ use Rattle.tb_machine.specs.Machine.{AreRan}
 use Rattle.tb_evaluator.specs.Meanings.{meaning}
 
 -- a fact on worlds that evaluations keep
-record Keeps (m : Meaning) (P : World → Type 0) : Type 0 where
+pub record Keeps (m : Meaning) (P : World → Type 0) : Type 0 where
   pub holds : (x : Expr) (w : World) → P w → P (m.holds x w).1
   pub count : (x : Expr) (w : World) → P w → P (m.count x w).1
   pub choice : (kind : CaseKind) (x : Expr) (labels : List (List Expr)) (w : World) → P w → P (m.choice kind x labels w).1
@@ -71,7 +71,7 @@ stepped m P k (Turns (suc n) body) rest w p = p
 
 -- Processes.
 
-abbrev Left : {A : Type 0} → (World → Type 0) → Ran A → Type 0
+abbrev pub Left : {A : Type 0} → (World → Type 0) → Ran A → Type 0
 Left P (Pauses left a w) = P w
 Left P (Finished w) = P w
 Left P (TooLong w) = P w
@@ -124,7 +124,7 @@ active_after m P k event initial (Pauses n qs v) p = woken_all m P k event initi
 active_after m P k event initial (Finished v) p = p
 active_after m P k event initial (TooLong v) p = p
 
-active_keeps : (m : Meaning) (P : World → Type 0) (k : Keeps m P) (event : Event) (always initial : List Suspended) (w : World) → P w → Left P (active m event always initial w)
+pub active_keeps : (m : Meaning) (P : World → Type 0) (k : Keeps m P) (event : Event) (always initial : List Suspended) (w : World) → P w → Left P (active m event always initial w)
 active_keeps m P k event always initial w p = active_after m P k event initial (all_woken m event max_statements always w) (woken_all m P k event always max_statements w p)
 
 -- The widths of signals.

@@ -1,0 +1,5 @@
+pub mod Values
+pub mod Staying
+pub mod Settled
+pub mod Outcomes
+pub mod Designs
