@@ -1,6 +1,6 @@
 -- The nets of items without a fault, one item after the other.
 use Rattle.std.proofs.Common.{◌≡◌, ◌⊎◌, inl, inr, zero, suc, ℕ, ◌<◌, ◌≤◌, Bool, true, false, ◌||◌, List, [], ◌∷◌, ◌++◌, take, length, get_or, refl, sym, ap, ◌∙◌, subst, arith}
-use Rattle.std.specs.Prelude.{Option, Some, None, slice_get, option_to_list}
+use Rattle.std.specs.Prelude.{Option, Some, slice_get}
 use Rattle.std.proofs.lemmas.Grind.{flat_map-append}
 use Rattle.std.proofs.lemmas.List.{append-nil, take_all}
 use Rattle.mcy_base.specs.declared.span.Span.{Span}
@@ -22,7 +22,7 @@ use Rattle.tb_writers.specs.Writers.{Written, nothing, with_outputs, whole_signa
 use Rattle.tb_refusals.specs.Refusals.{Context, written, second, is_design, some_item, own_item_faults, item_faults, AreFaultless}
 use Rattle.tb_refusals.proofs.Firsts.{take_more}
 use Rattle.tb_apart.specs.Laws.{NetsAreApart}
-use Rattle.tb_apart.specs.Nodes.{node_of, node_in, nodes_of}
+use Rattle.tb_contents.specs.Nets.{item_nodes, nodes_of}
 use Rattle.tb_apart.proofs.Places.{either_true, first_or, second_or}
 use Rattle.tb_apart.proofs.Meeting.{item_keeps, net_clash, net_writes}
 use Rattle.tb_apart.proofs.Listed.{one_of, some_writes, apart_more}
@@ -41,8 +41,8 @@ written_more : (names : Names) (w : Written) (xs : List BenchItem) (y : BenchIte
 written_more names w [] y = refl
 written_more names w (x ∷ xs) y = written_more names (with_item names w x) xs y
 
-nodes_more : (before : List BenchItem) (x : BenchItem) → nodes_of (before ++ x ∷ []) ≡ nodes_of before ++ node_in x
-nodes_more before x = flat_map-append node_in before (x ∷ []) ∙ ap (λ (l : List NetNode). nodes_of before ++ l) (append-nil (node_in x))
+nodes_more : (before : List BenchItem) (x : BenchItem) → nodes_of (before ++ x ∷ []) ≡ nodes_of before ++ item_nodes x
+nodes_more before x = flat_map-append item_nodes before (x ∷ []) ∙ ap (λ (l : List NetNode). nodes_of before ++ l) (append-nil (item_nodes x))
 
 keeps : (c : Context) (before : List BenchItem) (x : BenchItem) (n i : ℕ) → (written c before).nets n i ≡ true → (written c (before ++ x ∷ [])).nets n i ≡ true
 keeps c before x n i e = subst (λ (w : Written). w.nets n i ≡ true) (sym (written_more c.names (with_outputs nothing c.outputs) before x)) (item_keeps c.names (written c before) x n i e)
@@ -63,20 +63,20 @@ has_design (y ∷ ys) at e = go (is_design y) e (has_design ys at)
     go true h later = absurd cc
     go false h later = later h
 
-left_nil : (xs ys : List BenchFault) → xs ++ ys ≡ [] → xs ≡ []
+pub left_nil : (xs ys : List BenchFault) → xs ++ ys ≡ [] → xs ≡ []
 left_nil [] ys e = refl
 left_nil (x ∷ xs) ys e = absurd cc
 
-right_nil : (xs ys : List BenchFault) → xs ++ ys ≡ [] → ys ≡ []
+pub right_nil : (xs ys : List BenchFault) → xs ++ ys ≡ [] → ys ≡ []
 right_nil [] ys e = e
 right_nil (x ∷ xs) ys e = absurd cc
 
 -- An item that is no net.
 
-plain_nodes : (before : List BenchItem) (x : BenchItem) → node_of x ≡ None → nodes_of (before ++ x ∷ []) ≡ nodes_of before
-plain_nodes before x none = nodes_more before x ∙ ap (λ (o : Option NetNode). nodes_of before ++ option_to_list o) none ∙ append-nil (nodes_of before)
+plain_nodes : (before : List BenchItem) (x : BenchItem) → item_nodes x ≡ [] → nodes_of (before ++ x ∷ []) ≡ nodes_of before
+plain_nodes before x none = nodes_more before x ∙ ap (λ (l : List NetNode). nodes_of before ++ l) none ∙ append-nil (nodes_of before)
 
-plain : (c : Context) (inputs : List ℕ) (before : List BenchItem) (x : BenchItem) → node_of x ≡ None → Standing c inputs before → Standing c inputs (before ++ x ∷ [])
+plain : (c : Context) (inputs : List ℕ) (before : List BenchItem) (x : BenchItem) → item_nodes x ≡ [] → Standing c inputs before → Standing c inputs (before ++ x ∷ [])
 plain c inputs before x none s =
     let w : Wiring = wiring c.names inputs c.outputs in
     let same : nodes_of (before ++ x ∷ []) ≡ nodes_of before = plain_nodes before x none in
@@ -90,10 +90,10 @@ plain c inputs before x none s =
 
 -- An assignment.
 
-node_nodes : (before : List BenchItem) (x : BenchItem) (node : NetNode) → node_of x ≡ Some node → nodes_of (before ++ x ∷ []) ≡ nodes_of before ++ node ∷ []
-node_nodes before x node is = nodes_more before x ∙ ap (λ (o : Option NetNode). nodes_of before ++ option_to_list o) is
+node_nodes : (before : List BenchItem) (x : BenchItem) (node : NetNode) → item_nodes x ≡ node ∷ [] → nodes_of (before ++ x ∷ []) ≡ nodes_of before ++ node ∷ []
+node_nodes before x node is = nodes_more before x ∙ ap (λ (l : List NetNode). nodes_of before ++ l) is
 
-module _ (c : Context) (inputs : List ℕ) (before : List BenchItem) (x : BenchItem) (a : Assignment) (sized : AreSized c.names) (node : node_of x ≡ Some (Assign a)) (is : assignment_of x ≡ Some a) (none : item_faults c before x ≡ []) (s : Standing c inputs before) where
+module _ (c : Context) (inputs : List ℕ) (before : List BenchItem) (x : BenchItem) (a : Assignment) (sized : AreSized c.names) (node : item_nodes x ≡ Assign a ∷ []) (is : assignment_of x ≡ Some a) (none : item_faults c before x ≡ []) (s : Standing c inputs before) where
   abbrev w : Wiring
   w = wiring c.names inputs c.outputs
 
@@ -242,12 +242,12 @@ none_yet c inputs = record {
 
 -- All items.
 
-within : (xs : List BenchItem) (k : ℕ) (d : BenchItem) → k < length xs → slice_get xs k ≡ Some (get_or xs k d)
+pub within : (xs : List BenchItem) (k : ℕ) (d : BenchItem) → k < length xs → slice_get xs k ≡ Some (get_or xs k d)
 within [] k d h = absurd (omega arith)
 within (x ∷ xs) zero d h = refl
 within (x ∷ xs) (suc k) d h = within xs k d (omega arith)
 
-get_itself : (xs : List BenchItem) (k : ℕ) (d : BenchItem) → k < length xs → get_or xs k d ≡ get_or xs k (get_or xs k d)
+pub get_itself : (xs : List BenchItem) (k : ℕ) (d : BenchItem) → k < length xs → get_or xs k d ≡ get_or xs k (get_or xs k d)
 get_itself [] k d h = absurd (omega arith)
 get_itself (x ∷ xs) zero d h = refl
 get_itself (x ∷ xs) (suc k) d h = get_itself xs k d (omega arith)

@@ -2,3 +2,4 @@ pub mod Places
 pub mod Meeting
 pub mod Listed
 pub mod Apart
+pub mod Clean

@@ -1,8 +1,6 @@
-//! The nodes of a testbench's nets, and that no bit has two writers where its items have no fault.
+//! The nets and processes of a testbench whose items have no fault.
 #![tactic(auto)]
 
 mod laws;
-mod nodes;
 
-pub use laws::nets_are_apart;
-pub use nodes::nodes_of;
+pub use laws::{items_are_clean, nets_are_apart};
