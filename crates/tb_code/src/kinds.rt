@@ -127,7 +127,7 @@ fn event_of_edge(edge: Edge) -> Event
 }
 
 /// What a wait waits for.
-fn event_of(control: &EventControl) -> Event
+pub fn event_of(control: &EventControl) -> Event
     ensures { result ≡ event_of control.now }
 {
     match control {

@@ -8,4 +8,5 @@ mod laws;
 mod statement;
 
 pub use code::{Code, begin};
+pub use kinds::event_of;
 pub use laws::code_has_its_statements;
