@@ -5,6 +5,7 @@ use Rattle.mcy_base.specs.declared.span.Span.{Span}
 use Rattle.vlog_syntax.specs.declared.item.Process.{Process}
 use Rattle.vlog_syntax.specs.declared.stmt.Argument.{Argument}
 use Rattle.vlog_syntax.specs.declared.stmt.Argument.TheVariants as a
+use Rattle.vlog_syntax.specs.declared.stmt.Assignment.{Assignment}
 use Rattle.vlog_syntax.specs.declared.stmt.EventControl.{EventControl}
 use Rattle.vlog_syntax.specs.declared.stmt.Stmt.{Stmt, out-Stmt}
 use Rattle.vlog_syntax.specs.declared.stmt.Stmt.TheOpen as s
@@ -17,6 +18,7 @@ use Rattle.tb_code.specs.Tests.{Tests, all_of, Passes}
 use Rattle.tb_assigns.specs.Checks.{has_shape, can_assign}
 use Rattle.tb_assigns.specs.Updates.{CanAssign}
 use Rattle.tb_evaluator.specs.Meanings.{CanPerform}
+use Rattle.tb_checks.specs.Nets.{assign_faults}
 use Rattle.tb_checks.specs.Processes.{process_faults}
 use Rattle.tb_checks.specs.Statements.{is_print}
 
@@ -37,6 +39,10 @@ FaultlessPass = (names : Names) (clock : Option (List ℕ)) (may_start : Bool) (
 
 abbrev pub WaitsPass : Type 0
 WaitsPass = (names : Names) (x : Stmt) (at : Span) (control : EventControl) (body : Stmt) → out-Stmt x ≡ s.EventControl at control body → Passes (bench_tests names) x → Passes (bench_tests names) body
+
+-- an assign in which nothing is wrong can be carried out
+abbrev pub FaultlessAssigns : Type 0
+FaultlessAssigns = (names : Names) (x : Assignment) → assign_faults names x.left x.value ≡ [] → can_assign names x ≡ true
 
 abbrev pub PassingIsKnown : Type 0
 PassingIsKnown = (names : Names) (nodes : List Node) (numbers : List ℕ) (parts : List Stmt) → Adds [] nodes numbers parts → All (Passes (bench_tests names)) parts → AllKnown (IsWhole names) (CanAssign names) (CanPerform names) nodes

@@ -3,4 +3,6 @@
 
 mod laws;
 
-pub use laws::{faultless_processes_pass, passing_code_is_known, waits_pass};
+pub use laws::{
+    faultless_assigns_are_carried_out, faultless_processes_pass, passing_code_is_known, waits_pass,
+};

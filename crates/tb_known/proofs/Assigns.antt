@@ -1,0 +1,33 @@
+-- Assigns in which nothing is wrong can be carried out.
+use Rattle.std.proofs.Common.{◌≡◌, true, ◌&&◌, List, [], ◌++◌, map}
+use Rattle.std.specs.Prelude.{None}
+use Rattle.std.specs.List.{flat_map}
+use Rattle.vlog_syntax.specs.declared.expr.Expr.{Expr}
+use Rattle.vlog_meaning.specs.declared.fault.Cause.TheVariants.{SystemFunction}
+use Rattle.vlog_meaning.specs.Scopes.{Names}
+use Rattle.vlog_meaning.specs.Senses.{sense, fault, own_zeros, assigned}
+use Rattle.vlog_meaning.proofs.Blanks.{left_nil, right_nil}
+use Rattle.vlog_effects.specs.Expressions.{width_of}
+use Rattle.vlog_effects.specs.LeftSides.{parts_of}
+use Rattle.elab_proc.specs.Refusals.{same_form, divisions}
+use Rattle.tb_faults.specs.declared.fault.BenchFault.{BenchFault}
+use Rattle.tb_faults.specs.declared.fault.BenchFault.TheVariants.{Wrong}
+use Rattle.tb_assigns.specs.Checks.{has_shape, all_signals}
+use Rattle.tb_checks.specs.Expressions.{wrong}
+use Rattle.tb_checks.specs.Lefts.{part_faults}
+use Rattle.tb_checks.specs.Nets.{randoms, net_wrong, net_faults}
+use Rattle.tb_known.specs.Laws.{FaultlessAssigns}
+use Rattle.tb_known.proofs.Nothing.{none_before, and_true}
+use Rattle.tb_known.proofs.Expressions.{wrong_passes, signals_pass}
+
+net_passes : (names : Names) (x : Expr) → net_wrong names x ≡ [] → has_shape names x ≡ true
+net_passes names x e = wrong_passes names x (left_nil (wrong names x) (map (fault SystemFunction) (randoms x)) e)
+
+pub assigns : FaultlessAssigns
+assigns names x e =
+    let left : Expr = same_form x.left in
+    let sides : List BenchFault = map Wrong (net_faults names left x.value) in
+    let written : List BenchFault = flat_map (part_faults names None) (parts_of x.left) in
+    let both : net_wrong names left ++ net_wrong names x.value ≡ [] = none_before (net_wrong names left ++ net_wrong names x.value) (divisions (own_zeros (sense names left) ++ (sense names x.value).zeros (assigned (sense names x.value) (width_of names left)))) (left_nil sides written e) in
+    and_true (has_shape names left) (all_signals names (parts_of x.left) && has_shape names x.value) (net_passes names left (left_nil (net_wrong names left) (net_wrong names x.value) both))
+    (and_true (all_signals names (parts_of x.left)) (has_shape names x.value) (signals_pass names None (parts_of x.left) (right_nil sides written e)) (net_passes names x.value (right_nil (net_wrong names left) (net_wrong names x.value) both)))
