@@ -16,7 +16,7 @@ pub trait Listener {
     /// Hears the next piece. After an error, want of memory, it is only to be dropped.
     fn hear(&mut self, piece: &[u8]) -> Result<(), AllocError>
         ensures heard { (text : List ℕ) → heard self.old text → IfOk result (λ _. heard self.new (text ++ piece.now)) }
-        ensures same { IfOk result (λ _. listens_for self.new ≡ listens_for self.old) };
+        ensures same { listens_for self.new ≡ listens_for self.old };
 }
 
 /// A watch listens for its two texts.

@@ -16,6 +16,9 @@ pub trait Phases {
 
     ghost is_going: { Self → Type 0 };
 
+    // a later state of the same run
+    ghost is_same: { Self → Self → Type 0 };
+
     // what the last phase printed
     ghost printed: { Self → List ℕ };
 
@@ -24,9 +27,14 @@ pub trait Phases {
         requires going { is_going self.old }
         requires few { phases self.old < 2 ^ 64 - 1 }
         ensures phase { (g : Setting) (s : State) → stands self.old g s → IfOk result (λ e. (t : State) × IsPhase g s (ending_of e) t × IfGoing e (stands self.new g t) × (t.text ≡ s.text ++ printed self.new)) }
-        ensures going { IfOk result (λ e. IfGoing e (is_going self.new × (phases self.new ≡ phases self.old + 1))) };
+        ensures going { IfOk result (λ e. IfGoing e (is_going self.new × (phases self.new ≡ phases self.old + 1))) }
+        ensures same { is_same self.old self.new };
 
     /// What the last phase printed.
     fn printed(&self) -> &[u8]
         ensures { result.now ≡ printed self.now };
+
+    ghost same_self: { (x : Self) → is_same x x };
+
+    ghost same_on: { (x y z : Self) → is_same x y → is_same y z → is_same x z };
 }

@@ -18,7 +18,8 @@ fn phase_heard<R: Phases, L: Listener>(
     requires few { R.phases run.old < 2 ^ 64 - 1 }
     ensures at { (g : Setting) (start : State) (phases : ℕ) → IsAt g (R.stands run.old g) (L.heard listener.old) start phases → IfOk result (IsRunTo g (R.stands run.new g) (L.heard listener.new) start (phases + 1)) }
     ensures going { IfOk result (λ e. IfGoing e (R.is_going run.new × (R.phases run.new ≡ R.phases run.old + 1))) }
-    ensures same { IfOk result (λ _. L.listens_for listener.new ≡ L.listens_for listener.old) }
+    ensures run { R.is_same run.old run.new }
+    ensures same { L.listens_for listener.new ≡ L.listens_for listener.old }
 {
     simulations_go_on();
     let end = run.phase()?;
@@ -38,7 +39,8 @@ pub(crate) fn run_to<R: Phases, L: Listener>(
     requires phases { R.phases run.old ≡ from }
     ensures at { (g : Setting) (start : State) → IsAt g (R.stands run.old g) (L.heard listener.old) start from → IfOk result (IsRunTo g (R.stands run.new g) (L.heard listener.new) start to) }
     ensures going { IfOk result (λ e. IfGoing e (R.is_going run.new × (R.phases run.new ≡ to))) }
-    ensures same { IfOk result (λ _. L.listens_for listener.new ≡ L.listens_for listener.old) }
+    ensures run { R.is_same run.old run.new }
+    ensures same { L.listens_for listener.new ≡ L.listens_for listener.old }
 {
     for _phase in from..to {
         match phase_heard(run, listener)? {

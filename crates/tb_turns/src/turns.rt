@@ -56,7 +56,7 @@ impl<R: Phases + Drop> Turns<R> {
         ensures told { (g : Setting) (start : State) → IsAt g (R.stands self.old.run g) (HasWatched self.old.watch) start self.old.phases → IfOk result (λ o. MatchOption o (IsAt g (R.stands self.new.run g) (HasWatched self.new.watch) start self.new.phases) (IsVerdict g start self.old.limit self.old.watch.pass.word self.old.watch.fail.word)) }
         ensures none { IfOk result (λ o. MatchOption o (IsOpen (R.is_going self.new.run) (R.phases self.new.run) self.new.phases self.old.limit × (self.new.phases ≡ phases_after self.old.phases cycles)) (λ _. ⊤)) }
         ensures some { (g : Setting) (start : State) → IsAt g (R.stands self.old.run g) (HasWatched self.old.watch) start self.old.phases → IfOk result (λ o. MatchOption o ⊤ (λ _. MeetsEnd g start self.old.limit (phases_after self.old.phases cycles))) }
-        ensures same { IfOk result (λ _. (self.new.limit ≡ self.old.limit) × (self.new.watch.pass.word ≡ self.old.watch.pass.word) × (self.new.watch.fail.word ≡ self.old.watch.fail.word)) }
+        ensures same { R.is_same self.old.run self.new.run × (self.new.limit ≡ self.old.limit) × (self.new.watch.pass.word ≡ self.old.watch.pass.word) × (self.new.watch.fail.word ≡ self.old.watch.fail.word) }
         ensures refused { IsTrue self.old.refused → IsErr result }
         ensures refuses { IsTrue self.new.refused ↔ IsErr result }
     {
@@ -75,7 +75,7 @@ impl<R: Phases + Drop> Turns<R> {
         ensures told { (g : Setting) (start : State) → IsAt g (R.stands self.old.run g) (HasWatched self.old.watch) start self.old.phases → IfOk result (λ o. MatchOption o (IsAt g (R.stands self.new.run g) (HasWatched self.new.watch) start self.new.phases) (IsVerdict g start self.old.limit self.old.watch.pass.word self.old.watch.fail.word)) }
         ensures none { IfOk result (λ o. MatchOption o (IsOpen (R.is_going self.new.run) (R.phases self.new.run) self.new.phases self.old.limit × (self.new.phases ≡ phases_after self.old.phases cycles)) (λ _. ⊤)) }
         ensures some { (g : Setting) (start : State) → IsAt g (R.stands self.old.run g) (HasWatched self.old.watch) start self.old.phases → IfOk result (λ o. MatchOption o ⊤ (λ _. MeetsEnd g start self.old.limit (phases_after self.old.phases cycles))) }
-        ensures same { IfOk result (λ _. (self.new.limit ≡ self.old.limit) × (self.new.watch.pass.word ≡ self.old.watch.pass.word) × (self.new.watch.fail.word ≡ self.old.watch.fail.word)) }
+        ensures same { R.is_same self.old.run self.new.run × (self.new.limit ≡ self.old.limit) × (self.new.watch.pass.word ≡ self.old.watch.pass.word) × (self.new.watch.fail.word ≡ self.old.watch.fail.word) }
         ensures refused { self.new.refused ≡ self.old.refused }
     {
         simulations_go_on();
