@@ -1,20 +1,24 @@
 //! `mcy`: one call over the real files, standard output and the database of the current folder.
 //!
 //! The words, the files, the sink and the keeper are made here and nowhere else. What the call does is
-//! `mcy_call`'s.
+//! `mcy_call`'s. Where standard error is a terminal, `meter` tells there how far the campaign is.
 #![tactic(auto)]
 
 ghost use Rattle.std.specs.Prelude.{[]};
 ghost use Rattle.sqlite.specs.Files.{AreFoundIn};
 
+mod meter;
+
 use keeper_opening::{DatabaseFault, OpenError, Opener, OpeningKeeper};
 use mcy_outside::{RealFiles, RealSink, Sink};
-use mcy_top::{Outcome, exit_status, fault_line, mcy_call};
+use mcy_top::{Command, Outcome, exit_status, fault_line, mcy_call, read_words};
+use meter::Meter;
 use sqlite::{Connection, Error, ErrorCode, File, FileStore, Unknown};
 use std::alloc::{AllocError, Global};
 use std::env::{self, Env};
 use std::io;
 use std::process::ExitCode;
+use watched_keeper::WatchedKeeper;
 
 /// The file of the database, in the current folder.
 const DATABASE: &str = "mcy.db";
@@ -75,14 +79,30 @@ struct Ended {
     fault: Option<DatabaseFault>,
 }
 
+/// After how many tests a call with these words stops, if they say so.
+fn stop_of(alloc: Global, words: &[String]) -> Option<u32> {
+    match read_words(alloc, words) {
+        Ok(Some(Command::Run { stop_after })) => stop_after,
+        _ => None,
+    }
+}
+
 /// The call over the real files, standard output and the database. It then copies the database's log into
 /// its file, so that the file alone has all rows.
 fn call_here(rt: HostRuntime, words: &[String]) -> Ended {
     let alloc = rt.alloc();
-    let mut keeper = OpeningKeeper::new(alloc, Database { rt });
+    let mut keeper = WatchedKeeper {
+        keeper: OpeningKeeper::new(alloc, Database { rt }),
+        watcher: Meter::new(rt, stop_of(alloc, words)),
+    };
     let mut out = RealSink::new(rt.stdout());
     let mut files = RealFiles::new(alloc, rt);
     let outcome = mcy_call(alloc, words, &mut files, &mut keeper, &mut out);
+    let WatchedKeeper {
+        keeper,
+        mut watcher,
+    } = keeper;
+    watcher.end();
     let fault = keeper.fault();
     if let Some(connection) = keeper.into_connection() {
         // A log that was not copied stays beside the file, and the next call finds its rows.
@@ -116,6 +136,3 @@ fn main(rt: HostRuntime) -> ExitCode {
     }
     ExitCode::from(exit_status(&outcome))
 }
-
-#[cfg(test)]
-mod tests;
