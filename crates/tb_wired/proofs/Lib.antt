@@ -1,0 +1,4 @@
+pub mod Sides
+pub mod Single
+pub mod Placed
+pub mod Wiring

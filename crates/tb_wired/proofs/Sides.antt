@@ -1,0 +1,60 @@
+-- Assignments in which nothing is wrong can be carried out.
+use Rattle.std.proofs.Common.{◌≡◌, zero, suc, ℕ, true, ◌&&◌, List, [], ◌∷◌, ◌++◌, map, arith, subst}
+use Rattle.std.specs.Prelude.{None, Some, slice_get}
+use Rattle.std.specs.List.{All, flat_map}
+use Rattle.std.proofs.lemmas.List.Elements.{All-weaker}
+use Rattle.vlog_syntax.specs.declared.expr.Expr.{Expr}
+use Rattle.vlog_syntax.specs.declared.stmt.Assignment.{Assignment}
+use Rattle.vlog_meaning.specs.declared.fault.Cause.TheVariants.{SystemFunction}
+use Rattle.vlog_meaning.specs.Scopes.{Names}
+use Rattle.vlog_meaning.specs.Senses.{sense, assigned, fault, own_zeros}
+use Rattle.vlog_meaning.proofs.Blanks.{left_nil, right_nil}
+use Rattle.vlog_effects.specs.Expressions.{width_of}
+use Rattle.vlog_effects.specs.LeftSides.{parts_of}
+use Rattle.elab_proc.specs.Refusals.{same_form, divisions}
+use Rattle.tb_faults.specs.declared.fault.BenchFault.{BenchFault}
+use Rattle.tb_faults.specs.declared.fault.BenchFault.TheVariants.{Wrong}
+use Rattle.tb_assigns.specs.Checks.{has_shape, all_signals, can_assign}
+use Rattle.tb_checks.specs.Expressions.{wrong}
+use Rattle.tb_checks.specs.Lefts.{part_faults}
+use Rattle.tb_checks.specs.Nets.{randoms, net_wrong, net_faults, assign_faults}
+use Rattle.tb_known.proofs.Nothing.{none_before, and_true}
+use Rattle.tb_known.proofs.Expressions.{wrong_passes, signals_pass}
+use Rattle.tb_nets.specs.declared.node.NetNode.{NetNode}
+use Rattle.tb_nets.specs.declared.node.NetNode.TheVariants.{Assign, Design}
+use Rattle.tb_nets.specs.Nets.{IsSided}
+use Rattle.tb_settling.proofs.Sides.{sides_fit}
+use Rattle.tb_apart.specs.Laws.{IsClean}
+
+net_passes : (names : Names) (x : Expr) → net_wrong names x ≡ [] → has_shape names x ≡ true
+net_passes names x e = wrong_passes names x (left_nil (wrong names x) (map (fault SystemFunction) (randoms x)) e)
+
+clean_can : (names : Names) (a : Assignment) → assign_faults names a.left a.value ≡ [] → can_assign names a ≡ true
+clean_can names a e =
+    let left : Expr = same_form a.left in
+    let sides : List BenchFault = map Wrong (net_faults names left a.value) in
+    let written : List BenchFault = flat_map (part_faults names None) (parts_of a.left) in
+    let both : net_wrong names left ++ net_wrong names a.value ≡ [] = none_before (net_wrong names left ++ net_wrong names a.value) (divisions (own_zeros (sense names left) ++ (sense names a.value).zeros (assigned (sense names a.value) (width_of names left)))) (left_nil sides written e) in
+    and_true (has_shape names left) (all_signals names (parts_of a.left) && has_shape names a.value) (net_passes names left (left_nil (net_wrong names left) (net_wrong names a.value) both))
+    (and_true (all_signals names (parts_of a.left)) (has_shape names a.value) (signals_pass names None (parts_of a.left) (right_nil sides written e)) (net_passes names a.value (right_nil (net_wrong names left) (net_wrong names a.value) both)))
+
+clean_sided : (names : Names) (node : NetNode) → IsClean names node → IsSided names node
+clean_sided names (Assign a) e = sides_fit names a (clean_can names a e)
+clean_sided names Design e = tt
+
+pub all_sided : (names : Names) (nodes : List NetNode) → All (IsClean names) nodes → All (IsSided names) nodes
+all_sided names nodes clean = All-weaker (IsClean names) (IsSided names) (clean_sided names) nodes clean
+
+at_place : (names : Names) (nodes : List NetNode) (k : ℕ) (node : NetNode) → All (IsClean names) nodes → slice_get nodes k ≡ Some node → IsClean names node
+at_place names [] k node clean e = absurd cc
+at_place names (x ∷ xs) zero node clean e = subst (IsClean names) (same e) (clean 0 x (omega arith))
+  where
+    same : Some x ≡ Some node → x ≡ node
+    same h = cc
+at_place names (x ∷ xs) (suc k) node clean e = at_place names xs k node (λ j d h. clean (suc j) d (omega arith)) e
+
+abbrev pub CanAll : Names → List NetNode → Type 0
+CanAll names nodes = (k : ℕ) (a : Assignment) → slice_get nodes k ≡ Some (Assign a) → can_assign names a ≡ true
+
+pub all_can : (names : Names) (nodes : List NetNode) → All (IsClean names) nodes → CanAll names nodes
+all_can names nodes clean k a at = clean_can names a (at_place names nodes k (Assign a) clean at)
