@@ -1,0 +1,6 @@
+use Rattle.std.proofs.Common.{[], take}
+use Rattle.tb_reading.specs.Processes.{processes, AddsWaiting}
+use Rattle.tb_reading.proofs.processes.list_processes.Given as goal
+
+abbrev pub invariant-loop-item : goal.invariant-loop-item
+invariant-loop-item l = AddsWaiting l.fn.code l.code [] l.list.items (processes l.kind (take l.item-index l.items))

@@ -1,0 +1,6 @@
+//! Testbenches that are read: the bench of a module for a design, or the first reason why there is none.
+#![tactic(auto)]
+
+mod judge;
+mod processes;
+mod reading;
