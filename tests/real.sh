@@ -159,8 +159,8 @@ refuses 2 "$usage" "" source g.v
 refuses 2 "$usage" "" run --stop-after 0
 refuses 2 "$usage" "" $'st\xe9tus'
 {
-    echo 'module g(input a, input b, input c, input d, input e, input f, input h, input k, input m, output y);'
-    echo '  assign y = a & m;'
+    echo "module g(output y$(printf ', input [127:0] a%s' $(seq 17)));"
+    echo '  assign y = a1[0] & a17[127];'
     echo 'endmodule'
 } >g.v
 refuses 5 "mcy: TooMany FreeBits" "" run
