@@ -1,12 +1,16 @@
 -- Items with something among them, and ports whose bits are so many.
-use Rattle.std.proofs.Common.{◌≡◌, ℕ, ◌+◌, ◌<◌, ◌≤◌, Bool, true, false, ◌||◌, List, [], ◌∷◌, length, drop, get_or, sym, ap, ◌∙◌}
+use Rattle.std.proofs.Common.{Some, refl, ◌≡◌, ℕ, ◌+◌, ◌<◌, ◌≤◌, Bool, true, false, ◌||◌, List, [], ◌∷◌, length, drop, get_or, sym, ap, ◌∙◌}
 use Rattle.std.specs.List.{All}
 use Rattle.std.proofs.lemmas.List.{drop_more, drop_all}
 use Rattle.std.proofs.lemmas.List.Elements.{All-nil, All-cons}
 use Rattle.netlist_core.specs.declared.port.Port.{Port}
 use Rattle.netlist_core.specs.Checked.{AllWide}
 use Rattle.netlist_core.specs.Runs.{bits_at}
+use Rattle.mcy_base.specs.declared.span.Span.{Span}
+use Rattle.tb_items.specs.declared.generator.Generator.{Generator}
 use Rattle.tb_items.specs.declared.item.BenchItem.{BenchItem}
+use Rattle.tb_items.specs.declared.item.BenchItem.TheVariants as b
+use Rattle.tb_reading.specs.Benches.{first_generator}
 use Rattle.tb_refusals.specs.Refusals.{some_item}
 
 opened_up : (p : BenchItem → Bool) (items : List BenchItem) (i : ℕ) (item : BenchItem) → i < length items → item ≡ get_or items i item → some_item p (drop i items) ≡ (p item || some_item p (drop (i + 1) items))
@@ -24,3 +28,26 @@ some_nowhere p items i h so_far = sym (ap (some_item p) (drop_all i items h)) �
 pub wide_ports : (ports : List Port) → AllWide (bits_at ports) → All (λ p. (1 ≤ length p.bits) × (length p.bits ≤ 128)) ports
 wide_ports [] h = All-nil (λ p. (1 ≤ length p.bits) × (length p.bits ≤ 128))
 wide_ports (p ∷ more) h = All-cons (λ q. (1 ≤ length q.bits) × (length q.bits ≤ 128)) p more (h.0, h.1) (wide_ports more h.2)
+
+-- The first generator.
+
+generator_front : (item : BenchItem) (more : List BenchItem) → ((at : Span) (g : Generator) → item ≡ b.Clocks at g → ⊥) → first_generator (item ∷ more) ≡ first_generator more
+generator_front (b.Refused fault) more h = refl
+generator_front (b.Starts k x) more h = refl
+generator_front (b.Drives name x) more h = refl
+generator_front (b.Assigns a) more h = refl
+generator_front (b.Clocks at g) more h = absurd (h at g refl)
+generator_front (b.Runs p) more h = refl
+generator_front (b.Holds at) more h = refl
+generator_front (b.Reads x) more h = refl
+generator_front (b.Enters port x) more h = refl
+generator_front (b.Leaves port left) more h = refl
+
+items_from : (items : List BenchItem) (i : ℕ) (item : BenchItem) → i < length items → item ≡ get_or items i item → drop i items ≡ item ∷ drop (i + 1) items
+items_from items i item h is = drop_more items i item h ∙ ap (λ x. x ∷ drop (i + 1) items) (sym is)
+
+pub generator_later : (items : List BenchItem) (i : ℕ) (item : BenchItem) → i < length items → item ≡ get_or items i item → first_generator (drop i items) ≡ first_generator items → ((at : Span) (g : Generator) → item ≡ b.Clocks at g → ⊥) → first_generator (drop (i + 1) items) ≡ first_generator items
+generator_later items i item h is so_far other = sym (ap first_generator (items_from items i item h is) ∙ generator_front item (drop (i + 1) items) other) ∙ so_far
+
+pub generator_here : (items : List BenchItem) (i : ℕ) (item : BenchItem) (at : Span) (g : Generator) → i < length items → item ≡ get_or items i item → first_generator (drop i items) ≡ first_generator items → item ≡ b.Clocks at g → Some g ≡ first_generator items
+generator_here items i item at g h is so_far found = sym (ap first_generator (items_from items i item h is ∙ ap (λ x. x ∷ drop (i + 1) items) found)) ∙ so_far

@@ -1,3 +1,10 @@
 pub mod Listing
 pub mod Judging
 pub mod Following
+pub mod Runnable
+pub mod Fitting
+pub mod Passing
+pub mod Holding
+pub mod Assembling
+pub mod Accepting
+pub mod Making

@@ -1,3 +1,4 @@
 pub mod Processes
 pub mod Readings
 pub mod Reasons
+pub mod Benches

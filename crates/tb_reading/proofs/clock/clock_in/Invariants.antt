@@ -1,0 +1,6 @@
+use Rattle.std.proofs.Common.{◌≡◌, drop}
+use Rattle.tb_reading.specs.Benches.{first_generator}
+use Rattle.tb_reading.proofs.clock.clock_in.Given as goal
+
+abbrev pub invariant-loop-item : goal.invariant-loop-item
+invariant-loop-item l = first_generator (drop l.item-index l.items) ≡ first_generator l.items
