@@ -8,3 +8,7 @@ pub mod Holding
 pub mod Assembling
 pub mod Accepting
 pub mod Making
+pub mod Alike
+pub mod Designs
+pub mod Readings
+pub mod Reasons

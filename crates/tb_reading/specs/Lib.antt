@@ -2,3 +2,4 @@ pub mod Processes
 pub mod Readings
 pub mod Reasons
 pub mod Benches
+pub mod Laws

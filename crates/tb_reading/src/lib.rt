@@ -4,7 +4,9 @@
 mod bench;
 mod clock;
 mod judge;
+mod laws;
 mod processes;
 mod reading;
 
 pub use bench::read_bench;
+pub use laws::{benches_are_alike, one_refusal};

@@ -1,0 +1,100 @@
+-- What a design gives to a testbench is the same, whichever opening of its top it holds.
+use Rattle.std.proofs.Common.{◌≡◌, ℕ, ◌+◌, Bool, not, ◌||◌, List, [], ◌∷◌, ◌++◌, map, length, Option, None, refl, sym, ap, ◌∙◌, if◌then◌else◌}
+use Rattle.std.specs.List.{flat_map}
+use Rattle.std.specs.Str.{bytes_eq}
+use Rattle.mcy_base.specs.declared.span.Span.{Span}
+use Rattle.netlist_core.specs.declared.port.Port.{Port}
+use Rattle.netlist_core.specs.declared.raw.RawNetlist.{RawNetlist}
+use Rattle.vlog_syntax.specs.declared.identifier.Identifier.{Identifier}
+use Rattle.vlog_syntax.specs.declared.item.Instance.{Instance}
+use Rattle.vlog_syntax.specs.declared.item.ParameterValues.{ParameterValues}
+use Rattle.vlog_syntax.specs.declared.item.PlainItem.{PlainItem}
+use Rattle.vlog_syntax.specs.declared.item.PlainItem.TheVariants as p
+use Rattle.vlog_syntax.specs.declared.module.Module.{Module}
+use Rattle.vlog_meaning.specs.Scopes.{Names, with_name}
+use Rattle.flat_scopes.specs.declared.opening.Step.{Step}
+use Rattle.flat_scopes.specs.declared.opening.Step.TheVariants as s
+use Rattle.flat_scopes.specs.Openings.{Opened, unopened}
+use Rattle.flat_scopes.specs.Views.{opened_of}
+use Rattle.flat_instances.specs.declared.wire.Wire.{Wire}
+use Rattle.flat_instances.specs.declared.wire.Wire.TheVariants.{To, Mismatch}
+use Rattle.flat_instances.specs.Instances.{no_names}
+use Rattle.flat_instances.specs.Wires.{wires_of}
+use Rattle.flat_items.specs.Replacing.{top_head}
+use Rattle.flat_once.proofs.Scopes.{module_once}
+use Rattle.tb_items.specs.declared.design.Design.{Design}
+use Rattle.tb_items.specs.declared.design.Role.TheVariants.{Clock}
+use Rattle.tb_items.specs.declared.item.BenchItem.TheVariants as b
+use Rattle.tb_items.specs.Connections.{clock_missing, connections, hidden, role_items, wire_items}
+use Rattle.tb_items.specs.Designs.{hidden_name, is_clock, named_port, port_role, port_sign, role_of, sign_at}
+use Rattle.tb_items.specs.Items.{first_name, has_values, held, held_instance, helper, instance_place, is_strange, items_of, listed, listed_instance, or_later, step_instance, step_items}
+use Rattle.tb_signals.specs.Opened.{IsOpened}
+use Rattle.tb_signals.specs.Tables.{hidden_decl}
+use Rattle.tb_contents.specs.Designs.{IsDesign}
+use Rattle.tb_contents.specs.Hidden.{hidden_names}
+
+pub record AreSame (d e : Design) : Type 0 where
+  pub name : d.name ≡ e.name
+  pub ports : d.ports ≡ e.ports
+  pub clock : d.clock ≡ e.clock
+  pub opened : opened_of d.top ≡ opened_of e.top
+
+pub opened_once : (m : Module) (o q : Opened) → IsOpened m o → IsOpened m q → o ≡ q
+opened_once m o q h k = module_once (top_head m) no_names m (unopened no_names []) o q h k
+
+pub designs_once : (top : Module) (netlist : RawNetlist) (d e : Design) → IsDesign top netlist d → IsDesign top netlist e → AreSame d e
+designs_once top netlist d e h k = record {
+  name = h.name ∙ sym k.name;
+  ports = h.ports ∙ sym k.ports;
+  clock = h.clock ∙ sym k.clock;
+  opened = opened_once top (opened_of d.top) (opened_of e.top) h.opened k.opened;
+}
+
+role_same : (d e : Design) → AreSame d e → (name : List ℕ) → role_of d name ≡ role_of e name
+role_same d e same name = λ i. if is_clock (same.clock i) name then Clock else port_role (named_port (same.opened i) name)
+
+sign_same : (d e : Design) → AreSame d e → (name : List ℕ) → port_sign d name ≡ port_sign e name
+sign_same d e same name = λ i. sign_at (same.opened i).signals (named_port (same.opened i) name)
+
+wire_same : (d e : Design) → AreSame d e → (clock : Option (List ℕ)) (instance : Identifier) (w : Wire) → wire_items d clock instance w ≡ wire_items e clock instance w
+wire_same d e same clock instance (Mismatch at) = refl
+wire_same d e same clock instance (To port value) = λ i. role_items clock (role_same d e same port.name i) (hidden instance port) value
+
+connections_same : (d e : Design) → AreSame d e → (clock : Option (List ℕ)) (at : Span) (instance : Instance) → connections d clock at instance ≡ connections e clock at instance
+connections_same d e same clock at instance = λ i. clock_missing (same.clock i) at (wires_of (same.ports i) instance) ++ flat_map (λ w. wire_same d e same clock instance.name w i) (wires_of (same.ports i) instance)
+
+held_same : (d e : Design) → AreSame d e → (clock : Option (List ℕ)) (at : Span) (list : List Instance) → held d clock at list ≡ held e clock at list
+held_same d e same clock at [] = refl
+held_same d e same clock at (x ∷ more) = λ i. (b.Holds at ∷ connections_same d e same clock at x i) ++ map instance_place more
+
+strange_same : (d e : Design) → AreSame d e → (name : Identifier) (values : ParameterValues) → is_strange d name values ≡ is_strange e name values
+strange_same d e same name values = λ i. not (bytes_eq (same.name i) name.name) || has_values values
+
+listed_same : (names : Names) (d e : Design) → AreSame d e → (clock : Option (List ℕ)) (x : PlainItem) → listed names d clock x ≡ listed names e clock x
+listed_same names d e same clock (p.ModuleInstantiation name values list) = λ i. if strange_same d e same name values i then helper name.span ∷ [] else held_same d e same clock name.span list i
+listed_same names d e same clock other = refl
+
+step_same : (names : Names) (d e : Design) → AreSame d e → (clock : Option (List ℕ)) (x : Step) → step_items names d clock x ≡ step_items names e clock x
+step_same names d e same clock (s.Lists item) = listed_same names d e same clock item
+step_same names d e same clock other = refl
+
+pub items_same : (names : Names) (d e : Design) → AreSame d e → (clock : Option (List ℕ)) (steps : List Step) → items_of names d clock steps ≡ items_of names e clock steps
+items_same names d e same clock steps = λ i. flat_map (λ x. step_same names d e same clock x i) steps
+
+listed_instance_same : (d e : Design) → AreSame d e → (x : PlainItem) → listed_instance d x ≡ listed_instance e x
+listed_instance_same d e same (p.ModuleInstantiation name values list) = λ i. if strange_same d e same name values i then None else first_name list
+listed_instance_same d e same other = refl
+
+step_instance_same : (d e : Design) → AreSame d e → (x : Step) → step_instance d x ≡ step_instance e x
+step_instance_same d e same (s.Lists item) = listed_instance_same d e same item
+step_instance_same d e same other = refl
+
+pub held_instance_same : (d e : Design) → AreSame d e → (steps : List Step) → held_instance d steps ≡ held_instance e steps
+held_instance_same d e same [] = refl
+held_instance_same d e same (x ∷ more) = λ i. or_later (step_instance_same d e same x i) (held_instance_same d e same more i)
+
+pub hidden_same : (d e : Design) → AreSame d e → (instance : List ℕ) (names : Names) (n : ℕ) (ports : List Port) → hidden_names d instance names n ports ≡ hidden_names e instance names n ports
+hidden_same d e same instance names n [] = refl
+hidden_same d e same instance names n (x ∷ more) =
+    let first = λ (sign : Bool). hidden_names d instance (with_name names (hidden_name instance x.name) (hidden_decl (length x.bits) sign n)) (n + 1) more in
+    ap first (sign_same d e same x.name) ∙ hidden_same d e same instance (with_name names (hidden_name instance x.name) (hidden_decl (length x.bits) (port_sign e x.name) n)) (n + 1) more
