@@ -197,4 +197,5 @@ def wide(x):
     return shape(dead)[0] > 128 or any(wide(y) for y in parts)
 
 
-main(sys.argv[1])
+if __name__ == "__main__":
+    main(sys.argv[1])
