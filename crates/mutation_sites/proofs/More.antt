@@ -63,6 +63,10 @@ registers-named : (readers : Readers) (new : Bit) (r : ℕ) (registers : List Fl
 registers-named readers new r [] = refl
 registers-named readers new r (register ∷ more) = ap (λ (names : List (List ℕ)). register.name ∷ names) (registers-named readers new (r + 1) more)
 
+registers-started : (readers : Readers) (new : Bit) (r : ℕ) (registers : List Flop) → map (λ (f : Flop). f.start.bits) (registers_connected readers new r registers) ≡ map (λ (f : Flop). f.start.bits) registers
+registers-started readers new r [] = refl
+registers-started readers new r (register ∷ more) = ap (λ (starts : List ℕ). register.start.bits ∷ starts) (registers-started readers new (r + 1) more)
+
 pub has-same-names : (netlist : RawNetlist) (site : Site) (fresh : ℕ) → HasSameNames netlist (mutant_of netlist site fresh)
 has-same-names netlist site fresh =
     let readers = readers_at netlist site.place site.port site.bit in
@@ -71,4 +75,5 @@ has-same-names netlist site fresh =
       outputs = outputs-named (change_of readers Outputs) new netlist.outputs;
       widths = outputs-same-wide (change_of readers Outputs) new netlist.outputs;
       registers = registers-named readers new 0 netlist.registers;
+      starts = registers-started readers new 0 netlist.registers;
     }

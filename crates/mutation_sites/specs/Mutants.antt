@@ -116,11 +116,12 @@ pub record HasOneMore (netlist mutant : RawNetlist) : Type 0 where
   pub count : length mutant.cells ≤ length netlist.cells + 1
   pub kinds : take (length netlist.cells) (map (λ (cell : Gate). cell.kind) mutant.cells) ≡ map (λ (cell : Gate). cell.kind) netlist.cells
 
--- The mutant's outputs have the netlist's names and widths, and its registers the netlist's names.
+-- The mutant's outputs have the netlist's names and widths, and its registers the netlist's names and start values.
 pub record HasSameNames (netlist mutant : RawNetlist) : Type 0 where
   pub outputs : map (λ (p : port.Port). p.name) mutant.outputs ≡ map (λ (p : port.Port). p.name) netlist.outputs
   pub widths : map length (bits_at mutant.outputs) ≡ map length (bits_at netlist.outputs)
   pub registers : map (λ (r : Flop). r.name) mutant.registers ≡ map (λ (r : Flop). r.name) netlist.registers
+  pub starts : map (λ (r : Flop). r.start.bits) mutant.registers ≡ map (λ (r : Flop). r.start.bits) netlist.registers
 
 -- the kind of a cell, and the widths of its ports
 pub record CellShape : Type 0 where

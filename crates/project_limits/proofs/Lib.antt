@@ -5,3 +5,4 @@ pub mod Headers
 pub mod Files
 pub mod Tests
 pub mod Tags
+pub mod Sources

@@ -47,7 +47,7 @@ few_by : (b : Bool) (names : List (List ℕ)) (number : ℕ) → b ≡ are_too_m
 few_by true names number is good = cc
 few_by false names number is good = grind (arith, nat_tests)
 
-counted_few : (names : List (List ℕ)) (number : ℕ) (files : List (List ℕ)) → count_fault names number files ≡ None → (0 < length files) → length (with_names names files) ≤ 64
+pub counted_few : (names : List (List ℕ)) (number : ℕ) (files : List (List ℕ)) → count_fault names number files ≡ None → (0 < length files) → length (with_names names files) ≤ 64
 unfolding count_fault
 counted_few names number [] good some = absurd (omega (arith, some))
 counted_few names number (file ∷ more) good some = few_by (are_too_many (with_names names (file ∷ more))) (with_names names (file ∷ more)) number refl good
@@ -72,7 +72,7 @@ said_few : (b : Bool) (known : Known) (names : List (List ℕ)) (top : Option (L
 said_few true known names top number command args good some = command_few known names top number command args good some
 said_few false known names top number command args good some = absurd (omega (arith, some))
 
-line_few : (known : Known) (names : List (List ℕ)) (top : Option (List ℕ)) (number : ℕ) (line : List ℕ) → script_at known names top number line ≡ None → (0 < length (script_reads known line)) → length (with_names names (script_reads known line)) ≤ 64
+pub line_few : (known : Known) (names : List (List ℕ)) (top : Option (List ℕ)) (number : ℕ) (line : List ℕ) → script_at known names top number line ≡ None → (0 < length (script_reads known line)) → length (with_names names (script_reads known line)) ≤ 64
 unfolding script_at script_reads
 line_few known names top number line good some = said_few (is_said line) known names top number (command_of (key_of line)) (args_of line) good some
 

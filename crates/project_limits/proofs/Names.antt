@@ -91,3 +91,64 @@ all_taken a b (x ∷ more) le =
 
 pub never_more : (names more : List (List ℕ)) → length (with_names [] more) ≤ length (with_names names more)
 never_more names more = all_taken [] names more (omega arith)
+
+-- Names that are among others are no more than those.
+
+abbrev pub AreAmong : List (List ℕ) → List (List ℕ) → Type 0
+AreAmong [] names = Unit {0}
+AreAmong (x ∷ xs) names = (is_among x names ≡ true) × AreAmong xs names
+
+one_inside : (a b : List (List ℕ)) (x : List ℕ) (p : Bool) → is_among x a ≡ p → is_among x b ≡ true → length a ≤ shared a b → length (if p then a else a ++ x ∷ []) ≤ shared (if p then a else a ++ x ∷ []) b
+one_inside a b x true is there le = le
+one_inside a b x false is there le = omega (arith, le, gained a x b is there, length-append a (x ∷ []))
+
+taken_inside : (a b : List (List ℕ)) (x : List ℕ) → is_among x b ≡ true → length a ≤ shared a b → length (with_name a x) ≤ shared (with_name a x) b
+unfolding with_name
+taken_inside a b x there le = one_inside a b x (is_among x a) refl there le
+
+all_inside : (a b xs : List (List ℕ)) → AreAmong xs b → length a ≤ shared a b → length (with_names a xs) ≤ length b
+all_inside a b [] are le = subst (λ (few : List (List ℕ)). length few ≤ length b) (sym (names_none a)) (omega (arith, le, shared_few a b))
+all_inside a b (x ∷ xs) are le = subst (λ (few : List (List ℕ)). length few ≤ length b) (sym (names_cons a x xs)) (all_inside (with_name a x) b xs are.1 (taken_inside a b x are.0 le))
+
+pub few_among : (xs names : List (List ℕ)) → AreAmong xs names → length (with_names [] xs) ≤ length names
+few_among xs names are = all_inside [] names xs are (omega arith)
+
+-- Names are among those that they are taken into.
+
+one_kept : (names : List (List ℕ)) (x y : List ℕ) (p : Bool) → is_among x names ≡ true → is_among x (if p then names else names ++ y ∷ []) ≡ true
+one_kept names x y true there = there
+one_kept names x y false there = among_more names y x there
+
+name_kept : (names : List (List ℕ)) (x y : List ℕ) → is_among x names ≡ true → is_among x (with_name names y) ≡ true
+unfolding with_name
+name_kept names x y there = one_kept names x y (is_among y names) there
+
+names_kept : (names more : List (List ℕ)) (x : List ℕ) → is_among x names ≡ true → is_among x (with_names names more) ≡ true
+names_kept names [] x there = subst (λ (ns : List (List ℕ)). is_among x ns ≡ true) (sym (names_none names)) there
+names_kept names (y ∷ more) x there = subst (λ (ns : List (List ℕ)). is_among x ns ≡ true) (sym (names_cons names y more)) (names_kept (with_name names y) more x (name_kept names x y there))
+
+one_there : (names : List (List ℕ)) (x : List ℕ) (p : Bool) → is_among x names ≡ p → is_among x (if p then names else names ++ x ∷ []) ≡ true
+one_there names x true is = is
+one_there names x false is = last_among names x
+
+name_there : (names : List (List ℕ)) (x : List ℕ) → is_among x (with_name names x) ≡ true
+unfolding with_name
+name_there names x = one_there names x (is_among x names) refl
+
+pub taken_among : (names xs : List (List ℕ)) → AreAmong xs (with_names names xs)
+taken_among names [] = tt
+taken_among names (x ∷ xs) =
+    let same : with_names (with_name names x) xs ≡ with_names names (x ∷ xs) = sym (names_cons names x xs) in
+    (subst (λ (ns : List (List ℕ)). is_among x ns ≡ true) same (names_kept (with_name names x) xs x (name_there names x)), subst (λ (ns : List (List ℕ)). AreAmong xs ns) same (taken_among (with_name names x) xs))
+
+pub among_both : (xs ys names : List (List ℕ)) → AreAmong xs names → AreAmong ys names → AreAmong (xs ++ ys) names
+among_both [] ys names are also = also
+among_both (x ∷ xs) ys names are also = (are.0, among_both xs ys names are.1 also)
+
+pub among_first : (xs ys names : List (List ℕ)) → AreAmong (xs ++ ys) names → AreAmong xs names
+among_first [] ys names are = tt
+among_first (x ∷ xs) ys names are = (are.0, among_first xs ys names are.1)
+
+pub among_later : (xs ys names : List (List ℕ)) → AreAmong (xs ++ ys) names → AreAmong ys names
+among_later [] ys names are = are
+among_later (x ∷ xs) ys names are = among_later xs ys names are.1

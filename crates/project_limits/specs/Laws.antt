@@ -2,10 +2,15 @@
 use Rattle.std.specs.Prelude.{ℕ, ◌≤◌, List, length}
 use Rattle.project_file.specs.declared.project.Project.{Project}
 use Rattle.project_file.specs.Projects.{design_files, IsProject}
+use Rattle.project_limits.specs.Files.{all_files}
 
 -- A project reads at most 64 files for its design,
 abbrev pub FilesAreFew : Type 0
 FilesAreFew = (bytes : List ℕ) (project : Project) → IsProject bytes project → length (design_files project) ≤ 64
+
+-- and at most 64 in all,
+abbrev pub SourcesAreFew : Type 0
+SourcesAreFew = (bytes : List ℕ) (project : Project) → IsProject bytes project → length (all_files project) ≤ 64
 
 -- asks for at most 10,000 mutations,
 abbrev pub SizesAreWithin : Type 0

@@ -8,7 +8,9 @@ use Rattle.elab_hier.specs.Elaborations.{Elaborates}
 use Rattle.elab_hier.specs.Refusals.{IsElabRefusal}
 use Rattle.source_faults.specs.declared.fault.SourceError.{SourceError}
 use Rattle.source_faults.specs.Faults.{elab_error, read_error}
-use Rattle.project_sources.specs.Netlists.{HasNetlist, HasNoNetlist}
+use Rattle.project_sources.specs.declared.netlist.NetlistError.{NetlistError}
+use Rattle.project_sources.specs.declared.netlist.NetlistError.TheVariants.{Source, Memory}
+use Rattle.project_sources.specs.Netlists.{HasNetlist, HasNoNetlist, AreUnread, IsUnmade}
 
 pub netlists_are_one : (files : List SourceFile) (top : List ℕ) (n m : RawNetlist) → HasNetlist files top n → HasNetlist files top m → n ≡ m
 netlists_are_one files top n m h k =
@@ -29,3 +31,7 @@ faults_are_one files top x y (inr h) (inr k) =
     let modules = modules_are_one files k.modules h.modules k.read h.read in
     let refused = subst (λ ms. IsElabRefusal ms top k.fault) modules k.refused in
     h.is ∙ ap (elab_error files) (one_refusal h.modules top h.fault k.fault h.found k.found h.refused refused) ∙ sym k.is
+
+pub unread_unmade : (files : List SourceFile) (top : List ℕ) (e : NetlistError) → AreUnread files e → IsUnmade files top e
+unread_unmade files top (Source error) h = inl h
+unread_unmade files top Memory h = tt

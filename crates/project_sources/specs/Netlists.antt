@@ -29,6 +29,11 @@ pub record HasNoModules (files : List SourceFile) (error : SourceError) : Type 0
   pub unread : IsUnread files fault
   pub is : error ≡ read_error files fault
 
+-- why the modules are not given
+abbrev pub AreUnread : List SourceFile → NetlistError → Type 0
+AreUnread files (Source error) = HasNoModules files error
+AreUnread files Memory = ⊤
+
 -- their modules are no design with this top
 pub record HasNoDesign (files : List SourceFile) (top : List ℕ) (error : SourceError) : Type 0 where
   pub modules : List Module

@@ -5,4 +5,4 @@ mod checked;
 mod netlist;
 
 pub use checked::CheckedNetlist;
-pub use netlist::{NetlistError, one_answer, read_netlist};
+pub use netlist::{NetlistError, one_answer, read_netlist, read_sources};

@@ -4,7 +4,7 @@ ghost use Rattle.mcy_base.specs.declared.file.SourceFile.{SourceFile as File};
 ghost use Rattle.netlist_core.specs.declared.raw.RawNetlist.{RawNetlist};
 ghost use Rattle.source_trees.specs.Files.{AreRead};
 ghost use Rattle.source_faults.specs.declared.fault.SourceError.{SourceError as Error};
-ghost use Rattle.project_sources.specs.Netlists.{HasNetlist, HasNoNetlist, IsUnmade};
+ghost use Rattle.project_sources.specs.Netlists.{HasNetlist, HasNoNetlist, AreUnread, IsUnmade};
 
 use crate::checked::CheckedNetlist;
 use elab_hier::{ElabError, elaborate};
@@ -34,11 +34,11 @@ impl From<AllocError> for NetlistError {
 }
 
 /// The modules of the files.
-fn modules_of(alloc: Global, files: &[SourceFile]) -> Result<Vec<Module>, NetlistError>
+pub fn read_sources(alloc: Global, files: &[SourceFile]) -> Result<Vec<Module>, NetlistError>
     requires few { length files.now ≤ 65536 }
     requires short { All (λ f. length f.bytes < 2 ^ 31) files.now }
     ensures modules { IfOk result (λ ms. AreRead files.now ms.items) }
-    ensures refused { (top : List ℕ) → IfErr result (IsUnmade files.now top) }
+    ensures refused { IfErr result (AreUnread files.now) }
 {
     match read_modules(alloc, files) {
         Ok(modules) => Ok(modules),
@@ -58,7 +58,7 @@ pub fn read_netlist(
     ensures netlist { IfOk result (HasNetlist files.now top.now) }
     ensures refused { IfErr result (IsUnmade files.now top.now) }
 {
-    let modules = modules_of(alloc, files)?;
+    let modules = read_sources(alloc, files)?;
     match elaborate(alloc, &modules, top) {
         Ok(netlist) => Ok(CheckedNetlist::new(netlist)),
         Err(ElabError::Memory) => Err(NetlistError::Memory),

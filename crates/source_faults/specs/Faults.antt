@@ -11,8 +11,10 @@ use Rattle.elab_items.specs.declared.answer.ElabError.{ElabError}
 use Rattle.elab_items.specs.declared.answer.ElabError.TheVariants as e
 use Rattle.source_trees.specs.declared.error.ReadError.{ReadError}
 use Rattle.source_trees.specs.declared.error.ReadError.TheVariants as r
+use Rattle.tb_faults.specs.declared.error.BenchError.{BenchError}
+use Rattle.tb_faults.specs.declared.error.BenchError.TheVariants as b
 use Rattle.source_faults.specs.declared.fault.SourceFault.{SourceFault}
-use Rattle.source_faults.specs.declared.fault.SourceFault.TheVariants.{NotUtf8, Token, Parse, Elab, TooMany}
+use Rattle.source_faults.specs.declared.fault.SourceFault.TheVariants.{NotUtf8, Token, Parse, Elab, Bench, TooMany}
 use Rattle.source_faults.specs.declared.fault.SourceError.{SourceError}
 
 -- where a fault stands
@@ -49,6 +51,19 @@ elab_place (e.TooMany kind) = None
 elab_place (e.Loop at) = Some at
 elab_place e.Memory = None
 
+abbrev pub bench_place : BenchError → Option Span
+bench_place (b.Unknown at) = Some at
+bench_place (b.Twice at) = Some at
+bench_place (b.NotConstant at) = Some at
+bench_place (b.DivideByZero at) = Some at
+bench_place (b.TooWide at) = Some at
+bench_place (b.Unsupported at feature) = Some at
+bench_place b.NoDesign = None
+bench_place (b.PortMismatch at) = Some at
+bench_place b.NoClock = None
+bench_place (b.TwoClocks at) = Some at
+bench_place b.Memory = None
+
 -- the name of the file with this number
 
 abbrev pub name_of : Option SourceFile → List ℕ
@@ -83,3 +98,6 @@ read_error files r.Memory = error_at files None (Token t.Memory)
 abbrev pub elab_error : List SourceFile → ElabError → SourceError
 elab_error files (e.TooMany kind) = too_many kind
 elab_error files error = error_at files (elab_place error) (Elab error)
+
+abbrev pub bench_error : List SourceFile → (test : ℕ) → BenchError → SourceError
+bench_error files test error = error_at files (bench_place error) (Bench test error)

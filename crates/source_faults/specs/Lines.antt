@@ -11,8 +11,10 @@ use Rattle.vlog_expand.specs.declared.error.ParseError.{ParseError}
 use Rattle.vlog_expand.specs.declared.error.ParseError.TheVariants as p
 use Rattle.elab_items.specs.declared.answer.ElabError.{ElabError}
 use Rattle.elab_items.specs.declared.answer.ElabError.TheVariants as e
+use Rattle.tb_faults.specs.declared.error.BenchError.{BenchError}
+use Rattle.tb_faults.specs.declared.error.BenchError.TheVariants as b
 use Rattle.source_faults.specs.declared.fault.SourceFault.{SourceFault}
-use Rattle.source_faults.specs.declared.fault.SourceFault.TheVariants.{NotUtf8, Token, Parse, Elab, TooMany}
+use Rattle.source_faults.specs.declared.fault.SourceFault.TheVariants.{NotUtf8, Token, Parse, Elab, Bench, TooMany}
 use Rattle.source_faults.specs.declared.fault.SourceError.{SourceError}
 
 -- the name of a feature
@@ -106,11 +108,25 @@ elab_line file (e.TooMany kind) = too_many_line kind
 elab_line file (e.Loop at) = line_at file at (codes "Loop")
 elab_line file e.Memory = told (codes "no memory")
 
+abbrev pub bench_line : List ℕ → BenchError → List ℕ
+bench_line file (b.Unknown at) = line_at file at (codes "Unknown")
+bench_line file (b.Twice at) = line_at file at (codes "Twice")
+bench_line file (b.NotConstant at) = line_at file at (codes "NotConstant")
+bench_line file (b.DivideByZero at) = line_at file at (codes "DivideByZero")
+bench_line file (b.TooWide at) = line_at file at (codes "TooWide")
+bench_line file (b.Unsupported at feature) = line_on file at (codes "Unsupported") (feature_name feature)
+bench_line file b.NoDesign = told (codes "NoDesign")
+bench_line file (b.PortMismatch at) = line_at file at (codes "PortMismatch")
+bench_line file b.NoClock = told (codes "NoClock")
+bench_line file (b.TwoClocks at) = line_at file at (codes "TwoClocks")
+bench_line file b.Memory = told (codes "no memory")
+
 abbrev pub fault_line : List ℕ → SourceFault → List ℕ
 fault_line file (NotUtf8 len) = codes "mcy: " ++ (file ++ codes ": NotUtf8\n")
 fault_line file (Token error) = token_line file error
 fault_line file (Parse error) = parse_line file error
 fault_line file (Elab error) = elab_line file error
+fault_line file (Bench test error) = bench_line file error
 fault_line file (TooMany kind) = too_many_line kind
 
 -- the line of a fault of the sources

@@ -1,11 +1,12 @@
 //! Faults of sources, with the file that each is in.
 ghost use Rattle.std.specs.Prelude.{◌≡◌, IfOk};
-ghost use Rattle.source_faults.specs.Faults.{elab_error, elab_place, error_at, file_at, file_name, parse_error, parse_place, read_error, token_place, too_many};
+ghost use Rattle.source_faults.specs.Faults.{bench_error, bench_place, elab_error, elab_place, error_at, file_at, file_name, parse_error, parse_place, read_error, token_place, too_many};
 
 use elab_items::ElabError;
 use mcy_base::{Kind, SourceFile, Span, Text};
 use source_trees::ReadError;
 use std::alloc::{AllocError, Global};
+use tb_faults::BenchError;
 use vlog_parse::ParseError;
 use vlog_token::TokenError;
 
@@ -20,6 +21,8 @@ pub enum SourceFault {
     Parse(ParseError),
     /// The modules are no design.
     Elab(ElabError),
+    /// The testbench of the test with this number, from 0 on, is refused.
+    Bench(u32, BenchError),
     /// There are more of these than the limit.
     TooMany(Kind),
 }
@@ -76,6 +79,23 @@ pub(crate) fn elab_place(error: &ElabError) -> Option<Span>
         | ElabError::Latch(at, _)
         | ElabError::Loop(at) => Some(*at),
         ElabError::NoTop | ElabError::TooMany(_) | ElabError::Memory => None,
+    }
+}
+
+/// The place of a fault of a testbench.
+pub(crate) fn bench_place(error: BenchError) -> Option<Span>
+    ensures { result ≡ bench_place error }
+{
+    match error {
+        BenchError::Unknown(at)
+        | BenchError::Twice(at)
+        | BenchError::NotConstant(at)
+        | BenchError::DivideByZero(at)
+        | BenchError::TooWide(at)
+        | BenchError::Unsupported(at, _)
+        | BenchError::PortMismatch(at)
+        | BenchError::TwoClocks(at) => Some(at),
+        BenchError::NoDesign | BenchError::NoClock | BenchError::Memory => None,
     }
 }
 
@@ -174,5 +194,25 @@ pub fn elab_error(
         ElabError::TooMany(kind) => too_many(alloc, kind),
         ElabError::Memory => Err(AllocError),
         _ => error_at(alloc, files, at, SourceFault::Elab(error)),
+    }
+}
+
+/// Why a module of these files is no testbench of the test with this number. Want of memory is told as that.
+pub fn bench_error(
+    alloc: Global,
+    files: &[SourceFile],
+    test: u32,
+    error: BenchError,
+) -> Result<SourceError, AllocError>
+    ensures { IfOk result (λ told. told ≡ bench_error files.now test error) }
+{
+    match error {
+        BenchError::Memory => Err(AllocError),
+        _ => error_at(
+            alloc,
+            files,
+            bench_place(error),
+            SourceFault::Bench(test, error),
+        ),
     }
 }

@@ -1,9 +1,9 @@
-//! What is wrong with the sources of a design, in which file, and the line that tells it.
+//! What is wrong with the sources of a design and of its testbenches, in which file, and the line that tells it.
 #![tactic(auto)]
 
 mod fault;
 mod feature;
 mod line;
 
-pub use fault::{SourceError, SourceFault, elab_error, read_error, too_many};
+pub use fault::{SourceError, SourceFault, bench_error, elab_error, read_error, too_many};
 pub use line::{kind_name, source_line};

@@ -7,6 +7,7 @@ use crate::feature::feature_name;
 use elab_items::ElabError;
 use mcy_base::{Kind, Span};
 use std::alloc::{AllocError, Global};
+use tb_faults::BenchError;
 use vlog_parse::ParseError;
 use vlog_token::TokenError;
 
@@ -20,6 +21,7 @@ pub fn source_line(alloc: Global, error: &SourceError) -> Result<String, AllocEr
         SourceFault::Token(error) => token_line(alloc, file, *error),
         SourceFault::Parse(error) => parse_line(alloc, file, *error),
         SourceFault::Elab(error) => elab_line(alloc, file, error),
+        SourceFault::Bench(_, error) => bench_line(alloc, file, *error),
         SourceFault::TooMany(kind) => too_many_line(alloc, *kind),
     }
 }
@@ -126,5 +128,25 @@ fn elab_line(alloc: Global, file: &str, error: &ElabError) -> Result<String, All
         ElabError::TooMany(kind) => too_many_line(alloc, *kind),
         ElabError::Loop(at) => line_at(alloc, file, *at, "Loop"),
         ElabError::Memory => told(alloc, "no memory"),
+    }
+}
+
+fn bench_line(alloc: Global, file: &str, error: BenchError) -> Result<String, AllocError>
+    ensures { IfOk result (λ line. string_bytes line ≡ texts.bench_line file.now error) }
+{
+    match error {
+        BenchError::Unknown(at) => line_at(alloc, file, at, "Unknown"),
+        BenchError::Twice(at) => line_at(alloc, file, at, "Twice"),
+        BenchError::NotConstant(at) => line_at(alloc, file, at, "NotConstant"),
+        BenchError::DivideByZero(at) => line_at(alloc, file, at, "DivideByZero"),
+        BenchError::TooWide(at) => line_at(alloc, file, at, "TooWide"),
+        BenchError::Unsupported(at, feature) => {
+            line_on(alloc, file, at, "Unsupported", feature_name(feature))
+        }
+        BenchError::NoDesign => told(alloc, "NoDesign"),
+        BenchError::PortMismatch(at) => line_at(alloc, file, at, "PortMismatch"),
+        BenchError::NoClock => told(alloc, "NoClock"),
+        BenchError::TwoClocks(at) => line_at(alloc, file, at, "TwoClocks"),
+        BenchError::Memory => told(alloc, "no memory"),
     }
 }
