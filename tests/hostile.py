@@ -39,7 +39,6 @@ LINES = {
     6: r"mcy: [^ \t\n]+: missing\n",
     7: r"mcy: [^ \t\n]+: too large\n",
     11: r"mcy: [^ \t\n]+: read fault\n",
-    99: r"mcy: not built\n",
 }
 WRITES = {
     "init": re.compile(rb"Sites: [0-9]+\nMutations: [0-9]+\n"),

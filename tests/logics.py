@@ -149,11 +149,6 @@ def refused(fault, hold=True, **given):
     return [*lines, "fail-keeper 0 0", "call run"], ["> run", *fault, "0 items, 0 mutations"]
 
 
-def simulated(logic):
-    project = Project(logic)
-    lines = [line if line != "eq" else "sim g_tb tb.v" for line in project.lines() if not line.startswith("expect")] + ["pass GOOD"]
-    return ["new", f"hold config.mcy {tilde(lines)}", "fail-keeper 0 0", "call run"], ["> run", "status 99", "mcy: not built", "Tests", "0 items, 0 mutations"]
-
 
 def bad(line, name):
     return ["status 4", f"mcy: config.mcy:{line}: {name}"]
@@ -198,7 +193,6 @@ PARTS = [
         refused(bad(19, "Bad"), logic=SAME, report=["no report"]),
         refused(bad(20, "UnknownTag"), logic=SAME, report=["pass", 'print("%d" % tags("MORE"))']),
     ]),
-    ("# A simulation is not built, whatever the scripts say.", [simulated(SAME), simulated(["no script"])]),
 ]
 
 

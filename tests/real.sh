@@ -332,10 +332,12 @@ finished_folder() {
     chmod 666 mcy.db*
 }
 
-# Projects with a test by a bench are read, and are not built yet.
+# Projects with a test by a bench: each test ends with a word, and the campaign is finished.
 for name in serial arbiter processor; do
     rm -rf "$room/here" && cp -r "$root/examples/$name" "$room/here" && cd "$room/here" && chmod -R go+rX . && chmod 777 . || exit 1
-    refuses 99 "mcy: not built" "" run
+    sed 's/^size .*/size 4/' "$root/examples/$name/config.mcy" >config.mcy
+    "${as_user[@]}" timeout 60 "$mcy" run >"$room/text" 2>"$room/lines" </dev/null && [ "$(sed -n 2p "$room/text")" = "Finished: 4" ]
+    case_is $? "the campaign of $name is finished: $(cat "$room/lines")"
 done
 
 # Databases that are none, and one whose tables have no constraints, which is taken.
@@ -402,7 +404,7 @@ if has_tool prlimit "no call finds no memory"; then
         status=$?
         case $status in
             14) [ "$text" = "" ] && [ "$(cat "$room/lines")" = "mcy: no memory" ] && wanting=$((wanting + 1)) ;;
-            [2-9] | 1[013] | 99) others="$others $status" ;;
+            [2-9] | 1[013]) others="$others $status" ;;
         esac
     done
     [ "$wanting" -gt 0 ] && [ "$others" = "" ]

@@ -22,7 +22,6 @@ pub(crate) fn tell_outcome<R: Print + AllocGlobal>(rt: &R, outcome: &Outcome) ->
     match outcome {
         Outcome::Unfinished(left) => println!(rt; "{left} left"),
         Outcome::BookBad(error) => tell_error(rt, error),
-        Outcome::Unbuilt(part) => println!(rt; "{part:?}"),
         _ => Ok(()),
     }
 }

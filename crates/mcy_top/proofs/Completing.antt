@@ -12,11 +12,11 @@ use Rattle.command_words.specs.declared.command.Command.{Command}
 use Rattle.command_words.specs.declared.command.Command.TheVariants.{Init, Run, List as Listing, Status, Source}
 use Rattle.mcy_top.specs.declared.prepared.Prepared.{Prepared}
 use Rattle.mcy_top.specs.declared.outcome.Refusal.{Refusal}
-use Rattle.mcy_top.specs.declared.outcome.Refusal.TheVariants.{ProjectBad as RefusedProject, ScriptBad as RefusedScript, SourceBad as RefusedSource, Missing as RefusedMissing, TooLarge as RefusedTooLarge, ReadFault as RefusedRead, Memory as RefusedMemory, Unbuilt as RefusedUnbuilt}
+use Rattle.mcy_top.specs.declared.outcome.Refusal.TheVariants.{ProjectBad as RefusedProject, ScriptBad as RefusedScript, SourceBad as RefusedSource, Missing as RefusedMissing, TooLarge as RefusedTooLarge, ReadFault as RefusedRead, Memory as RefusedMemory}
 use Rattle.mcy_top.specs.declared.outcome.BookRefusal.{BookRefusal}
 use Rattle.mcy_top.specs.declared.outcome.BookRefusal.TheVariants.{NoCampaign as RefusedNone, AlreadyBegun as RefusedBegun, BookBad as RefusedBook, Memory as NoMemory}
 use Rattle.mcy_top.specs.declared.outcome.Outcome.{Outcome}
-use Rattle.mcy_top.specs.declared.outcome.Outcome.TheVariants.{Done, Unfinished, Usage, ProjectBad, ScriptBad, SourceBad, Missing, TooLarge, NoCampaign, AlreadyBegun, BookBad, ReadFault, KeeperFault, WriteFault, Memory, Unbuilt}
+use Rattle.mcy_top.specs.declared.outcome.Outcome.TheVariants.{Done, Unfinished, Usage, ProjectBad, ScriptBad, SourceBad, Missing, TooLarge, NoCampaign, AlreadyBegun, BookBad, ReadFault, KeeperFault, WriteFault, Memory}
 use Rattle.mcy_top.specs.Limits.{max_bytes}
 use Rattle.mcy_top.specs.Commands.{stop_of}
 use Rattle.mcy_top.specs.Campaigns.{config_name, meta_of, Exceeds, IsPlan, Lacks}
@@ -43,14 +43,14 @@ unmade_not held r refusal why fault = go refusal why fault
     at_project : (q : Refusal) → AtProject (Some r.map) q → q ≢ RefusedMemory → ⊥
     at_project q at some =
         let config : at.config ≡ r.got.before.config = given_same (r.map config_name) max_bytes at.config r.got.before.config at.got r.got.before.got in
-        untaken_not r.got.before.config r.project q r.got.before.says r.got.before.built some (subst (λ (c : List ℕ). IsUntaken c q) config at.why)
+        untaken_not r.got.before.config r.project q r.got.before.says r.got.before.scripted some (subst (λ (c : List ℕ). IsUntaken c q) config at.why)
 
     at_sources : (q : Refusal) → AtSources (Some r.map) q → q ≢ RefusedMemory → ⊥
     at_sources q at some =
         let project : at.project ≡ r.project = project_same r.map at.project r.project at.got.before r.got.before in
         let files : at.files ≡ r.files = sources_same r.map at.project r.project at.files r.files at.got r.got in
         let bad : IsUntakenDesign r.project r.files q = subst (λ (p : Project). IsUntakenDesign p r.files q) project (subst (λ (fs : List SourceFile). IsUntakenDesign at.project fs q) files at.why) in
-        untaken_design_not r.project r.files r.netlist q r.design r.few some bad
+        untaken_design_not r.project r.files r.netlist r.reading r.trials q r.design r.few r.is_reading r.benches some bad
 
     go : (q : Refusal) → IsUnmade (Some r.map) q → ((name : List ℕ) → q ≢ RefusedRead name) → q ≡ RefusedMemory
     go (RefusedMissing name) why fault = let at = read_there r.map r.project r.files name r.got why.0 in absurd (lacks_not r.map name at.0 at.1 why.1)
@@ -58,7 +58,6 @@ unmade_not held r refusal why fault = go refusal why fault
     go (RefusedRead name) why fault = absurd (fault name refl)
     go (RefusedProject error) why fault = absurd (at_project (RefusedProject error) why (λ is. cc))
     go (RefusedScript error) why fault = absurd (at_project (RefusedScript error) why (λ is. cc))
-    go (RefusedUnbuilt part) at fault = absurd (at_project (RefusedUnbuilt part) at (λ is. cc))
     go (RefusedSource error) why fault = absurd (at_sources (RefusedSource error) why (λ is. cc))
     go RefusedMemory why fault = refl
 
@@ -127,7 +126,6 @@ completes words held holds leaves leaves' written written' taken taken' f f' k k
     go Usage a h e = let is : Some command ≡ None = sym ready.asked ∙ a in cc
     go (Missing name) a h e = let is : RefusedMissing name ≡ RefusedMemory = bad (RefusedMissing name) a.1 (λ n is. cc) in cc
     go (TooLarge name) a h e = let is : RefusedTooLarge name ≡ RefusedMemory = bad (RefusedTooLarge name) a.1 (λ n is. cc) in cc
-    go (Unbuilt part) a h e = let is : RefusedUnbuilt part ≡ RefusedMemory = bad (RefusedUnbuilt part) a.1 (λ n is. cc) in cc
     go (ProjectBad error) a h e = let is : RefusedProject error ≡ RefusedMemory = bad (RefusedProject error) a.1 (λ n is. cc) in cc
     go (ScriptBad error) a h e = let is : RefusedScript error ≡ RefusedMemory = bad (RefusedScript error) a.1 (λ n is. cc) in cc
     go (SourceBad error) a h e = let is : RefusedSource error ≡ RefusedMemory = bad (RefusedSource error) a.1 (λ n is. cc) in cc

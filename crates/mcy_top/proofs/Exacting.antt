@@ -4,17 +4,17 @@ use Rattle.mcy_base.specs.declared.file.SourceFile.{SourceFile}
 use Rattle.mcy_keeper.specs.declared.book.Book.{Book}
 use Rattle.mcy_outside.specs.Files.{Held, Gives, IsLarge}
 use Rattle.project_file.specs.declared.project.Project.{Project}
-use Rattle.project_file.specs.Projects.{design_files}
+use Rattle.project_limits.specs.Files.{all_files}
 use Rattle.result_book.specs.declared.check.BookError.{BookError}
 use Rattle.result_book.specs.declared.check.BookError.TheVariants.{Stray, Memory as NoMemoryFor}
 use Rattle.command_words.specs.declared.command.Command.{Command}
 use Rattle.mcy_top.specs.declared.prepared.Prepared.{Prepared}
 use Rattle.mcy_top.specs.declared.outcome.Refusal.{Refusal}
-use Rattle.mcy_top.specs.declared.outcome.Refusal.TheVariants.{ProjectBad as RefusedProject, ScriptBad as RefusedScript, SourceBad as RefusedSource, Missing as RefusedMissing, TooLarge as RefusedTooLarge, ReadFault as RefusedRead, Memory as RefusedMemory, Unbuilt as RefusedUnbuilt}
+use Rattle.mcy_top.specs.declared.outcome.Refusal.TheVariants.{ProjectBad as RefusedProject, ScriptBad as RefusedScript, SourceBad as RefusedSource, Missing as RefusedMissing, TooLarge as RefusedTooLarge, ReadFault as RefusedRead, Memory as RefusedMemory}
 use Rattle.mcy_top.specs.declared.outcome.BookRefusal.{BookRefusal}
 use Rattle.mcy_top.specs.declared.outcome.BookRefusal.TheVariants.{NoCampaign as RefusedNone, AlreadyBegun as RefusedBegun, BookBad as RefusedBook, Memory as NoMemory}
 use Rattle.mcy_top.specs.declared.outcome.Outcome.{Outcome}
-use Rattle.mcy_top.specs.declared.outcome.Outcome.TheVariants.{Done, Unfinished, Usage, ProjectBad, ScriptBad, SourceBad, Missing, TooLarge, NoCampaign, AlreadyBegun, BookBad, ReadFault, KeeperFault, WriteFault, Memory, Unbuilt}
+use Rattle.mcy_top.specs.declared.outcome.Outcome.TheVariants.{Done, Unfinished, Usage, ProjectBad, ScriptBad, SourceBad, Missing, TooLarge, NoCampaign, AlreadyBegun, BookBad, ReadFault, KeeperFault, WriteFault, Memory}
 use Rattle.mcy_top.specs.Limits.{max_bytes}
 use Rattle.command_words.specs.Commands.{command_of}
 use Rattle.mcy_top.specs.Campaigns.{config_name, IsMade, IsPlan}
@@ -26,7 +26,7 @@ use Rattle.mcy_top.specs.Exact.{IsCutShort, RefusesFiles, RefusesFor}
 use Rattle.mcy_top.proofs.OneFault.{refused_for_one}
 use Rattle.mcy_top.specs.Complete.{IsReadable}
 use Rattle.mcy_top.proofs.Completing.{begun_not_bad, blank_meta, blank_not_bad, taken_not_refused, unmade_not}
-use Rattle.mcy_top.proofs.Takes.{IsThere, built_of, next_once, project_same, source_there, sources_same, untaken_design_once, untaken_not, untaken_once}
+use Rattle.mcy_top.proofs.Takes.{IsThere, scripted_of, next_once, project_same, source_there, sources_same, untaken_design_once, untaken_not, untaken_once}
 
 -- What is held under a name: nothing, too much, or these bytes.
 data Found : Type 0 where
@@ -77,12 +77,12 @@ record AtConfig (map : Held) (r : Refusal) : Type 0 where
   is : IsFound (map config_name) found
   why : RefusesFile config_name found (λ config. IsRefusal r (IsUntaken config r)) r
 
--- at a file of the design behind a project,
+-- at a file behind a project,
 record AtFile (map : Held) (r : Refusal) : Type 0 where
   project : Project
   before : HasProject (Some map) project
   name : List ℕ
-  next : IsNext (Some map) (design_files project) name
+  next : IsNext (Some map) (all_files project) name
   found : Found
   is : IsFound (map name) found
   why : RefusesFile name found (λ bytes. ⊥) r
@@ -102,7 +102,6 @@ place_of map (RefusedRead name) why whole = absurd (whole tt)
 place_of map RefusedMemory why whole = absurd (whole tt)
 place_of map (RefusedProject error) at whole = inl (record { found = Bytes at.config; is = at.got; why = record { some = λ is. cc; cause = at.why } })
 place_of map (RefusedScript error) at whole = inl (record { found = Bytes at.config; is = at.got; why = record { some = λ is. cc; cause = at.why } })
-place_of map (RefusedUnbuilt part) at whole = inl (record { found = Bytes at.config; is = at.got; why = record { some = λ is. cc; cause = at.why } })
 place_of map (RefusedSource error) at whole = inr (inr (record { some = λ is. cc; at = at }))
 
 config_once : (found : Found) (r q : Refusal) → RefusesFile config_name found (λ config. IsRefusal r (IsUntaken config r)) r → RefusesFile config_name found (λ config. IsRefusal q (IsUntaken config q)) q → r ≡ q
@@ -115,7 +114,7 @@ config_passed : (map : Held) (r : Refusal) (p : Project) → HasProject (Some ma
 config_passed map r p has at =
     let found : at.found ≡ Bytes has.config = found_once (map config_name) at.found (Bytes has.config) at.is has.got in
     let why : IsRefusal r (IsUntaken has.config r) = subst (λ (f : Found). RefusesFile config_name f (λ config. IsRefusal r (IsUntaken config r)) r) found at.why in
-    untaken_not has.config p r has.says has.built why.some why.cause
+    untaken_not has.config p r has.says has.scripted why.some why.cause
 
 file_bad : (map : Held) (r : Refusal) (at : AtFile map r) → ¬ IsThere map at.name
 file_bad map r at there = subst (λ (f : Found). RefusesFile at.name f (λ bytes. ⊥) r) (found_once (map at.name) at.found (Bytes there.0) at.is there.1) at.why
@@ -128,8 +127,8 @@ file_refused_once name (Bytes bytes) r q h k = absurd h
 file_once : (map : Held) (r q : Refusal) → AtFile map r → AtFile map q → r ≡ q
 file_once map r q h k =
     let project : h.project ≡ k.project = project_same map h.project k.project h.before k.before in
-    let next : IsNext (Some map) (design_files k.project) h.name = subst (λ (p : Project). IsNext (Some map) (design_files p) h.name) project h.next in
-    let name : h.name ≡ k.name = next_once map (design_files k.project) h.name k.name (file_bad map r h) (file_bad map q k) next k.next in
+    let next : IsNext (Some map) (all_files k.project) h.name = subst (λ (p : Project). IsNext (Some map) (all_files p) h.name) project h.next in
+    let name : h.name ≡ k.name = next_once map (all_files k.project) h.name k.name (file_bad map r h) (file_bad map q k) next k.next in
     let is : IsFound (map k.name) h.found = subst (λ (n : List ℕ). IsFound (map n) h.found) name h.is in
     let found : h.found ≡ k.found = found_once (map k.name) h.found k.found is k.is in
     let why : RefusesFile k.name k.found (λ bytes. ⊥) r = subst (λ (f : Found). RefusesFile k.name f (λ bytes. ⊥) r) found (subst (λ (n : List ℕ). RefusesFile n h.found (λ bytes. ⊥) r) name h.why) in
@@ -168,10 +167,14 @@ readable_of map c made = record {
   told = refl;
   project = made.made.project;
   files = made.files;
-  got = record { before = record { config = made.config; got = made.got_config; says = made.made.says; built = built_of made.made.project made.made.script made.made.report made.made.tests made.made.scripts }; names = made.made.names; got = made.got_files };
+  got = record { before = record { config = made.config; got = made.got_config; says = made.made.says; scripted = scripted_of made.made.project made.made.script made.made.report made.made.scripts }; names = made.made.names; got = made.got_files };
   netlist = c.netlist;
-  design = made.made.design;
+  design = record { modules = made.made.reading.modules; read = made.made.is_reading.read; design = made.made.design };
   few = made.made.few;
+  reading = made.made.reading;
+  is_reading = made.made.is_reading;
+  trials = c.trials;
+  benches = made.made.trials;
 }
 
 pub refused_not_made : (map : Held) (r : Refusal) (c : Prepared) → RefusesFiles map r → ¬ IsMade (Some map) c
@@ -189,7 +192,6 @@ exact_words words held Memory none a = inr refl
 exact_words words held (Missing name) none a = absurd (a.0 none)
 exact_words words held (TooLarge name) none a = absurd (a.0 none)
 exact_words words held (ReadFault name) none a = absurd (a.0 none)
-exact_words words held (Unbuilt part) none a = absurd (a.0 none)
 exact_words words held (ProjectBad error) none a = absurd (a.0 none)
 exact_words words held (ScriptBad error) none a = absurd (a.0 none)
 exact_words words held (SourceBad error) none a = absurd (a.0 none)
@@ -209,7 +211,6 @@ exact_files words map r o asked h a = go o a
     go (Missing name) a = inl (one (RefusedMissing name) a.1 (λ b. b))
     go (TooLarge name) a = inl (one (RefusedTooLarge name) a.1 (λ b. b))
     go (ReadFault name) a = inr tt
-    go (Unbuilt part) a = inl (one (RefusedUnbuilt part) a.1 (λ b. b))
     go (ProjectBad error) a = inl (one (RefusedProject error) a.1 (λ b. b))
     go (ScriptBad error) a = inl (one (RefusedScript error) a.1 (λ b. b))
     go (SourceBad error) a = inl (one (RefusedSource error) a.1 (λ b. b))

@@ -25,7 +25,7 @@ rows_more c earlier [] e all row = (subst (λ (rs : List Entry). IsRow c.campaig
 rows_more c earlier (x ∷ rows) e all row =
     (all.0, rows_more c (earlier ++ x ∷ []) rows e all.1 (subst (λ (rs : List Entry). IsRow c.campaign rs e) (sym (append_assoc earlier (x ∷ []) rows)) row))
 
-pub right_more : (c : Prepared) (rows : List Entry) (e : Entry) → AreRight c rows → IsRightWord c e.mutation e.word → AreRight c (rows ++ e ∷ [])
+pub right_more : (c : Prepared) (rows : List Entry) (e : Entry) → AreRight c rows → IsRightWord c e.mutation e.test e.word → AreRight c (rows ++ e ∷ [])
 right_more c [] e all row = (row, tt)
 right_more c (x ∷ rows) e all row = (all.0, right_more c rows e all.1 row)
 
@@ -89,5 +89,5 @@ within_spare (Some n) start rows gained same other within =
     let differ : n ≡ gained → ⊥ = eqb-false n gained other in
     omega (arith, same, differ, within)
 
-pub next_row_of : (c : Prepared) (rows : List Entry) (e : Entry) (m t word : ℕ) → IsRow c.campaign rows e → IsPair m t e → e.word ≡ word → IsRightWord c m word → IsNextRow c (book_of c rows) e
-next_row_of c rows e m t word row pair is right = record { row = row; word_right = rw (pair.0, is) right }
+pub next_row_of : (c : Prepared) (rows : List Entry) (e : Entry) (m t word : ℕ) → IsRow c.campaign rows e → IsPair m t e → e.word ≡ word → IsRightWord c m t word → IsNextRow c (book_of c rows) e
+next_row_of c rows e m t word row pair is right = record { row = row; word_right = rw (pair.0, pair.1, is) right }

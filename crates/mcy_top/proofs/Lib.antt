@@ -1,3 +1,6 @@
+pub mod TrialLaws
+pub mod Naming
+pub mod Trying
 pub mod Takes
 pub mod Chosen
 pub mod Crashes
@@ -7,7 +10,10 @@ pub mod Counting
 pub mod Pairs
 pub mod Plans
 pub mod PlanLaws
+pub mod Judging
 pub mod Verdicts
+pub mod Fitted
+pub mod Simulating
 pub mod Advancing
 pub mod Finishing
 pub mod Working

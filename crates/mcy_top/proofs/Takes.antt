@@ -1,37 +1,41 @@
 -- Projects and their sources: each has one answer, and those that are taken have no other.
-use Rattle.std.proofs.Common.{◌≡◌, ◌≢◌, inl, inr, arith, ℕ, ◌≤◌, List, [], ◌∷◌, ◌++◌, get_or, length, map, codes, refl, sym, ap, subst, ◌∙◌, ◌⊎◌, Option, None, Some, Result, Ok, Err}
+use Rattle.std.proofs.Common.{◌≡◌, ◌≢◌, inl, inr, arith, ℕ, List, [], ◌∷◌, ◌++◌, get_or, length, map, codes, refl, sym, ap, subst, ◌∙◌, ◌⊎◌, Option, None, Some, Result, Ok, Err}
 use Rattle.std.specs.Str.{IsUtf8}
 use Rattle.std.proofs.Math.Seq.{take-length}
 use Rattle.std.proofs.lemmas.Str.{utf8_valid_len-IsValidUpTo}
-use Rattle.std.proofs.lemmas.List.{append_cancel_left, length-map}
+use Rattle.std.proofs.lemmas.List.{append_cancel_left}
 use Rattle.std.proofs.lemmas.List.Elements.{All-head, All-tail}
 use Rattle.mcy_base.specs.declared.file.SourceFile.{SourceFile}
 use Rattle.mcy_outside.specs.Files.{Held, Gives}
-use Rattle.project_limits.proofs.Files.{files_few}
 use Rattle.project_file.specs.declared.error.ProjectError.{ProjectError}
 use Rattle.project_file.specs.declared.error.ProjectError.TheVariants.{NotUtf8}
 use Rattle.project_file.specs.declared.project.Project.{Project}
-use Rattle.project_file.specs.Projects.{design_files, IsCut, IsFault, IsProject}
-use Rattle.mcy_top.specs.declared.outcome.Part.{Part}
-use Rattle.mcy_top.specs.declared.outcome.Part.TheVariants.{Tests}
+use Rattle.project_file.specs.Projects.{IsCut, IsFault, IsProject}
 use Rattle.mcy_top.specs.declared.outcome.Refusal.{Refusal}
 use Rattle.mcy_top.specs.declared.preparing.PrepareError.{PrepareError}
 use Rattle.mcy_top.specs.declared.preparing.PrepareError.TheVariants.{Source as Unprepared, Memory as ShortOfMemory}
-use Rattle.mcy_top.specs.declared.outcome.Refusal.TheVariants.{ProjectBad, ScriptBad, SourceBad, Memory, Unbuilt}
+use Rattle.mcy_top.specs.declared.outcome.Refusal.TheVariants.{ProjectBad, ScriptBad, SourceBad, Memory}
 use Rattle.tag_script.specs.declared.script.Script.{Script}
 use Rattle.tag_script.specs.declared.script.ScriptError.{ScriptError}
 use Rattle.report_script.specs.declared.report.Report.{Report}
 use Rattle.mcy_top.specs.Limits.{max_bytes, IsWithinLimits}
-use Rattle.mcy_top.specs.Projects.{AreBuilt, HasScripts, IsBuilt, IsUnbuilt, logic_read, report_read}
+use Rattle.project_limits.specs.Files.{all_files}
+use Rattle.mcy_top.specs.Projects.{design_part, HasScripts, IsScripted, logic_read, report_read}
 use Rattle.mcy_top.specs.declared.prepared.Prepared.{Prepared}
 use Rattle.mcy_top.specs.Campaigns.{config_name, file_item, names_of, Got, GotAll, IsMade, IsPrepared}
-use Rattle.mcy_top.specs.Reads.{GotSources, HasProject, IsExcess, IsNext, IsRead, IsRefusedAsLarge, IsSourceBad, IsTooLarge, IsUnmade, IsUnprepared, refused_as, IsUnscripted, IsUntaken, IsUntakenDesign}
+use Rattle.mcy_top.specs.Reads.{GotSources, HasDesign, HasNoDesign, HasProject, IsExcess, IsNext, IsRead, IsRefusedAsLarge, IsSourceBad, IsTooLarge, IsUnmade, IsUnprepared, refused_as, IsUnscripted, IsUntaken, IsUntakenDesign}
+use Rattle.mcy_top.specs.declared.trial.Trial.{Trial}
+use Rattle.mcy_top.specs.Trials.{AreTrials, IsReading, IsTrialFault, Reading}
+use Rattle.mcy_top.proofs.TrialLaws.{readings_are_one, trial_faults_are_one, trials_without_fault}
+use Rattle.vlog_syntax.specs.declared.module.Module.{Module}
+use Rattle.source_trees.specs.Files.{AreRead}
+use Rattle.source_trees.proofs.OneAnswer.{read_without_fault}
 use Rattle.mcy_base.specs.declared.kind.Kind.{Kind}
 use Rattle.mcy_base.specs.declared.kind.Kind.TheVariants.{FreeBits, Gates, Sites}
 use Rattle.netlist_core.specs.declared.raw.RawNetlist.{RawNetlist}
 use Rattle.source_faults.specs.declared.fault.SourceError.{SourceError}
 use Rattle.source_faults.specs.Faults.{too_many}
-use Rattle.project_sources.specs.Netlists.{HasNetlist}
+use Rattle.project_sources.specs.Netlists.{HasNoModules}
 use Rattle.project_sources.proofs.OneAnswer.{faults_are_one, netlist_without_fault, netlists_are_one}
 
 -- A list of one, by what is read of it.
@@ -65,9 +69,6 @@ project_not_fault : (config : List ℕ) (p : Project) (e : ProjectError) → IsP
 project_not_fault config p e h (inl k) = cut_not_utf8 config e k h.utf8
 project_not_fault config p e h (inr k) = let is : None ≡ Some e = sym h.faultless ∙ k.1 in cc
 
-unbuilt_once : (p : Project) (a b : Part) → IsUnbuilt p a → IsUnbuilt p b → a ≡ b
-unbuilt_once p Tests Tests h k = refl
-
 -- Scripts.
 
 err_once : {A : Type 0} (r : Result A ScriptError) (e f : ScriptError) → r ≡ Err e → r ≡ Err f → e ≡ f
@@ -98,25 +99,20 @@ fault_of_none : (p : Project) (s : Script) (r : Report) (e : ScriptError) → Ha
 fault_of_none p s r e has (inl h) = ok_or_err (logic_read p) s e has.logic h
 fault_of_none p s r e has (inr h) = ok_or_err (report_read p) r e has.report h.2
 
-pub built_of : (p : Project) (s : Script) (r : Report) → AreBuilt p → HasScripts p s r → IsBuilt p
-built_of p s r tests has = record { tests = tests; script = s; report = r; scripts = has }
+pub scripted_of : (p : Project) (s : Script) (r : Report) → HasScripts p s r → IsScripted p
+scripted_of p s r has = record { script = s; report = r; scripts = has }
 
 unscripted_once : (p : Project) (r q : Refusal) → r ≢ Memory → q ≢ Memory → IsUnscripted p r → IsUnscripted p q → r ≡ q
 unscripted_once p Memory q m n h k = absurd (m refl)
 unscripted_once p r Memory m n h k = absurd (n refl)
-unscripted_once p (Unbuilt a) (Unbuilt b) m n h k = ap Unbuilt (unbuilt_once p a b h k)
-unscripted_once p (Unbuilt Tests) (ScriptBad f) m n h k = absurd (h k.0)
-unscripted_once p (ScriptBad e) (Unbuilt Tests) m n h k = absurd (k h.0)
-unscripted_once p (ScriptBad e) (ScriptBad f) m n h k = ap ScriptBad (fault_of_once p e f h.1.1 k.1.1)
-unscripted_once p (Unbuilt a) q m n h k = absurd k
+unscripted_once p (ScriptBad e) (ScriptBad f) m n h k = ap ScriptBad (fault_of_once p e f h.1 k.1)
 unscripted_once p (ScriptBad e) q m n h k = absurd k
 unscripted_once p r q m n h k = absurd h
 
-built_not_unscripted : (p : Project) (r : Refusal) → IsBuilt p → r ≢ Memory → ¬ IsUnscripted p r
-built_not_unscripted p Memory built m h = m refl
-built_not_unscripted p (Unbuilt Tests) built m h = h built.tests
-built_not_unscripted p (ScriptBad e) built m h = fault_of_none p built.script built.report e built.scripts h.1.1
-built_not_unscripted p r built m h = absurd h
+scripted_not_unscripted : (p : Project) (r : Refusal) → IsScripted p → r ≢ Memory → ¬ IsUnscripted p r
+scripted_not_unscripted p Memory scripted m h = m refl
+scripted_not_unscripted p (ScriptBad e) scripted m h = fault_of_none p scripted.script scripted.report e scripted.scripts h.1
+scripted_not_unscripted p r scripted m h = absurd h
 
 abbrev Unscripted : List ℕ → Refusal → Type 0
 Unscripted config r = (project : Project) × IsProject config project × IsUnscripted project r
@@ -124,34 +120,27 @@ Unscripted config r = (project : Project) × IsProject config project × IsUnscr
 told_once : (config : List ℕ) (r q : Refusal) → r ≢ Memory → q ≢ Memory → Unscripted config r → Unscripted config q → r ≡ q
 told_once config r q m n (p, says, h) (p', says', k) = unscripted_once p' r q m n (subst (λ (p : Project). IsUnscripted p r) (project_once config p p' says says') h) k
 
-told_not : (config : List ℕ) (p : Project) (r : Refusal) → IsProject config p → IsBuilt p → r ≢ Memory → ¬ Unscripted config r
-told_not config p r says built m (q, says', h) = built_not_unscripted p r built m (subst (λ (p : Project). IsUnscripted p r) (project_once config q p says' says) h)
+told_not : (config : List ℕ) (p : Project) (r : Refusal) → IsProject config p → IsScripted p → r ≢ Memory → ¬ Unscripted config r
+told_not config p r says scripted m (q, says', h) = scripted_not_unscripted p r scripted m (subst (λ (p : Project). IsUnscripted p r) (project_once config q p says' says) h)
 
 -- a project file is refused for one thing,
 pub untaken_once : (config : List ℕ) (r q : Refusal) → r ≢ Memory → q ≢ Memory → IsUntaken config r → IsUntaken config q → r ≡ q
 untaken_once config Memory q m n h k = absurd (m refl)
 untaken_once config r Memory m n h k = absurd (n refl)
 untaken_once config (ProjectBad e) (ProjectBad f) m n h k = ap ProjectBad (fault_once config e f h k)
-untaken_once config (ProjectBad e) (Unbuilt part) m n h (p, says, un) = absurd (project_not_fault config p e says h)
 untaken_once config (ProjectBad e) (ScriptBad f) m n h (p, says, un) = absurd (project_not_fault config p e says h)
-untaken_once config (Unbuilt part) (ProjectBad f) m n (p, says, un) k = absurd (project_not_fault config p f says k)
 untaken_once config (ScriptBad e) (ProjectBad f) m n (p, says, un) k = absurd (project_not_fault config p f says k)
-untaken_once config (Unbuilt a) (Unbuilt b) m n h k = told_once config (Unbuilt a) (Unbuilt b) m n h k
-untaken_once config (Unbuilt a) (ScriptBad f) m n h k = told_once config (Unbuilt a) (ScriptBad f) m n h k
-untaken_once config (ScriptBad e) (Unbuilt b) m n h k = told_once config (ScriptBad e) (Unbuilt b) m n h k
 untaken_once config (ScriptBad e) (ScriptBad f) m n h k = told_once config (ScriptBad e) (ScriptBad f) m n h k
 untaken_once config (ProjectBad e) q m n h k = absurd k
-untaken_once config (Unbuilt part) q m n h k = absurd k
 untaken_once config (ScriptBad e) q m n h k = absurd k
 untaken_once config r q m n h k = absurd h
 
 -- and one that is taken for none
-pub untaken_not : (config : List ℕ) (p : Project) (r : Refusal) → IsProject config p → IsBuilt p → r ≢ Memory → ¬ IsUntaken config r
-untaken_not config p Memory says built m h = m refl
-untaken_not config p (ProjectBad e) says built m h = project_not_fault config p e says h
-untaken_not config p (Unbuilt part) says built m h = told_not config p (Unbuilt part) says built m h
-untaken_not config p (ScriptBad e) says built m h = told_not config p (ScriptBad e) says built m h
-untaken_not config p r says built m h = absurd h
+pub untaken_not : (config : List ℕ) (p : Project) (r : Refusal) → IsProject config p → IsScripted p → r ≢ Memory → ¬ IsUntaken config r
+untaken_not config p Memory says scripted m h = m refl
+untaken_not config p (ProjectBad e) says scripted m h = project_not_fault config p e says h
+untaken_not config p (ScriptBad e) says scripted m h = told_not config p (ScriptBad e) says scripted m h
+untaken_not config p r says scripted m h = absurd h
 
 -- Files.
 
@@ -219,11 +208,11 @@ project_same told p q h k =
     project_once k.config p q (subst (λ (c : List ℕ). IsProject c p) config h.says) k.says
 
 pub sources_same : (told : Held) (p q : Project) (xs ys : List SourceFile) → GotSources (Some told) p xs → GotSources (Some told) q ys → xs ≡ ys
-sources_same told p q xs ys h k = files_same told xs ys h.got k.got (h.names ∙ ap design_files (project_same told p q h.before k.before) ∙ sym k.names)
+sources_same told p q xs ys h k = files_same told xs ys h.got k.got (h.names ∙ ap all_files (project_same told p q h.before k.before) ∙ sym k.names)
 
-pub source_there : (told : Held) (p q : Project) (files : List SourceFile) (name : List ℕ) → GotSources (Some told) p files → HasProject (Some told) q → IsNext (Some told) (design_files q) name → IsThere told name
+pub source_there : (told : Held) (p q : Project) (files : List SourceFile) (name : List ℕ) → GotSources (Some told) p files → HasProject (Some told) q → IsNext (Some told) (all_files q) name → IsThere told name
 source_there told p q files name got has next =
-    let names : design_files q ≡ names_of files = ap design_files (project_same told q p has got.before) ∙ sym got.names in
+    let names : all_files q ≡ names_of files = ap all_files (project_same told q p has got.before) ∙ sym got.names in
     next_there told files name got.got (subst (λ (ns : List (List ℕ)). IsNext (Some told) ns name) names next)
 
 -- each file that is read is there
@@ -255,15 +244,48 @@ no_excess p netlist Gates few h = omega (arith, few.few_gates h.0.1, h.1)
 no_excess p netlist FreeBits few h = omega (arith, few.few_bits h.0.1, h.2)
 no_excess p netlist k few h = absurd h
 
+large_not_few : (p : Project) (n m : RawNetlist) (e : SourceError) → n ≡ m → IsTooLarge p n e → ¬ IsWithinLimits p m
+large_not_few p n m e same (kind, excess, is) few = no_excess p m kind few (subst (λ netlist. IsExcess p netlist kind) same excess)
+
 large_once : (p : Project) (netlist : RawNetlist) (x y : SourceError) → IsTooLarge p netlist x → IsTooLarge p netlist y → x ≡ y
 large_once p netlist x y (k, h, is) (j, g, are) = is ∙ ap too_many (excess_once p netlist k j h g) ∙ sym are
 
+-- Files that are modules are not refused as none.
+read_not_bad : (files : List SourceFile) (modules : List Module) (e : SourceError) → AreRead files modules → ¬ HasNoModules files e
+read_not_bad files modules e read h = h.found (read_without_fault files modules h.fault read h.unread)
+
+modules_bad_once : (files : List SourceFile) (x y : SourceError) → HasNoModules files x → HasNoModules files y → x ≡ y
+modules_bad_once files x y h k = faults_are_one files [] x y (inl h) (inl k)
+
+design_not_refused : (p : Project) (files : List SourceFile) (netlist : RawNetlist) (e : SourceError) → HasDesign p files netlist → ¬ HasNoDesign p files e
+design_not_refused p files netlist e has h = netlist_without_fault (design_part p files) p.top netlist e has.design h.refused
+
+pub designs_are_one : (p : Project) (files : List SourceFile) (n m : RawNetlist) → HasDesign p files n → HasDesign p files m → n ≡ m
+designs_are_one p files n m h k = netlists_are_one (design_part p files) p.top n m h.design k.design
+
+-- the files are refused for one cause of the four
 bad_once : (p : Project) (files : List SourceFile) (x y : SourceError) → IsSourceBad p files x → IsSourceBad p files y → x ≡ y
-bad_once p files x y (inl h) (inl k) = faults_are_one files p.top x y h k
-bad_once p files x y (inl h) (inr (netlist, has, large)) = absurd (netlist_without_fault files p.top netlist x has h)
-bad_once p files x y (inr (netlist, has, large)) (inl k) = absurd (netlist_without_fault files p.top netlist y has k)
-bad_once p files x y (inr (n, has, large)) (inr (m, also, bulky)) =
-    large_once p n x y large (subst (λ netlist. IsTooLarge p netlist y) (netlists_are_one files p.top m n also has) bulky)
+bad_once p files x y (inl h) (inl k) = modules_bad_once files x y h k
+bad_once p files x y (inl h) (inr (inl k)) = absurd (read_not_bad files k.modules x k.read h)
+bad_once p files x y (inl h) (inr (inr (inl (n, has, large)))) = absurd (read_not_bad files has.modules x has.read h)
+bad_once p files x y (inl h) (inr (inr (inr k))) = absurd (read_not_bad files k.design.modules x k.design.read h)
+bad_once p files x y (inr (inl h)) (inl k) = absurd (read_not_bad files h.modules y h.read k)
+bad_once p files x y (inr (inl h)) (inr (inl k)) = faults_are_one (design_part p files) p.top x y h.refused k.refused
+bad_once p files x y (inr (inl h)) (inr (inr (inl (n, has, large)))) = absurd (design_not_refused p files n x has h)
+bad_once p files x y (inr (inl h)) (inr (inr (inr k))) = absurd (design_not_refused p files k.netlist x k.design h)
+bad_once p files x y (inr (inr (inl (n, has, large)))) (inl k) = absurd (read_not_bad files has.modules y has.read k)
+bad_once p files x y (inr (inr (inl (n, has, large)))) (inr (inl k)) = absurd (design_not_refused p files n y has k)
+bad_once p files x y (inr (inr (inl (n, has, large)))) (inr (inr (inl (m, also, bulky)))) =
+    large_once p n x y large (subst (λ netlist. IsTooLarge p netlist y) (designs_are_one p files m n also has) bulky)
+bad_once p files x y (inr (inr (inl (n, has, large)))) (inr (inr (inr k))) = absurd (large_not_few p n k.netlist x (designs_are_one p files n k.netlist has k.design) large k.few)
+bad_once p files x y (inr (inr (inr h))) (inl k) = absurd (read_not_bad files h.design.modules y h.design.read k)
+bad_once p files x y (inr (inr (inr h))) (inr (inl k)) = absurd (design_not_refused p files h.netlist y h.design k)
+bad_once p files x y (inr (inr (inr h))) (inr (inr (inl (m, also, bulky)))) = absurd (large_not_few p m h.netlist y (designs_are_one p files m h.netlist also h.design) bulky h.few)
+bad_once p files x y (inr (inr (inr h))) (inr (inr (inr k))) =
+    let netlist : k.netlist ≡ h.netlist = designs_are_one p files k.netlist h.netlist k.design h.design in
+    let other : IsReading files (names_of files) p.top h.netlist k.reading = subst (λ n. IsReading files (names_of files) p.top n k.reading) netlist k.is_reading in
+    let same : k.reading ≡ h.reading = readings_are_one files (names_of files) p.top h.netlist k.reading h.reading other h.is_reading in
+    trial_faults_are_one h.reading 0 p.tests x y h.fault (subst (λ r. IsTrialFault r 0 p.tests y) same k.fault)
 
 -- the sources are refused for one thing,
 pub untaken_design_once : (p : Project) (files : List SourceFile) (r q : Refusal) → r ≢ Memory → q ≢ Memory → IsUntakenDesign p files r → IsUntakenDesign p files q → r ≡ q
@@ -274,20 +296,23 @@ untaken_design_once p files (SourceBad e) q m n h k = absurd k
 untaken_design_once p files r q m n h k = absurd h
 
 -- and those that are taken for none
-pub untaken_design_not : (p : Project) (files : List SourceFile) (netlist : RawNetlist) (r : Refusal) → HasNetlist files p.top netlist → IsWithinLimits p netlist → r ≢ Memory → ¬ IsUntakenDesign p files r
-untaken_design_not p files netlist Memory has few some h = some refl
-untaken_design_not p files netlist (SourceBad e) has few some (inl h) = netlist_without_fault files p.top netlist e has h
-untaken_design_not p files netlist (SourceBad e) has few some (inr (other, also, (kind, excess, is))) =
-    no_excess p netlist kind few (subst (λ n. IsExcess p n kind) (netlists_are_one files p.top other netlist also has) excess)
-untaken_design_not p files netlist r has few some h = absurd h
+pub taken_not_bad : (p : Project) (files : List SourceFile) (netlist : RawNetlist) (r : Reading) (trials : List Trial) (e : SourceError) → HasDesign p files netlist → IsWithinLimits p netlist → IsReading files (names_of files) p.top netlist r → AreTrials r p.tests trials → ¬ IsSourceBad p files e
+taken_not_bad p files netlist r trials e has few reading benches (inl h) = read_not_bad files has.modules e has.read h
+taken_not_bad p files netlist r trials e has few reading benches (inr (inl h)) = design_not_refused p files netlist e has h
+taken_not_bad p files netlist r trials e has few reading benches (inr (inr (inl (n, also, large)))) = large_not_few p n netlist e (designs_are_one p files n netlist also has) large few
+taken_not_bad p files netlist r trials e has few reading benches (inr (inr (inr h))) =
+    let other : IsReading files (names_of files) p.top netlist h.reading = subst (λ n. IsReading files (names_of files) p.top n h.reading) (designs_are_one p files h.netlist netlist h.design has) h.is_reading in
+    let same : h.reading ≡ r = readings_are_one files (names_of files) p.top netlist h.reading r other reading in
+    trials_without_fault r 0 p.tests trials e benches (subst (λ reading. IsTrialFault reading 0 p.tests e) same h.fault)
 
--- A project has few files.
-pub sources_few : (config : List ℕ) (p : Project) (files : List SourceFile) → IsProject config p → names_of files ≡ design_files p → length files ≤ 64
-sources_few config p files says names = omega (arith, files_few config p says, ap length names, length-map files (λ (file : SourceFile). file.name))
+pub untaken_design_not : (p : Project) (files : List SourceFile) (netlist : RawNetlist) (r : Reading) (trials : List Trial) (refusal : Refusal) → HasDesign p files netlist → IsWithinLimits p netlist → IsReading files (names_of files) p.top netlist r → AreTrials r p.tests trials → refusal ≢ Memory → ¬ IsUntakenDesign p files refusal
+untaken_design_not p files netlist r trials Memory has few reading benches some h = some refl
+untaken_design_not p files netlist r trials (SourceBad e) has few reading benches some h = taken_not_bad p files netlist r trials e has few reading benches h
+untaken_design_not p files netlist r trials refusal has few reading benches some h = absurd h
 
 -- A netlist that is too large is a fault of the sources,
-pub large_unprepared : (p : Project) (files : List SourceFile) (netlist : RawNetlist) (e : PrepareError) → HasNetlist files p.top netlist → IsRefusedAsLarge p netlist e → IsUnprepared p files e
-large_unprepared p files netlist (Unprepared e) has large = inr (netlist, has, large)
+pub large_unprepared : (p : Project) (files : List SourceFile) (netlist : RawNetlist) (e : PrepareError) → HasDesign p files netlist → IsRefusedAsLarge p netlist e → IsUnprepared p files e
+large_unprepared p files netlist (Unprepared e) has large = inr (inr (inl (netlist, has, large)))
 large_unprepared p files netlist ShortOfMemory has large = tt
 
 -- and what they are refused for is told.

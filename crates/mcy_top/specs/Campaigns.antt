@@ -4,18 +4,20 @@ use Rattle.std.specs.List.{All}
 use Rattle.mcy_base.specs.declared.file.SourceFile.{SourceFile}
 use Rattle.mcy_outside.specs.Files.{Held, Gives, IsLarge}
 use Rattle.project_file.specs.declared.project.Project.{Project}
-use Rattle.project_file.specs.Projects.{design_files, IsProject}
+use Rattle.project_file.specs.Projects.{IsProject}
 use Rattle.netlist_core.specs.declared.raw.RawNetlist.{RawNetlist}
 use Rattle.result_book.specs.declared.campaign.Campaign.{Campaign}
 use Rattle.tag_script.specs.declared.script.Script.{Script}
 use Rattle.report_script.specs.declared.report.Report.{Report}
 use Rattle.mcy_top.specs.declared.prepared.Prepared.{Prepared}
 use Rattle.mcy_top.specs.Limits.{max_bytes, IsWithinLimits}
-use Rattle.mcy_top.specs.Projects.{AreBuilt, HasScripts, test_kinds, test_names}
+use Rattle.project_limits.specs.Files.{all_files}
+use Rattle.mcy_top.specs.Projects.{design_part, HasScripts, test_kinds, test_names}
 use Rattle.project_sources.specs.Netlists.{HasNetlist}
 use Rattle.mutation_sites.specs.Mutants.{IsSite}
 use Rattle.mutation_sites.specs.SiteTexts.{site_text}
 use Rattle.mcy_top.specs.Mutations.{all_sites, picked_sites, site_line}
+use Rattle.mcy_top.specs.Trials.{AreTrials, IsReading, Reading}
 
 abbrev pub config_name : List ℕ
 config_name = codes "config.mcy"
@@ -47,23 +49,28 @@ campaign_of config project script report files netlist = record {
   report = report;
 }
 
--- a campaign, with its sources and their netlist, how many sites that has, and those of the mutations, which are bits of it
+-- a campaign, with its sources and their netlist, its tests as they are run, how many sites the netlist has, and those of the
+-- mutations, which are bits of it
 pub record IsPrepared (config : List ℕ) (files : List SourceFile) (c : Prepared) : Type 0 where
   pub project : Project
   pub says : IsProject config project
-  pub tests : AreBuilt project
   pub script : Script
   pub report : Report
   pub scripts : HasScripts project script report
-  pub names : names_of files ≡ design_files project
-  pub design : HasNetlist files project.top c.netlist
+  pub names : names_of files ≡ all_files project
+  pub design : HasNetlist (design_part project files) project.top c.netlist
   pub few : IsWithinLimits project c.netlist
+  pub reading : Reading
+  pub is_reading : IsReading files (names_of files) project.top c.netlist reading
+  pub trials : AreTrials reading project.tests c.trials
+  pub cycles : c.cycles ≡ project.cycles
+  pub seed : c.word_seed ≡ project.word_seed
   pub conflicts : c.conflicts ≡ project.conflicts
   pub campaign : c.campaign ≡ campaign_of config project script report files c.netlist
   pub count : c.site_count ≡ length (all_sites project c.netlist)
   pub places : c.sites ≡ picked_sites project c.netlist
   pub placed : All (IsSite c.netlist) c.sites
-  pub sources : c.files ≡ files
+  pub sources : c.files ≡ design_part project files
 
 -- that of some project and sources
 pub record IsPlan (c : Prepared) : Type 0 where

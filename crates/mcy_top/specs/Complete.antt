@@ -12,10 +12,11 @@ use Rattle.mcy_top.specs.declared.outcome.Outcome.{Outcome}
 use Rattle.mcy_top.specs.declared.outcome.Outcome.TheVariants.{Done, Unfinished, Memory}
 use Rattle.command_words.specs.Commands.{command_of}
 use Rattle.mcy_top.specs.Commands.{stop_of}
-use Rattle.project_sources.specs.Netlists.{HasNetlist}
 use Rattle.mcy_top.specs.Limits.{IsWithinLimits}
-use Rattle.mcy_top.specs.Campaigns.{IsMade}
-use Rattle.mcy_top.specs.Reads.{GotSources}
+use Rattle.mcy_top.specs.declared.trial.Trial.{Trial}
+use Rattle.mcy_top.specs.Trials.{AreTrials, IsReading, Reading}
+use Rattle.mcy_top.specs.Campaigns.{names_of, IsMade}
+use Rattle.mcy_top.specs.Reads.{GotSources, HasDesign}
 use Rattle.mcy_top.specs.Life.{Takes}
 
 -- the files tell what they hold, and it is a project with a design that is accepted
@@ -26,8 +27,12 @@ pub record IsReadable (held : Option Held) : Type 0 where
   pub files : List SourceFile
   pub got : GotSources (Some map) project files
   pub netlist : RawNetlist
-  pub design : HasNetlist files project.top netlist
+  pub design : HasDesign project files netlist
   pub few : IsWithinLimits project netlist
+  pub reading : Reading
+  pub is_reading : IsReading files (names_of files) project.top netlist reading
+  pub trials : List Trial
+  pub benches : AreTrials reading project.tests trials
 
 -- the command is given, the files are there, and each book that a load may give is one that the command takes
 pub record IsReady (words : List (List ℕ)) (held : Option Held) (holds : Book → Type 0) (leaves : Option Book → Type 0) (command : Command) : Type 0 where

@@ -1,12 +1,14 @@
 -- What a campaign defines: a function of the project and of the pairs that were given up. There is no order of tests,
 -- no slot and no stop in it.
-use Rattle.std.specs.Prelude.{◌≡◌, ℕ, ◌+◌, Bool, true, ◌==◌, ◌&&◌, ◌||◌, false, List, [], ◌∷◌, ◌++◌, length, if◌then◌else◌}
+use Rattle.std.specs.Prelude.{◌≡◌, ℕ, ◌+◌, Bool, true, ◌==◌, ◌&&◌, ◌||◌, false, List, [], ◌∷◌, ◌++◌, length, slice_get, Option, Some, if◌then◌else◌}
 use Rattle.std.specs.Bool.{MatchBool}
 use Rattle.mcy_keeper.specs.declared.book.Entry.{Entry}
 use Rattle.result_book.specs.declared.script.TestWord.TheVariants.{Unknown}
 use Rattle.tag_script.specs.declared.answer.Ask.TheVariants.{Need}
 use Rattle.mcy_top.specs.declared.prepared.Prepared.{Prepared}
 use Rattle.result_book.specs.Scripts.{Answer, word_code, ask, is_ended}
+use Rattle.mcy_top.specs.declared.trial.Trial.{Trial}
+use Rattle.mcy_top.specs.declared.trial.Trial.TheVariants.{Equality}
 use Rattle.mcy_top.specs.Rows.{IsTrueWord}
 use Rattle.source_report.specs.Texts.{lines}
 
@@ -24,9 +26,14 @@ abbrev pub is_given_up : List Pair → ℕ → ℕ → Bool
 is_given_up [] m t = false
 is_given_up (p ∷ more) m t = (p.mutation == m && p.test == t) || is_given_up more m t
 
+-- whether a test may be given up: it is an equality
+abbrev pub is_equality : Option Trial → Bool
+is_equality (Some Equality) = true
+is_equality other = false
+
 -- the word of a pair: UNKNOWN where it was given up, else the true word
 abbrev pub IsWordOf : Prepared → List Pair → ℕ → ℕ → ℕ → Type 0
-IsWordOf c pairs m t word = MatchBool (is_given_up pairs m t) (word ≡ word_code Unknown) (IsTrueWord c m word)
+IsWordOf c pairs m t word = MatchBool (is_equality (slice_get c.trials t) && is_given_up pairs m t) (word ≡ word_code Unknown) (IsTrueWord c m t word)
 
 -- the script asks for each test on the answers before it, and each has its word; then it needs no test
 abbrev pub AreAnswers : Prepared → List Pair → ℕ → List Answer → List Answer → Type 0

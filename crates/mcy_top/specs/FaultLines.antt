@@ -13,7 +13,7 @@ use Rattle.tag_script.specs.declared.script.ScriptError.{ScriptError}
 use Rattle.tag_script.specs.declared.script.ScriptError.TheVariants as script
 use Rattle.source_faults.specs.Lines.{source_line}
 use Rattle.mcy_top.specs.declared.outcome.Outcome.{Outcome}
-use Rattle.mcy_top.specs.declared.outcome.Outcome.TheVariants.{Done, Unfinished, Usage, ProjectBad, ScriptBad, SourceBad, Missing, TooLarge, NoCampaign, AlreadyBegun, BookBad, ReadFault, KeeperFault, WriteFault, Memory, Unbuilt}
+use Rattle.mcy_top.specs.declared.outcome.Outcome.TheVariants.{Done, Unfinished, Usage, ProjectBad, ScriptBad, SourceBad, Missing, TooLarge, NoCampaign, AlreadyBegun, BookBad, ReadFault, KeeperFault, WriteFault, Memory}
 
 -- a line of these words
 abbrev pub told_line : List ℕ → List ℕ
@@ -93,4 +93,3 @@ fault_text (ReadFault name) = file_line name (codes "read fault")
 fault_text KeeperFault = told_line (codes "database fault")
 fault_text WriteFault = told_line (codes "write fault")
 fault_text Memory = told_line (codes "no memory")
-fault_text (Unbuilt part) = told_line (codes "not built")

@@ -2,8 +2,10 @@ pub mod NetlistLaws
 pub mod Commands
 pub mod Projects
 pub mod Mutations
+pub mod Trials
 pub mod Campaigns
 pub mod GivenUp
+pub mod Simulated
 pub mod Rows
 pub mod Texts
 pub mod Defined

@@ -10,10 +10,10 @@ use Rattle.mcy_outside.specs.Written.{Appends, AppendsPart}
 use Rattle.command_words.specs.declared.command.Command.{Command}
 use Rattle.command_words.specs.declared.command.Command.TheVariants.{Init, Run, List as Listing, Status, Source}
 use Rattle.mcy_top.specs.declared.prepared.Prepared.{Prepared}
-use Rattle.mcy_top.specs.declared.outcome.Refusal.TheVariants.{ProjectBad as RefusedProject, ScriptBad as RefusedScript, SourceBad as RefusedSource, Missing as RefusedMissing, TooLarge as RefusedTooLarge, ReadFault as RefusedRead, Unbuilt as RefusedUnbuilt}
+use Rattle.mcy_top.specs.declared.outcome.Refusal.TheVariants.{ProjectBad as RefusedProject, ScriptBad as RefusedScript, SourceBad as RefusedSource, Missing as RefusedMissing, TooLarge as RefusedTooLarge, ReadFault as RefusedRead}
 use Rattle.mcy_top.specs.declared.outcome.BookRefusal.TheVariants.{NoCampaign as RefusedNone, AlreadyBegun as RefusedBegun, BookBad as RefusedBook}
 use Rattle.mcy_top.specs.declared.outcome.Outcome.{Outcome}
-use Rattle.mcy_top.specs.declared.outcome.Outcome.TheVariants.{Done, Unfinished, Usage, ProjectBad, ScriptBad, SourceBad, Missing, TooLarge, NoCampaign, AlreadyBegun, BookBad, ReadFault, KeeperFault, WriteFault, Memory, Unbuilt}
+use Rattle.mcy_top.specs.declared.outcome.Outcome.TheVariants.{Done, Unfinished, Usage, ProjectBad, ScriptBad, SourceBad, Missing, TooLarge, NoCampaign, AlreadyBegun, BookBad, ReadFault, KeeperFault, WriteFault, Memory}
 use Rattle.command_words.specs.Commands.{command_of}
 use Rattle.mcy_top.specs.Commands.{slots_of, stop_of, IsWithin, OnlyReads, Runs}
 use Rattle.mcy_top.specs.Campaigns.{IsMade}
@@ -41,7 +41,6 @@ Answered words held Usage = command_of words ≡ None
 Answered words held (Missing name) = Commands words × IsUnmade held (RefusedMissing name)
 Answered words held (TooLarge name) = Commands words × IsUnmade held (RefusedTooLarge name)
 Answered words held (ReadFault name) = Commands words × IsUnmade held (RefusedRead name)
-Answered words held (Unbuilt part) = Commands words × IsUnmade held (RefusedUnbuilt part)
 Answered words held (ProjectBad error) = Commands words × IsUnmade held (RefusedProject error)
 Answered words held (ScriptBad error) = Commands words × IsUnmade held (RefusedScript error)
 Answered words held (SourceBad error) = Commands words × IsUnmade held (RefusedSource error)
@@ -54,7 +53,6 @@ EndsEarly Usage = ⊤
 EndsEarly (Missing name) = ⊤
 EndsEarly (TooLarge name) = ⊤
 EndsEarly (ReadFault name) = ⊤
-EndsEarly (Unbuilt part) = ⊤
 EndsEarly (ProjectBad error) = ⊤
 EndsEarly (ScriptBad error) = ⊤
 EndsEarly (SourceBad error) = ⊤

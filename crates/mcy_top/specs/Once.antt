@@ -5,13 +5,18 @@ use Rattle.mcy_top.specs.declared.prepared.Prepared.{Prepared}
 use Rattle.result_book.specs.Scripts.{Answer}
 use Rattle.mcy_top.specs.Campaigns.{IsPlan}
 use Rattle.result_book.specs.Rows.{IsFinished, IsWellFormed}
-use Rattle.mcy_top.specs.Rows.{IsGood}
+use Rattle.mcy_top.specs.Rows.{IsGood, IsRightWord}
 use Rattle.source_report.specs.Texts.{status_text}
 use Rattle.mcy_top.specs.Defined.{given_up, is_given_up, AreAllAnswers, IsFinalText, Pair}
 
--- Campaigns with the same meta, which has the project and its source, are the same.
+-- the words of tests for the one campaign are words for the other
+abbrev pub SayTheSame : Prepared → Prepared → Type 0
+SayTheSame c d = (m t word : ℕ) → IsRightWord c m t word → IsRightWord d m t word
+
+-- Campaigns with the same meta, which has the project and its sources, are the same but for parts of their benches, and these say the
+-- same of each mutation.
 abbrev pub CampaignsAreOne : Type 0
-CampaignsAreOne = (c d : Prepared) → IsPlan c → IsPlan d → c.campaign.meta ≡ d.campaign.meta → c ≡ d
+CampaignsAreOne = (c d : Prepared) → IsPlan c → IsPlan d → c.campaign.meta ≡ d.campaign.meta → (c ≡ record d { trials = c.trials }) × SayTheSame c d
 
 -- A campaign and its given-up pairs define the answers of each mutation once,
 abbrev pub AnswersAreOne : Type 0

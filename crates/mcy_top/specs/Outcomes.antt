@@ -1,11 +1,11 @@
 -- Outcomes, and their exit statuses.
 use Rattle.std.specs.Prelude.{ℕ}
 use Rattle.mcy_top.specs.declared.outcome.Refusal.{Refusal}
-use Rattle.mcy_top.specs.declared.outcome.Refusal.TheVariants.{ProjectBad as RefusedProject, ScriptBad as RefusedScript, SourceBad as RefusedSource, Missing as RefusedMissing, TooLarge as RefusedTooLarge, ReadFault as RefusedRead, Memory as RefusedMemory, Unbuilt as RefusedUnbuilt}
+use Rattle.mcy_top.specs.declared.outcome.Refusal.TheVariants.{ProjectBad as RefusedProject, ScriptBad as RefusedScript, SourceBad as RefusedSource, Missing as RefusedMissing, TooLarge as RefusedTooLarge, ReadFault as RefusedRead, Memory as RefusedMemory}
 use Rattle.mcy_top.specs.declared.outcome.BookRefusal.{BookRefusal}
 use Rattle.mcy_top.specs.declared.outcome.BookRefusal.TheVariants.{NoCampaign as RefusedNone, AlreadyBegun as RefusedBegun, BookBad as RefusedBook, Memory as NoMemory}
 use Rattle.mcy_top.specs.declared.outcome.Outcome.{Outcome}
-use Rattle.mcy_top.specs.declared.outcome.Outcome.TheVariants.{Done, Unfinished, Usage, ProjectBad, ScriptBad, SourceBad, Missing, TooLarge, NoCampaign, AlreadyBegun, BookBad, ReadFault, KeeperFault, WriteFault, Memory, Unbuilt}
+use Rattle.mcy_top.specs.declared.outcome.Outcome.TheVariants.{Done, Unfinished, Usage, ProjectBad, ScriptBad, SourceBad, Missing, TooLarge, NoCampaign, AlreadyBegun, BookBad, ReadFault, KeeperFault, WriteFault, Memory}
 
 -- the exit status (README.md)
 abbrev pub status_of : Outcome → ℕ
@@ -24,7 +24,6 @@ status_of (ReadFault name) = 11
 status_of KeeperFault = 12
 status_of WriteFault = 13
 status_of Memory = 14
-status_of (Unbuilt part) = 99
 
 -- the outcome of a call whose files are refused
 abbrev pub outcome_of : Refusal → Outcome
@@ -35,7 +34,6 @@ outcome_of (RefusedMissing name) = Missing name
 outcome_of (RefusedTooLarge name) = TooLarge name
 outcome_of (RefusedRead name) = ReadFault name
 outcome_of RefusedMemory = Memory
-outcome_of (RefusedUnbuilt part) = Unbuilt part
 
 -- the outcome of a call that refuses the loaded book
 abbrev pub book_outcome : BookRefusal → Outcome

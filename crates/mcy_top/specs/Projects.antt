@@ -1,9 +1,10 @@
--- Which projects are built so far, and the part of another one that is not (docs/PROFILE.md); and their scripts.
-use Rattle.std.specs.Prelude.{◌≡◌, ◌≢◌, ◌⊎◌, ℕ, List, Result, Ok, Err, map}
-use Rattle.std.specs.List.{All, Any}
+-- What a project's tests are, the files that it reads, and its scripts.
+use Rattle.std.specs.Prelude.{◌≡◌, ◌≢◌, ◌⊎◌, ℕ, List, Result, Ok, Err, length, map, take}
+use Rattle.std.specs.List.{Any}
 use Rattle.project_file.specs.declared.project.Project.{Project}
 use Rattle.project_file.specs.declared.project.TestKind.{TestKind}
 use Rattle.project_file.specs.declared.project.TestKind.TheVariants.{Eq}
+use Rattle.project_file.specs.Projects.{design_files}
 use Rattle.tag_script.specs.declared.script.Script.{Script}
 use Rattle.tag_script.specs.declared.script.ScriptError.{ScriptError}
 use Rattle.tag_script.specs.declared.script.ScriptError.TheVariants.{Memory}
@@ -11,20 +12,14 @@ use Rattle.tag_script.specs.Reading.{script_of}
 use Rattle.report_script.specs.declared.report.Report.{Report}
 use Rattle.report_script.specs.Reading.{report_of}
 use Rattle.result_book.specs.Campaigns.{eq_kind, sim_kind}
-use Rattle.mcy_top.specs.declared.outcome.Part.{Part}
-use Rattle.mcy_top.specs.declared.outcome.Part.TheVariants.{Tests}
-
--- each test compares the mutant with the design
-abbrev pub AreBuilt : Project → Type 0
-AreBuilt project = All (λ test. test.kind ≡ Eq) project.tests
 
 -- one of its tests compares the mutant with the design
 abbrev pub HasEquality : Project → Type 0
 HasEquality project = Any (λ test. test.kind ≡ Eq) project.tests
 
--- the part of the project that is not built
-abbrev pub IsUnbuilt : Project → Part → Type 0
-IsUnbuilt project Tests = ¬ AreBuilt project
+-- of the files that a project reads, those of its design
+abbrev pub design_part : {X : Type 0} → Project → List X → List X
+design_part project files = take (length (design_files project)) files
 
 -- the tests, by their names and by the codes of their kinds
 abbrev pub test_names : Project → List (List ℕ)
@@ -53,9 +48,8 @@ pub record HasScripts (project : Project) (script : Script) (printed : Report) :
 abbrev pub IsScriptFault : Project → ScriptError → Type 0
 IsScriptFault project error = (error ≢ Memory) × ((logic_read project ≡ Err error) ⊎ ((script : Script) × (logic_read project ≡ Ok script) × (report_read project ≡ Err error)))
 
--- the project is built, and has these scripts
-pub record IsBuilt (project : Project) : Type 0 where
-  pub tests : AreBuilt project
+-- the project has a tag script and a report
+pub record IsScripted (project : Project) : Type 0 where
   pub script : Script
   pub report : Report
   pub scripts : HasScripts project script report

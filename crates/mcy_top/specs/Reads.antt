@@ -6,58 +6,62 @@ use Rattle.mcy_base.specs.declared.kind.Kind.TheVariants.{FreeBits, Gates, Sites
 use Rattle.mcy_base.specs.Causes.{Rose}
 use Rattle.mcy_outside.specs.Files.{Held}
 use Rattle.project_file.specs.declared.project.Project.{Project}
-use Rattle.project_file.specs.Projects.{design_files, IsFault, IsProject}
+use Rattle.project_file.specs.Projects.{IsFault, IsProject}
 use Rattle.netlist_core.specs.declared.raw.RawNetlist.{RawNetlist}
 use Rattle.source_faults.specs.declared.fault.SourceError.{SourceError}
 use Rattle.source_faults.specs.Faults.{too_many}
-use Rattle.project_sources.specs.Netlists.{HasNetlist, HasNoNetlist}
+use Rattle.project_sources.specs.Netlists.{HasNetlist, HasNoModules, HasNoNetlist}
+use Rattle.vlog_syntax.specs.declared.module.Module.{Module}
+use Rattle.source_trees.specs.Files.{AreRead}
+use Rattle.project_sources.specs.declared.netlist.NetlistError.{NetlistError}
+use Rattle.project_sources.specs.declared.netlist.NetlistError.TheVariants.{Source, Memory as NoMemory}
 use Rattle.mcy_top.specs.declared.outcome.Refusal.{Refusal}
 use Rattle.mcy_top.specs.declared.preparing.PrepareError.{PrepareError}
 use Rattle.mcy_top.specs.declared.preparing.PrepareError.TheVariants.{Source as Unprepared, Memory as ShortOfMemory}
-use Rattle.mcy_top.specs.declared.outcome.Refusal.TheVariants.{ProjectBad, ScriptBad, SourceBad, Missing, TooLarge, ReadFault, Memory, Unbuilt}
+use Rattle.mcy_top.specs.declared.outcome.Refusal.TheVariants.{ProjectBad, ScriptBad, SourceBad, Missing, TooLarge, ReadFault, Memory}
 use Rattle.netlist_core.specs.Checked.{free_bits}
 use Rattle.pair_gates.specs.Refusals.{max_free}
 use Rattle.pair_gates.specs.Weights.{design_gates, max_design_gates}
-use Rattle.mcy_top.specs.Projects.{AreBuilt, HasEquality, IsBuilt, IsScriptFault, IsUnbuilt}
-use Rattle.mcy_top.specs.Limits.{max_sites}
+use Rattle.project_limits.specs.Files.{all_files}
+use Rattle.mcy_top.specs.Projects.{design_part, HasEquality, IsScripted, IsScriptFault}
+use Rattle.mcy_top.specs.Limits.{max_sites, IsWithinLimits}
 use Rattle.mcy_top.specs.Mutations.{all_sites}
-use Rattle.mcy_top.specs.Campaigns.{config_name, Got, GotAll, Lacks, Exceeds}
+use Rattle.mcy_top.specs.Trials.{IsReading, IsTrialFault, Reading}
+use Rattle.mcy_top.specs.Campaigns.{config_name, names_of, Got, GotAll, Lacks, Exceeds}
 
--- why a project is not built, or has no scripts
+-- why a project has no scripts
 abbrev pub IsUnscripted : Project → Refusal → Type 0
-IsUnscripted project (Unbuilt part) = IsUnbuilt project part
-IsUnscripted project (ScriptBad error) = AreBuilt project × IsScriptFault project error
+IsUnscripted project (ScriptBad error) = IsScriptFault project error
 IsUnscripted project Memory = ⊤
 IsUnscripted project refusal = ⊥
 
--- why bytes are no project that is built
+-- why bytes are no project with scripts
 abbrev pub IsUntaken : List ℕ → Refusal → Type 0
 IsUntaken config (ProjectBad error) = IsFault config error
-IsUntaken config (Unbuilt part) = (project : Project) × IsProject config project × IsUnscripted project (Unbuilt part)
 IsUntaken config (ScriptBad error) = (project : Project) × IsProject config project × IsUnscripted project (ScriptBad error)
 IsUntaken config Memory = ⊤
 IsUntaken config refusal = ⊥
 
--- the project file has this project, which is built
+-- the project file has this project, which has its scripts
 pub record HasProject (held : Option Held) (project : Project) : Type 0 where
   pub config : List ℕ
   pub got : Got held config_name config
   pub says : IsProject config project
-  pub built : IsBuilt project
+  pub scripted : IsScripted project
 
 -- it is one of these files, and those before it are there
 abbrev pub IsNext : Option Held → List (List ℕ) → List ℕ → Type 0
 IsNext held [] name = ⊥
 IsNext held (first ∷ more) name = (name ≡ first) ⊎ (((bytes : List ℕ) × Got held first bytes) × IsNext held more name)
 
--- the file of this name is read: the project file first, and then the files of the design in their order
+-- the file of this name is read: the project file first, and then the files of the design and of the tests in their order
 abbrev pub IsRead : Option Held → List ℕ → Type 0
-IsRead held name = (name ≡ config_name) ⊎ ((project : Project) × HasProject held project × IsNext held (design_files project) name)
+IsRead held name = (name ≡ config_name) ⊎ ((project : Project) × HasProject held project × IsNext held (all_files project) name)
 
--- all files of the project's design are read, and are these
+-- all files of the project are read, and are these
 pub record GotSources (held : Option Held) (project : Project) (files : List SourceFile) : Type 0 where
   pub before : HasProject held project
-  pub names : map (λ file. file.name) files ≡ design_files project
+  pub names : map (λ file. file.name) files ≡ all_files project
   pub got : GotAll held files
 
 -- It has few sites, and a test of the project compares mutants with it.
@@ -79,15 +83,50 @@ abbrev pub IsRefusedAsLarge : Project → RawNetlist → PrepareError → Type 0
 IsRefusedAsLarge project netlist (Unprepared error) = IsTooLarge project netlist error
 IsRefusedAsLarge project netlist ShortOfMemory = ⊤
 
--- the files of a design have no netlist, or one that is too large
+-- the files are modules, and those of the design have this netlist
+pub record HasDesign (project : Project) (files : List SourceFile) (netlist : RawNetlist) : Type 0 where
+  pub modules : List Module
+  pub read : AreRead files modules
+  pub design : HasNetlist (design_part project files) project.top netlist
+
+-- all files are modules, and those of the design have no netlist
+pub record HasNoDesign (project : Project) (files : List SourceFile) (error : SourceError) : Type 0 where
+  pub modules : List Module
+  pub read : AreRead files modules
+  pub refused : HasNoNetlist (design_part project files) project.top error
+
+-- a test has no bench for the design, which is not too large
+pub record HasNoBenches (project : Project) (files : List SourceFile) (error : SourceError) : Type 0 where
+  pub netlist : RawNetlist
+  pub design : HasDesign project files netlist
+  pub few : IsWithinLimits project netlist
+  pub reading : Reading
+  pub is_reading : IsReading files (names_of files) project.top netlist reading
+  pub fault : IsTrialFault reading 0 project.tests error
+
+-- What the files are refused for: they are no modules; those of the design have no netlist; they have one that is too large; or a
+-- test has no bench.
 abbrev pub IsSourceBad : Project → List SourceFile → SourceError → Type 0
 IsSourceBad project files error =
-    HasNoNetlist files project.top error ⊎ ((netlist : RawNetlist) × HasNetlist files project.top netlist × IsTooLarge project netlist error)
+    HasNoModules files error
+    ⊎ HasNoDesign project files error
+    ⊎ ((netlist : RawNetlist) × HasDesign project files netlist × IsTooLarge project netlist error)
+    ⊎ HasNoBenches project files error
 
 -- why the project and these files make no campaign
 abbrev pub IsUnprepared : Project → List SourceFile → PrepareError → Type 0
 IsUnprepared project files (Unprepared error) = IsSourceBad project files error
 IsUnprepared project files ShortOfMemory = ⊤
+
+-- why a test of the project has no bench for this netlist of its design
+abbrev pub IsUnbenched : Project → List SourceFile → RawNetlist → PrepareError → Type 0
+IsUnbenched project files netlist (Unprepared error) = (r : Reading) × IsReading files (names_of files) project.top netlist r × IsTrialFault r 0 project.tests error
+IsUnbenched project files netlist ShortOfMemory = ⊤
+
+-- what the refusal of a netlist, or of a bench, is
+abbrev pub prepare_error : NetlistError → PrepareError
+prepare_error (Source error) = Unprepared error
+prepare_error NoMemory = ShortOfMemory
 
 -- the same, as what a call is refused for
 abbrev pub refused_as : PrepareError → Refusal
@@ -120,7 +159,6 @@ IsUnmade held (ScriptBad error) = AtProject held (ScriptBad error)
 IsUnmade held (Missing name) = IsRead held name × Lacks held name
 IsUnmade held (TooLarge name) = IsRead held name × Exceeds held name
 IsUnmade held (ReadFault name) = IsRead held name
-IsUnmade held (Unbuilt part) = AtProject held (Unbuilt part)
 IsUnmade held (SourceBad error) = AtSources held (SourceBad error)
 IsUnmade held Memory = ⊤
 

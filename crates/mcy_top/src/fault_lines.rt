@@ -34,7 +34,6 @@ pub fn fault_line(alloc: Global, outcome: &Outcome) -> Result<Bytes, AllocError>
         Outcome::KeeperFault => told(alloc, "database fault"),
         Outcome::WriteFault => told(alloc, "write fault"),
         Outcome::Memory => told(alloc, "no memory"),
-        Outcome::Unbuilt(_) => told(alloc, "not built"),
     };
     Ok(Bytes::from_vec(line?.into_bytes()))
 }

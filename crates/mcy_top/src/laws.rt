@@ -9,6 +9,8 @@ ghost use Rattle.mcy_top.specs.Calls.{CallIsALife, EarlyCallLeavesNothingNew, Su
 ghost use Rattle.mcy_top.specs.Histories.{CallsAreAHistory, CallsAreSafe, DoneRunsTellTrue, RestartsFindBooks};
 
 use mcy_keeper::Keeper;
+use sim_words::mutants_tell_the_same;
+use tb_once::{benches_have_one_outcome, designs_in_benches};
 
 /// Where the words, the files or the loaded book are a reason to refuse, the call ends with that
 /// refusal, unless reading failed or there was no memory. Files are refused for one reason, and then
@@ -27,13 +29,21 @@ pub fn campaigns_are_one()
     ensures campaign { CampaignsAreOne }
     ensures answers { AnswersAreOne }
     ensures text { FinalTextsAreOne }
-{}
+{
+    benches_have_one_outcome();
+    designs_in_benches();
+    mutants_tell_the_same();
+}
 
 /// The status text of a finished book depends on the campaign and the pairs that were given up alone:
 /// not on the order of the tests, and not on where calls were cut off.
 pub fn finished_texts_are_the_campaigns()
     ensures { FinishedTextsAreOne }
-{}
+{
+    benches_have_one_outcome();
+    designs_in_benches();
+    mutants_tell_the_same();
+}
 
 /// Over every list of lives that begins with the empty book: each book is empty or good and has no
 /// pair of mutation and test twice, nothing that was acknowledged is lost later, and a finished book

@@ -8,13 +8,6 @@ use result_book::BookError;
 use source_faults::SourceError;
 use tag_script::ScriptError;
 
-/// A form of input that is not built yet.
-#[derive(Clone, Copy, Debug, PartialEq, Eq)]
-pub enum Part {
-    /// A test is a simulation.
-    Tests,
-}
-
 /// How a call ended.
 #[derive(Drop)]
 pub enum Outcome {
@@ -48,8 +41,6 @@ pub enum Outcome {
     WriteFault,
     /// There was no memory.
     Memory,
-    /// This form of input is not built yet.
-    Unbuilt(Part),
 }
 
 /// The exit status of a program whose call ended so.
@@ -72,7 +63,6 @@ pub fn exit_status(outcome: &Outcome) -> u8
         Outcome::KeeperFault => 12,
         Outcome::WriteFault => 13,
         Outcome::Memory => 14,
-        Outcome::Unbuilt(_) => 99,
     }
 }
 
@@ -86,7 +76,6 @@ pub(crate) enum Refusal {
     TooLarge(Text),
     ReadFault(Text),
     Memory,
-    Unbuilt(Part),
 }
 
 impl Refusal {
@@ -102,7 +91,6 @@ impl Refusal {
             Refusal::TooLarge(name) => Outcome::TooLarge(name),
             Refusal::ReadFault(name) => Outcome::ReadFault(name),
             Refusal::Memory => Outcome::Memory,
-            Refusal::Unbuilt(part) => Outcome::Unbuilt(part),
         }
     }
 }

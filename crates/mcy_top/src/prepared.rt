@@ -4,17 +4,21 @@
 //! are picked of the `site_count` sites that there are.
 ghost use Rattle.std.specs.Prelude.{◌≡◌, All, IfOk, map};
 ghost use Rattle.project_file.specs.Projects.{design_files, IsProject};
-ghost use Rattle.mcy_top.specs.Projects.{AreBuilt, HasScripts};
+ghost use Rattle.project_limits.specs.Files.{all_files};
+ghost use Rattle.mcy_top.specs.Projects.{design_part, HasScripts};
+ghost use Rattle.mcy_top.specs.Trials.{AreTrials, IsReading, Reading};
 ghost use Rattle.project_sources.specs.Netlists.{HasNetlist};
 ghost use Rattle.mutation_sites.specs.Mutants.{IsSite};
 ghost use Rattle.mcy_top.specs.Limits.{IsWithinLimits};
-ghost use Rattle.mcy_top.specs.Mutations.{all_sites as sites_at};
+ghost use Rattle.mcy_top.specs.Mutations.{all_sites as sites_at, picked_sites as sites_picked};
 
 use crate::mutations::{picked_sites, site_lines, site_texts};
-use crate::project::{Scripted, test_kinds, test_names};
-use mcy_base::{Bytes, BytesList, FileList, Items, SourceFile};
+use crate::project::{Scripted, design_part, test_kinds, test_names};
+use crate::trial::TrialList;
+use mcy_base::{Bytes, BytesList, FileList, Items, SourceFile, Text};
 use mutation_sites::Site;
-use project_file::TestPlan;
+use netlist_core::Netlist;
+use project_file::{Project, TestPlan};
 use project_sources::CheckedNetlist;
 use result_book::{Campaign, NumberList};
 use std::alloc::{AllocError, Global};
@@ -35,9 +39,13 @@ pub struct Prepared {
     pub site_count: usize,
     pub sites: SiteList,
     pub netlist: CheckedNetlist,
-    /// How many lemmas an equivalence test may add.
+    /// The tests in the order of the project, how many lemmas an equality may add, how many cycles a simulation may take, and where
+    /// `$random` begins.
+    pub trials: TrialList,
     pub conflicts: u32,
-    /// The sources in the order of reading.
+    pub cycles: u32,
+    pub word_seed: u64,
+    /// The sources of the design in the order of reading.
     pub files: FileList,
 }
 
@@ -66,6 +74,38 @@ fn make_meta(alloc: Global, config: &[u8], files: &[SourceFile]) -> Result<Bytes
     Ok(BytesList::from_vec(meta))
 }
 
+/// A copy of a file.
+fn copy_file(alloc: Global, file: &SourceFile) -> Result<SourceFile, AllocError>
+    ensures { IfOk result (λ copy. copy ≡ file.now) }
+{
+    Ok(SourceFile {
+        name: Text::copy(alloc, file.name.as_str())?,
+        bytes: Bytes::copy(alloc, file.bytes.as_slice())?,
+    })
+}
+
+/// Copies of the files.
+fn copy_files(alloc: Global, files: &[SourceFile]) -> Result<FileList, AllocError>
+    ensures { IfOk result (λ copies. copies ≡ files.now) }
+{
+    let mut copies = Vec::new(alloc);
+    for file in files {
+        copies.push(copy_file(alloc, file)?)?;
+    }
+    Ok(FileList::from_vec(copies))
+}
+
+/// Copies of the files of the design, which stand first.
+fn design_copies(
+    alloc: Global,
+    project: &Project,
+    files: &[SourceFile],
+) -> Result<FileList, AllocError>
+    ensures { IfOk result (λ copies. copies ≡ design_part project.now files.now) }
+{
+    copy_files(alloc, design_part(alloc, project, files)?)
+}
+
 /// The words that are expected of each test.
 fn expected(alloc: Global, tests: &[TestPlan]) -> Result<NumberList, AllocError>
     ensures { IfOk result (λ list. list ≡ map (λ test. test.expect) tests.now) }
@@ -73,50 +113,73 @@ fn expected(alloc: Global, tests: &[TestPlan]) -> Result<NumberList, AllocError>
     Ok(NumberList::from_vec(tests.iter().map(|test| test.expect).collect(alloc)?))
 }
 
-/// The campaign of a project with its scripts and its sources, which are built, from their netlist and all sites that it has.
-pub(crate) fn make_campaign(
+/// What the book and the texts are made of: a project with its scripts, its sources and the sites that are picked of their netlist.
+fn new_campaign(
     alloc: Global,
     config: &[u8],
     taken: Scripted,
-    files: FileList,
-    checked: CheckedNetlist,
-    all: &[Site],
-) -> Result<Prepared, AllocError>
-    requires says { IsProject config.now taken.project }
-    requires tests { AreBuilt taken.project }
-    requires scripts { HasScripts taken.project taken.script taken.report }
-    requires names { names_of files ≡ design_files taken.project }
-    requires design { HasNetlist files taken.project.top checked }
-    requires sites { all.now ≡ sites_at taken.project checked }
-    requires placed { All (IsSite checked) all.now }
-    requires few { IsWithinLimits taken.project checked }
-    ensures { IfOk result (λ prepared. IsPrepared config.now files prepared) }
+    files: &[SourceFile],
+    netlist: &Netlist,
+    sites: &[Site],
+) -> Result<Campaign, AllocError>
+    requires sites { sites.now ≡ sites_picked taken.project netlist.now.raw }
+    requires placed { All (IsSite netlist.now.raw) sites.now }
+    ensures { IfOk result (λ campaign. campaign ≡ campaign_of config.now taken.project taken.script taken.report files.now netlist.now.raw) }
 {
     let Scripted {
         project,
         script,
         report,
     } = taken;
-    let netlist = checked.netlist();
-    let sites = picked_sites(alloc, &project, netlist, all)?;
     let tests = project.tests.as_slice();
-    let campaign = Campaign {
-        meta: make_meta(alloc, config, files.as_slice())?,
-        mutations: site_texts(alloc, netlist, files.as_slice(), &sites)?,
-        lines: site_lines(alloc, netlist, &sites)?,
+    Ok(Campaign {
+        meta: make_meta(alloc, config, files)?,
+        mutations: site_texts(alloc, netlist, files, sites)?,
+        lines: site_lines(alloc, netlist, sites)?,
         test_names: test_names(alloc, tests)?,
         kinds: test_kinds(alloc, tests)?,
         expect: expected(alloc, tests)?,
         tags: project.tags,
         script,
         report,
-    };
+    })
+}
+
+/// The campaign of a project with its scripts and its sources, from their netlist, the tests as they are run and all sites of the netlist.
+pub(crate) fn make_campaign(
+    alloc: Global,
+    config: &[u8],
+    taken: Scripted,
+    files: &[SourceFile],
+    checked: CheckedNetlist,
+    trials: TrialList,
+    all: &[Site],
+) -> Result<Prepared, AllocError>
+    requires says { IsProject config.now taken.project }
+    requires scripts { HasScripts taken.project taken.script taken.report }
+    requires names { names_of files.now ≡ all_files taken.project }
+    requires design { HasNetlist (design_part taken.project files.now) taken.project.top checked }
+    requires trials { (r : Reading) × IsReading files.now (names_of files.now) taken.project.top checked r × AreTrials r taken.project.tests trials }
+    requires sites { all.now ≡ sites_at taken.project checked }
+    requires placed { All (IsSite checked) all.now }
+    requires few { IsWithinLimits taken.project checked }
+    ensures { IfOk result (λ prepared. IsPrepared config.now files.now prepared) }
+{
+    let design = design_copies(alloc, &taken.project, files)?;
+    let sites = picked_sites(alloc, &taken.project, checked.netlist(), all)?;
+    let conflicts = taken.project.conflicts;
+    let cycles = taken.project.cycles;
+    let word_seed = taken.project.word_seed;
+    let campaign = new_campaign(alloc, config, taken, files, checked.netlist(), &sites)?;
     Ok(Prepared {
         campaign,
         site_count: all.len(),
         sites: SiteList::from_vec(sites),
         netlist: checked,
-        conflicts: project.conflicts,
-        files,
+        trials,
+        conflicts,
+        cycles,
+        word_seed,
+        files: design,
     })
 }

@@ -1,12 +1,13 @@
-//! A project that is built, with its tag script and its report.
-ghost use Rattle.std.specs.Prelude.{◌≡◌, ◌≢◌, ◌↔◌, IfErr, IfOk, IsTrue, MatchOption, map};
-ghost use Rattle.std.specs.List.{All};
+//! A project with its tag script and its report, and the files that it reads.
+ghost use Rattle.std.specs.Prelude.{◌≡◌, ◌≢◌, ◌↔◌, IfErr, IfOk, IsTrue, OnOk, map};
+ghost use Rattle.project_file.specs.Words.{is_among};
+ghost use Rattle.project_file.specs.Paths.{with_name, with_names};
 ghost use Rattle.project_file.specs.declared.project.TestKind.TheVariants.{Eq};
 ghost use Rattle.tag_script.specs.Checks.{Reads};
-ghost use Rattle.mcy_top.specs.Projects.{AreBuilt, HasEquality, HasScripts, IsScriptFault, IsUnbuilt, kind_of, logic_read};
+ghost use Rattle.project_limits.specs.Files.{all_files, kind_files};
+ghost use Rattle.mcy_top.specs.Projects.{design_part, HasEquality, HasScripts, IsScriptFault, kind_of, logic_read};
 
-use crate::outcome::Part;
-use mcy_base::{Text, TextList};
+use mcy_base::{SourceFile, Text, TextList};
 use project_file::{Project, TestKind, TestPlan};
 use report_script::{Report, read_report};
 use result_book::{EQ_KIND, NumberList, SIM_KIND};
@@ -34,22 +35,68 @@ pub(crate) fn has_equality(project: &Project) -> bool
     project.tests.as_slice().iter().any(is_equal)
 }
 
-/// Whether each of the tests compares the mutant with the design.
-fn are_equal(tests: &[TestPlan]) -> bool
-    ensures { IsTrue result ↔ All (λ test. test.kind ≡ Eq) tests.now }
+/// Whether a name stands in the list.
+fn is_among(name: &str, names: &[&str]) -> bool
+    ensures { result ≡ is_among name.now (map (λ n. n.now) names.now) }
 {
-    tests.iter().all(is_equal)
+    names.iter().any(|known| *known == name)
 }
 
-/// The first part of the project that is not built, or nothing where the project is.
-pub(crate) fn unbuilt_part(project: &Project) -> Option<Part>
-    ensures { MatchOption result (AreBuilt project.now) (λ part. IsUnbuilt project.now part) }
+/// Adds a file's name, if it is not there.
+#[tactic(auto, unfolding(project_file::specs::Paths::with_name))]
+fn add_name<'a>(names: &mut Vec<&'a str>, name: &'a str) -> Result<(), AllocError>
+    ensures { OnOk result (map (λ n. n.now) names.new.items ≡ with_name (map (λ n. n.now) names.old.items) name.now) }
 {
-    if are_equal(project.tests.as_slice()) {
-        None
-    } else {
-        Some(Part::Tests)
+    if !is_among(name, names) {
+        names.push(name)?;
     }
+    Ok(())
+}
+
+/// Adds the names of a list of files, each once.
+#[tactic(auto, using(crate::proofs::Naming::names_none, crate::proofs::Naming::names_push_one))]
+fn add_names<'a>(names: &mut Vec<&'a str>, more: &'a [Text]) -> Result<(), AllocError>
+    ensures { OnOk result (map (λ n. n.now) names.new.items ≡ with_names (map (λ n. n.now) names.old.items) more.now) }
+{
+    for name in more {
+        add_name(names, name.as_str())?;
+    }
+    Ok(())
+}
+
+/// Adds the names of a test's files, each once.
+#[tactic(auto, using(crate::proofs::Naming::names_none))]
+fn add_test<'a>(names: &mut Vec<&'a str>, test: &'a TestPlan) -> Result<(), AllocError>
+    ensures { OnOk result (map (λ n. n.now) names.new.items ≡ with_names (map (λ n. n.now) names.old.items) (kind_files test.now.kind)) }
+{
+    match &test.kind {
+        TestKind::Eq => Ok(()),
+        TestKind::Sim { files, .. } => add_names(names, files.as_slice()),
+    }
+}
+
+/// The files that are read: those of the design, and behind them those of the tests, each once.
+#[tactic(auto, using(crate::proofs::Naming::names_none, crate::proofs::Naming::names_push_test))]
+pub(crate) fn all_files(alloc: Global, project: &Project) -> Result<Vec<&str>, AllocError>
+    ensures { IfOk result (λ names. map (λ name. name.now) names.items ≡ all_files project.now) }
+{
+    let mut names = project.design_files(alloc)?;
+    for test in project.tests.as_slice() {
+        add_test(&mut names, test)?;
+    }
+    Ok(names)
+}
+
+/// Of the files that a project reads, those of its design, which stand first.
+pub(crate) fn design_part<'a>(
+    alloc: Global,
+    project: &Project,
+    files: &'a [SourceFile],
+) -> Result<&'a [SourceFile], AllocError>
+    ensures { IfOk result (λ part. part.now ≡ design_part project.now files.now) }
+{
+    let count = project.design_files(alloc)?.len().min(files.len());
+    Ok(&files[..count])
 }
 
 /// The names of tests.

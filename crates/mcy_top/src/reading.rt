@@ -1,19 +1,19 @@
 //! The campaign of what the files hold.
 //!
-//! The project file is read first, and has to be a project that is built. Then all files of its design are read, in their
-//! order and each once, and then they are judged.
+//! The project file is read first, and has to be a project with scripts. Then all files of its design and of its tests are
+//! read, in their order and each once, and then they are judged.
 ghost use Rattle.std.specs.Prelude.{◌≡◌, ◌≤◌, length, map, All, IfOk, IfErr};
 ghost use Rattle.mcy_base.specs.Causes.{Rose};
-ghost use Rattle.project_file.specs.Projects.{design_files, IsProject};
+ghost use Rattle.project_file.specs.Projects.{IsProject};
 ghost use Rattle.mcy_top.specs.Limits.{max_bytes};
-ghost use Rattle.mcy_top.specs.Projects.{AreBuilt, HasScripts, IsBuilt};
+ghost use Rattle.mcy_top.specs.Projects.{HasScripts, IsScripted};
 ghost use Rattle.mcy_top.specs.Campaigns.{config_name, Got, GotAll, IsMade};
 ghost use Rattle.mcy_top.specs.Reads.{IsUnmade, IsUnread, IsUnreadAmong, IsUntaken, HasReadCause, HasProject, GotSources};
 
 use crate::outcome::Refusal;
 use crate::prepared::{CONFIG_NAME, MAX_BYTES, Prepared};
 use crate::preparing::prepare;
-use crate::project::{Scripted, scripts_of, unbuilt_part};
+use crate::project::{Scripted, all_files, scripts_of};
 use mcy_base::{Bytes, FileList, SourceFile, Text};
 use mcy_outside::{FileError, SourceFiles};
 use project_file::{Project, ProjectError, read_project};
@@ -48,19 +48,15 @@ fn read_file<F: SourceFiles>(alloc: Global, files: &mut F, name: &str) -> Result
     }
 }
 
-/// The project with its scripts, if it is built.
-#[tactic(auto, using(crate::proofs::Takes::built_of))]
+/// The project with its scripts.
+#[tactic(auto, using(crate::proofs::Takes::scripted_of))]
 fn take_scripts(alloc: Global, config: &[u8], project: Project) -> Result<Scripted, Refusal>
     requires { IsProject config.now project }
     ensures says { IfOk result (λ taken. IsProject config.now taken.project) }
-    ensures tests { IfOk result (λ taken. AreBuilt taken.project) }
-    ensures built { IfOk result (λ taken. IsBuilt taken.project) }
+    ensures scripted { IfOk result (λ taken. IsScripted taken.project) }
     ensures scripts { IfOk result (λ taken. HasScripts taken.project taken.script taken.report) }
     ensures refused { IfErr result (IsUntaken config.now) }
 {
-    if let Some(part) = unbuilt_part(&project) {
-        return Err(Refusal::Unbuilt(part));
-    }
     match scripts_of(alloc, &project) {
         Ok((script, report)) => Ok(Scripted {
             project,
@@ -72,12 +68,11 @@ fn take_scripts(alloc: Global, config: &[u8], project: Project) -> Result<Script
     }
 }
 
-/// The project that the bytes say, which is built, with its scripts.
+/// The project that the bytes say, with its scripts.
 fn take_project(alloc: Global, config: &[u8]) -> Result<Scripted, Refusal>
     requires { length config.now ≤ max_bytes }
     ensures says { IfOk result (λ taken. IsProject config.now taken.project) }
-    ensures tests { IfOk result (λ taken. AreBuilt taken.project) }
-    ensures built { IfOk result (λ taken. IsBuilt taken.project) }
+    ensures scripted { IfOk result (λ taken. IsScripted taken.project) }
     ensures scripts { IfOk result (λ taken. HasScripts taken.project taken.script taken.report) }
     ensures refused { IfErr result (IsUntaken config.now) }
 {
@@ -88,13 +83,12 @@ fn take_project(alloc: Global, config: &[u8]) -> Result<Scripted, Refusal>
     }
 }
 
-/// The project file's bytes, and the project that they say, which is built, with its scripts.
+/// The project file's bytes, and the project that they say, with its scripts.
 fn read_config<F: SourceFiles>(alloc: Global, files: &mut F) -> Result<(Vec<u8>, Scripted), Refusal>
     ensures same { F.held files.new ≡ F.held files.old }
     ensures got { IfOk result (λ read. Got (F.held files.old) config_name read.0.items) }
     ensures says { IfOk result (λ read. IsProject read.0.items read.1.project) }
-    ensures tests { IfOk result (λ read. AreBuilt read.1.project) }
-    ensures built { IfOk result (λ read. IsBuilt read.1.project) }
+    ensures scripted { IfOk result (λ read. IsScripted read.1.project) }
     ensures scripts { IfOk result (λ read. HasScripts read.1.project read.1.script read.1.report) }
     ensures refused { IfErr result (IsUnmade (F.held files.old)) }
     ensures later { F.faults files.old ≤ F.faults files.new }
@@ -148,7 +142,7 @@ fn read_files<F: SourceFiles>(
     Ok(read)
 }
 
-/// All files of the project's design, once the project is read.
+/// All files of the project, once it is read.
 fn read_sources<F: SourceFiles>(
     alloc: Global,
     files: &mut F,
@@ -162,7 +156,7 @@ fn read_sources<F: SourceFiles>(
     ensures later { F.faults files.old ≤ F.faults files.new }
     ensures cause { IfErr result (HasReadCause (F.faults files.old) (F.faults files.new)) }
 {
-    let names = project.design_files(alloc)?;
+    let names = all_files(alloc, project)?;
     read_files(alloc, files, &names)
 }
 
@@ -184,5 +178,5 @@ pub(crate) fn read_campaign<F: SourceFiles>(
         script,
         report,
     } = taken;
-    Ok(prepare(alloc, project, script, report, sources, &config)?)
+    Ok(prepare(alloc, project, script, report, sources.as_slice(), &config)?)
 }

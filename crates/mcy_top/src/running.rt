@@ -1,5 +1,8 @@
 //! The run of a campaign over its keeper: a test, its row in the book, and the next test.
-ghost use Rattle.std.specs.Prelude.{◌≡◌, ◌⊎◌, ◌+◌, ◌<◌, ◌≤◌, IsTrue, IfOk, OnOk, OnErr, IsErrOf, length};
+ghost use Rattle.std.specs.Prelude.{◌≡◌, ◌⊎◌, ◌+◌, ◌<◌, ◌≤◌, IsTrue, IfOk, OnOk, OnErr, IsErrOf, Some, length, slice_get};
+ghost use Rattle.netlist_core.specs.Checked.{IsSound};
+ghost use Rattle.mcy_top.specs.declared.trial.Trial.TheVariants.{Equality};
+ghost use Rattle.mcy_top.specs.Rows.{IsBrokenAt};
 ghost use Rattle.mcy_base.specs.Causes.{Rose};
 ghost use Rattle.mcy_keeper.specs.Books.{Keeps};
 ghost use Rattle.tag_script.specs.declared.answer.Ask.TheVariants.{Need};
@@ -11,11 +14,14 @@ ghost use Rattle.mcy_top.specs.Commands.{IsWithin};
 ghost use Rattle.mcy_top.specs.Rows.{IsRightWord};
 ghost use Rattle.mcy_top.specs.Running.{book_of, AddsRow, Broke, LeavesNext, Ran, Reached};
 
-use crate::equality::{find_verdict, word_of};
+use crate::equality;
 use crate::prepared::Prepared;
+use crate::simulation::{self, Question};
+use crate::trial::Trial;
 use mcy_base::Steps;
 use mcy_keeper::{KeepError, Keeper};
 use mutation_sites::mutate;
+use netlist_core::Netlist;
 use pair_gates::mutants_are_accepted;
 use result_book::{State, TestWord};
 use std::alloc::{AllocError, Global};
@@ -31,12 +37,25 @@ pub(crate) struct Tester<'a> {
 }
 
 impl Tester<'_> {
-    /// The word of the equivalence test on a mutation.
-    fn run_test(&self, mutation: u32) -> Result<TestWord, AllocError>
+    /// The mutant of a mutation.
+    fn mutant(&self, mutation: u32) -> Result<Netlist, AllocError>
         requires plan { IsPlan self.now.prepared.now }
-        requires tested { 0 < length self.now.prepared.now.campaign.kinds }
         requires mutation { mutation < length self.now.prepared.now.campaign.mutations }
-        ensures { IfOk result (λ word. IsRightWord self.now.prepared.now mutation (word_code word)) }
+        ensures sound { IfOk result IsSound }
+        ensures broken { IfOk result (λ mutant. IsBrokenAt self.now.prepared.now mutation mutant.raw) }
+    {
+        let site = &self.prepared.sites.as_slice()[mutation as usize];
+        mutate(self.alloc, self.prepared.netlist.netlist(), site)
+    }
+
+    /// The word of an equivalence test on a mutation, whose mutant is this.
+    fn compare(&self, mutation: u32, test: u32, mutant: &Netlist) -> Result<TestWord, AllocError>
+        requires plan { IsPlan self.now.prepared.now }
+        requires asked { slice_get self.now.prepared.now.trials test ≡ Some Equality }
+        requires mutation { mutation < length self.now.prepared.now.campaign.mutations }
+        requires sound { IsSound mutant.now }
+        requires broken { IsBrokenAt self.now.prepared.now mutation mutant.now.raw }
+        ensures { IfOk result (λ word. IsRightWord self.now.prepared.now mutation test (word_code word)) }
     {
         // By these laws the mutant has clauses beside the netlist, and their verdict is one on the mutation.
         mutants_are_accepted();
@@ -44,10 +63,34 @@ impl Tester<'_> {
         let netlist = self.prepared.netlist.netlist();
         // By its clauses the netlist is sound.
         let _parts = netlist.raw();
-        let site = &self.prepared.sites.as_slice()[mutation as usize];
-        let mutant = mutate(self.alloc, netlist, site)?;
-        let verdict = find_verdict(self.alloc, netlist, &mutant, self.prepared.conflicts)?;
-        Ok(word_of(&verdict))
+        let verdict = equality::find_verdict(self.alloc, netlist, mutant, self.prepared.conflicts)?;
+        Ok(equality::word_of(&verdict))
+    }
+
+    /// The word of a test on a mutation.
+    fn run_test(&self, mutation: u32, test: u32) -> Result<TestWord, AllocError>
+        requires plan { IsPlan self.now.prepared.now }
+        requires test { test < length self.now.prepared.now.trials }
+        requires mutation { mutation < length self.now.prepared.now.campaign.mutations }
+        ensures { IfOk result (λ word. IsRightWord self.now.prepared.now mutation test (word_code word)) }
+    {
+        let mutant = self.mutant(mutation)?;
+        match &self.prepared.trials.as_slice()[test as usize] {
+            Trial::Equality => self.compare(mutation, test, &mutant),
+            Trial::Simulation { bench, pass, fail } => {
+                // By its clauses the bench can run.
+                let _parts = bench.parts();
+                let asked = Question {
+                    bench,
+                    pass: pass.as_slice(),
+                    fail: fail.as_slice(),
+                    cycles: self.prepared.cycles,
+                    word_seed: self.prepared.word_seed,
+                };
+                let verdict = simulation::find_verdict(self.alloc, asked, mutant)?;
+                Ok(simulation::word_of(verdict))
+            }
+        }
     }
 
     /// Runs the test that the script needs on a mutation, and adds its row to the kept book and to the state.
@@ -76,7 +119,7 @@ impl Tester<'_> {
         ensures cause { IsErrOf result KeepError.Fault → Rose (K.faults keeper.old) (K.faults keeper.new) }
     {
         steps.tick();
-        let word = self.run_test(mutation)?.code();
+        let word = self.run_test(mutation, test)?.code();
         state.reserve(1)?;
         let entry = state.entry_for(&self.prepared.campaign, mutation, test, word);
         keeper.append(&entry)?;

@@ -1,5 +1,5 @@
 -- Rows of a good book have right words, at the sites of their mutations.
-use Rattle.std.proofs.Common.{◌≡◌, inl, inr, ℕ, zero, suc, ◌<◌, ◌^◌, List, [], ◌∷◌, length, Option, None, Some, refl, subst, arith}
+use Rattle.std.proofs.Common.{◌≡◌, ◌⊎◌, inl, inr, ℕ, zero, suc, ◌<◌, ◌^◌, List, [], ◌∷◌, length, Option, None, Some, refl, subst, arith}
 use Rattle.std.specs.Prelude.{slice_get, slice_index_or}
 use Rattle.std.specs.List.{Contains}
 use Rattle.netlist_core.specs.declared.raw.RawNetlist.{RawNetlist}
@@ -13,64 +13,84 @@ use Rattle.pair_gates.specs.Copies.{pair_clauses}
 use Rattle.result_book.specs.declared.script.TestWord.TheVariants.{Pass, Fail, Unknown}
 use Rattle.result_book.specs.Scripts.{word_code}
 use Rattle.mcy_top.specs.declared.prepared.Prepared.{Prepared}
+use Rattle.tb_bench.specs.declared.parts.Parts.{Parts}
+use Rattle.tb_turns.specs.declared.verdict.SimVerdict.{SimVerdict}
+use Rattle.tb_turns.specs.declared.verdict.SimVerdict.TheVariants as v
+use Rattle.mcy_top.specs.declared.trial.Trial.{Trial}
+use Rattle.mcy_top.specs.declared.trial.Trial.TheVariants.{Equality, Simulation}
+use Rattle.mcy_top.specs.Simulated.{told_verdict}
 use Rattle.mcy_top.specs.GivenUp.{HasAttempt}
 use Rattle.mcy_top.specs.Rows.{AreRight, IsGivenUpAt, IsRightWord, IsTrueWordAt}
-use Rattle.row_laws.specs.Laws.{FailsDiffer, IsOfMutant, PassesAreAlike, UnknownsAreLong}
+use Rattle.row_laws.specs.Laws.{FailsDiffer, IsOfEquality, IsOfMutant, PassesAreAlike, SaysOfMutant, SimulationsAreSaid, UnknownsAreLong}
 
-right_at : (c : Prepared) (rows : List Entry) (row : Entry) (k : ℕ) → k < length rows → slice_index_or rows k row ≡ row → AreRight c rows → IsRightWord c row.mutation row.word
+right_at : (c : Prepared) (rows : List Entry) (row : Entry) (k : ℕ) → k < length rows → slice_index_or rows k row ≡ row → AreRight c rows → IsRightWord c row.mutation row.test row.word
 right_at c [] row k less is h = absurd (omega (arith, less))
-right_at c (e ∷ more) row zero less is h = subst (λ (x : Entry). IsRightWord c x.mutation x.word) is h.0
+right_at c (e ∷ more) row zero less is h = subst (λ (x : Entry). IsRightWord c x.mutation x.test x.word) is h.0
 right_at c (e ∷ more) row (suc k) less is h = right_at c more row k (omega (arith, less)) is h.1
 
-right_row : (c : Prepared) (rows : List Entry) (row : Entry) → Contains rows row → AreRight c rows → IsRightWord c row.mutation row.word
+right_row : (c : Prepared) (rows : List Entry) (row : Entry) → Contains rows row → AreRight c rows → IsRightWord c row.mutation row.test row.word
 right_row c rows row (k, less, is) h = right_at c rows row k less is h
 
--- a word that is given up is UNKNOWN
-given_up_is : (netlist : RawNetlist) (site : Option Site) (limit word : ℕ) → IsGivenUpAt netlist site limit word → word ≡ word_code Unknown
-given_up_is netlist None limit word given = absurd given
-given_up_is netlist (Some site) limit word given = given.0
+-- a word of a test on a site, true or given up
+abbrev IsRightAt : Prepared → ℕ → Option Site → Option Trial → ℕ → Type 0
+IsRightAt c test o t word = IsTrueWordAt c test o t word ⊎ IsGivenUpAt c o t word
 
-pass_at : OneStepEqualityLasts → (c : Prepared) (number word : ℕ) (o : Option Site) → slice_get c.sites number ≡ o → IsTrueWordAt c.netlist o word → word ≡ word_code Pass → IsOfMutant c number EqualOnAllRuns
-pass_at lasts c number word None placed h is = absurd h
-pass_at lasts c number word (Some site) placed (inl h) is = record { site = site; placed = placed; is = lasts (design c.netlist) (mutant c.netlist site) h.1 }
-pass_at lasts c number word (Some site) placed (inr h) is = let other = h.0 in absurd (omega (arith, is, other))
+-- that of an equality
+right_equality : (c : Prepared) (row : Entry) → IsOfEquality c row → IsRightWord c row.mutation row.test row.word → IsRightAt c row.test (slice_get c.sites row.mutation) (Some Equality) row.word
+right_equality c row at right = subst (λ (t : Option Trial). IsRightAt c row.test (slice_get c.sites row.mutation) t row.word) at right
 
-pass_word : OneStepEqualityLasts → (c : Prepared) (number word : ℕ) → IsRightWord c number word → word ≡ word_code Pass → IsOfMutant c number EqualOnAllRuns
-pass_word lasts c number word (inl h) is = pass_at lasts c number word (slice_get c.sites number) refl h is
-pass_word lasts c number word (inr h) is = let other = given_up_is c.netlist (slice_get c.sites number) c.conflicts word h in absurd (omega (arith, is, other))
+pass_at : OneStepEqualityLasts → (c : Prepared) (test number word : ℕ) (o : Option Site) → slice_get c.sites number ≡ o → IsRightAt c test o (Some Equality) word → word ≡ word_code Pass → IsOfMutant c number EqualOnAllRuns
+pass_at lasts c test number word None placed (inl h) is = absurd h
+pass_at lasts c test number word None placed (inr h) is = absurd h
+pass_at lasts c test number word (Some site) placed (inl (inl h)) is = record { site = site; placed = placed; is = lasts (design c.netlist) (mutant c.netlist site) h.1 }
+pass_at lasts c test number word (Some site) placed (inl (inr h)) is = let other = h.0 in absurd (omega (arith, is, other))
+pass_at lasts c test number word (Some site) placed (inr h) is = let other = h.0 in absurd (omega (arith, is, other))
 
 pub passes_alike : OneStepEqualityLasts → PassesAreAlike
-passes_alike lasts book good row has is = pass_word lasts good.prepared row.mutation row.word (right_row good.prepared book.journal row has good.words_right) is
+passes_alike lasts book good row has at is = pass_at lasts good.prepared row.test row.mutation row.word (slice_get good.prepared.sites row.mutation) refl (right_equality good.prepared row at (right_row good.prepared book.journal row has good.words_right)) is
 
-fail_at : (c : Prepared) (number word : ℕ) (o : Option Site) → slice_get c.sites number ≡ o → IsTrueWordAt c.netlist o word → word ≡ word_code Fail → IsOfMutant c number (λ a b. ¬ OneStepEqual a b)
-fail_at c number word None placed h is = absurd h
-fail_at c number word (Some site) placed (inl h) is = let other = h.0 in absurd (omega (arith, is, other))
-fail_at c number word (Some site) placed (inr h) is = record { site = site; placed = placed; is = h.1 }
-
-fail_word : (c : Prepared) (number word : ℕ) → IsRightWord c number word → word ≡ word_code Fail → IsOfMutant c number (λ a b. ¬ OneStepEqual a b)
-fail_word c number word (inl h) is = fail_at c number word (slice_get c.sites number) refl h is
-fail_word c number word (inr h) is = let other = given_up_is c.netlist (slice_get c.sites number) c.conflicts word h in absurd (omega (arith, is, other))
+fail_at : (c : Prepared) (test number word : ℕ) (o : Option Site) → slice_get c.sites number ≡ o → IsRightAt c test o (Some Equality) word → word ≡ word_code Fail → IsOfMutant c number (λ a b. ¬ OneStepEqual a b)
+fail_at c test number word None placed (inl h) is = absurd h
+fail_at c test number word None placed (inr h) is = absurd h
+fail_at c test number word (Some site) placed (inl (inl h)) is = let other = h.0 in absurd (omega (arith, is, other))
+fail_at c test number word (Some site) placed (inl (inr h)) is = record { site = site; placed = placed; is = h.1 }
+fail_at c test number word (Some site) placed (inr h) is = let other = h.0 in absurd (omega (arith, is, other))
 
 pub fails_differ : FailsDiffer
-fails_differ book good row has is = fail_word good.prepared row.mutation row.word (right_row good.prepared book.journal row has good.words_right) is
+fails_differ book good row has at is = fail_at good.prepared row.test row.mutation row.word (slice_get good.prepared.sites row.mutation) refl (right_equality good.prepared row at (right_row good.prepared book.journal row has good.words_right)) is
 
 -- an attempt is shorter than 3 ^ k
 attempt_short : (netlist : RawNetlist) (site : Site) (limit : ℕ) → HasAttempt netlist site limit → limit < 3 ^ free_bits netlist
 attempt_short netlist site limit has =
     subst (λ (n : ℕ). n < 3 ^ free_bits netlist) has.attempt.count (short_log (pair_clauses has.original has.mutated) (free_bits netlist) has.lemmas has.attempt.legal has.attempt.none_empty)
 
-true_is_known : (netlist : RawNetlist) (o : Option Site) (word : ℕ) → IsTrueWordAt netlist o word → ¬ (word ≡ word_code Unknown)
-true_is_known netlist None word h is = absurd h
-true_is_known netlist (Some site) word (inl h) is = let pass = h.0 in absurd (omega (arith, pass, is))
-true_is_known netlist (Some site) word (inr h) is = let fail = h.0 in absurd (omega (arith, fail, is))
+-- a simulation never says UNKNOWN
+said_known : (verdict : SimVerdict) (word : ℕ) → word ≡ told_verdict verdict → ¬ (word ≡ word_code Unknown)
+said_known v.Pass word told is = absurd (omega (arith, told, is))
+said_known v.Fail word told is = absurd (omega (arith, told, is))
+said_known v.Hang word told is = absurd (omega (arith, told, is))
 
-given_up_short : (netlist : RawNetlist) (o : Option Site) (limit word : ℕ) → IsGivenUpAt netlist o limit word → limit < 3 ^ free_bits netlist
-given_up_short netlist None limit word given = absurd given
-given_up_short netlist (Some site) limit word given = attempt_short netlist site limit given.1
-
-unknown_word : (c : Prepared) (number word : ℕ) → IsRightWord c number word → word ≡ word_code Unknown → c.conflicts < 3 ^ free_bits c.netlist
-unknown_word c number word (inl h) is = absurd (true_is_known c.netlist (slice_get c.sites number) word h is)
-unknown_word c number word (inr h) is = given_up_short c.netlist (slice_get c.sites number) c.conflicts word h
+unknown_at : (c : Prepared) (test word : ℕ) (o : Option Site) (t : Option Trial) → IsRightAt c test o t word → word ≡ word_code Unknown → c.conflicts < 3 ^ free_bits c.netlist
+unknown_at c test word None t (inl h) is = absurd h
+unknown_at c test word None t (inr h) is = absurd h
+unknown_at c test word (Some site) None (inl h) is = absurd h
+unknown_at c test word (Some site) None (inr h) is = absurd h
+unknown_at c test word (Some site) (Some Equality) (inl (inl h)) is = let other = h.0 in absurd (omega (arith, is, other))
+unknown_at c test word (Some site) (Some Equality) (inl (inr h)) is = let other = h.0 in absurd (omega (arith, is, other))
+unknown_at c test word (Some site) (Some Equality) (inr h) is = attempt_short c.netlist site c.conflicts h.1
+unknown_at c test word (Some site) (Some (Simulation bench pass fail)) (inl h) is = absurd (said_known h.said.verdict word h.said.word_is is)
+unknown_at c test word (Some site) (Some (Simulation bench pass fail)) (inr h) is = absurd h
 
 pub unknowns_long : UnknownsAreLong
-unknowns_long book good row has is = unknown_word good.prepared row.mutation row.word (right_row good.prepared book.journal row has good.words_right) is
+unknowns_long book good row has is = unknown_at good.prepared row.test row.word (slice_get good.prepared.sites row.mutation) (slice_get good.prepared.trials row.test) (right_row good.prepared book.journal row has good.words_right) is
+
+said_at : (c : Prepared) (test number word : ℕ) (bench : Parts) (pass fail : List ℕ) (o : Option Site) → slice_get c.sites number ≡ o → IsRightAt c test o (Some (Simulation bench pass fail)) word → SaysOfMutant c test number word
+said_at c test number word bench pass fail None placed (inl h) = absurd h
+said_at c test number word bench pass fail None placed (inr h) = absurd h
+said_at c test number word bench pass fail (Some site) placed (inl h) = record { site = site; placed = placed; is = h }
+said_at c test number word bench pass fail (Some site) placed (inr h) = absurd h
+
+pub simulations_said : SimulationsAreSaid
+simulations_said book good row bench pass fail has at =
+    let right = right_row good.prepared book.journal row has good.words_right in
+    said_at good.prepared row.test row.mutation row.word bench pass fail (slice_get good.prepared.sites row.mutation) refl (subst (λ (t : Option Trial). IsRightAt good.prepared row.test (slice_get good.prepared.sites row.mutation) t row.word) at right)

@@ -1,5 +1,6 @@
+use Rattle.mcy_top.proofs.Simulating.{benches_say_once}
 use Rattle.mcy_top.proofs.Once.{finished_text_once}
 use Rattle.mcy_top.proofs.laws.finished_texts_are_the_campaigns.Goals as goal
 
 pub returns : goal.returns
-returns c = finished_text_once
+returns c = finished_text_once (benches_say_once c.benches_have_one_outcome.ensures c.designs_in_benches.ensures.settings c.designs_in_benches.ensures.starts c.mutants_tell_the_same.ensures)

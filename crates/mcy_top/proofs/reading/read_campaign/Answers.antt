@@ -12,8 +12,9 @@ pub returns-in_err-prepare-clause-refused : goal.returns-in_err-prepare-clause-r
 returns-in_err-prepare-clause-refused g c =
     let held : Option Held = g.F.SourceFiles.held c.args.files.now in
     let project : Project = c.in_ok-config.taken.project in
-    let read : List SourceFile = c.in_ok-sources.sources in
-    let first : GotSources held project read = subst (λ (h : Option Held). GotSources h project read) c.in_ok-config.ensures.same c.in_ok-sources.ensures.got in
+    let read : List SourceFile = c.as_slice.result.now in
+    let files : GotSources (g.F.SourceFiles.held c.read_config.new.files) project read = subst (λ (fs : List SourceFile). GotSources (g.F.SourceFiles.held c.read_config.new.files) project fs) (sym c.as_slice.ensures) c.in_ok-sources.ensures.got in
+    let first : GotSources held project read = subst (λ (h : Option Held). GotSources h project read) c.in_ok-config.ensures.same files in
     let p = err_from_is_err_and c.from_residual-in_err-prepare.result c.from_residual-in_err-prepare.ensures.1 in
     rw (p.1, p.2) (untaken_unmade held project read (refused_as c.in_err-prepare.field-0.0) first (unprepared_untaken project read c.in_err-prepare.field-0.0 c.in_err-prepare.ensures.refused))
 
@@ -21,7 +22,8 @@ pub returns-clause-made : goal.returns-clause-made
 returns-clause-made g c =
     let held : Option Held = g.F.SourceFiles.held c.args.files.now in
     let project : Project = c.in_ok-config.taken.project in
-    let read : List SourceFile = c.in_ok-sources.sources in
-    let first : GotSources held project read = subst (λ (h : Option Held). GotSources h project read) c.in_ok-config.ensures.same c.in_ok-sources.ensures.got in
+    let read : List SourceFile = c.as_slice.result.now in
+    let files : GotSources (g.F.SourceFiles.held c.read_config.new.files) project read = subst (λ (fs : List SourceFile). GotSources (g.F.SourceFiles.held c.read_config.new.files) project fs) (sym c.as_slice.ensures) c.in_ok-sources.ensures.got in
+    let first : GotSources held project read = subst (λ (h : Option Held). GotSources h project read) c.in_ok-config.ensures.same files in
     let config : Got held config_name c.deref.result.now = subst (λ (bytes : List ℕ). Got held config_name bytes) (sym c.deref.ensures.value) c.in_ok-config.ensures.got in
     made_of held c.deref.result.now project read c.in_ok-prepare.field-0 config first c.in_ok-prepare.ensures.made

@@ -11,22 +11,21 @@ use Rattle.mcy_top.specs.Rows.{IsNextRow}
 use Rattle.mcy_top.specs.Running.{book_of, LeavesNext}
 use Rattle.mcy_top.proofs.Growing.{append_left, next_of, next_row_of}
 use Rattle.mcy_top.proofs.Plans.{plan_fit, plan_word}
+use Rattle.mcy_top.proofs.Fitted.{plan_trials}
 use Rattle.mcy_top.proofs.running.Tester.test_mutation.Goals as goal
 
-pub run_test-requires-clause-tested : goal.run_test-requires-clause-tested
-run_test-requires-clause-tested g c =
+pub run_test-requires-clause-test : goal.run_test-requires-clause-test
+run_test-requires-clause-test g c =
     let prepared = c.args.self.now.prepared.now in
     let below : c.args.test < length prepared.campaign.kinds = need_test prepared.campaign (answers_of c.args.mutation c.args.state.now.rows) c.args.test (plan_fit prepared c.requires.plan) c.requires.asked in
-    omega (arith, below)
+    omega (arith, below, plan_trials prepared c.requires.plan)
 
 pub entry_for-entry-requires-clause-fit : goal.entry_for-entry-requires-clause-fit
 entry_for-entry-requires-clause-fit g c = plan_fit c.args.self.now.prepared.now c.requires.plan
 
 pub entry_for-entry-requires-clause-word : goal.entry_for-entry-requires-clause-word
 entry_for-entry-requires-clause-word g c =
-    let prepared = c.args.self.now.prepared.now in
-    let below : c.args.test < length prepared.campaign.kinds = need_test prepared.campaign (answers_of c.args.mutation c.args.state.now.rows) c.args.test (plan_fit prepared c.requires.plan) c.requires.asked in
-    plan_word prepared c.args.mutation c.args.test c.code-word.result c.requires.plan below (rw c.code-word.ensures c.in_ok-run_test.ensures)
+    plan_word c.args.self.now.prepared.now c.args.mutation c.args.test c.code-word.result c.requires.plan (rw c.code-word.ensures c.in_ok-run_test.ensures)
 
 pub append-requires-clause-next : goal.append-requires-clause-next
 append-requires-clause-next g c was held =

@@ -1,0 +1,29 @@
+use Rattle.std.proofs.Common.{◌≡◌, ◌⊎◌, inl, inr, ℕ, Option, ap, subst}
+use Rattle.mcy_keeper.specs.declared.book.Book.{Book}
+use Rattle.source_report.specs.Texts.{status_text}
+use Rattle.command_words.specs.declared.command.Command.{Command}
+use Rattle.command_words.specs.declared.command.Command.TheVariants.{Init, Run, Status}
+use Rattle.mcy_top.specs.declared.prepared.Prepared.{Prepared}
+use Rattle.mcy_top.specs.Commands.{OnlyReads}
+use Rattle.mcy_top.specs.Running.{book_of}
+use Rattle.mcy_top.specs.Texts.{text_of}
+use Rattle.mcy_top.proofs.work.Task.tell.Goals as goal
+
+pub returns-in-List-clause-wrote : goal.returns-in-List-clause-wrote
+returns-in-List-clause-wrote g c = rw c.in-List.is c.list.ensures.wrote
+
+pub returns-in-Source-clause-wrote : goal.returns-in-Source-clause-wrote
+returns-in-Source-clause-wrote g c = rw c.in-Source.is c.show_source.ensures.wrote
+
+-- of the other commands one only reads, and tells the status
+told_text : (command : Command) (p : Prepared) (book : Book) → OnlyReads command → ((command ≡ Init) ⊎ (((stop : Option ℕ) × (command ≡ Run stop)) ⊎ (command ≡ Status))) → text_of command p book ≡ status_text p.campaign book.journal
+told_text command p book reads (inl is) = absurd (subst OnlyReads is reads)
+told_text command p book reads (inr (inl run)) = absurd (subst OnlyReads run.1 reads)
+told_text command p book reads (inr (inr is)) = ap (λ (k : Command). text_of k p book) is
+
+pub returns-in-Init : goal.returns-in-Init
+returns-in-Init g c = record {
+  wrote = rw (told_text c.args.command c.args.self.now.prepared.now (book_of c.args.self.now.prepared.now c.args.state.now.rows) c.requires.reads c.in-Init.is) c.report.ensures.wrote;
+  later = c.report.ensures.later;
+  cause = c.report.ensures.cause;
+}
