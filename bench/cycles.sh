@@ -3,6 +3,7 @@
 # subtracters, ands, ors and xors, each of which reads two earlier ones, of several widths and of twice and twenty times
 # as many cells. The time is that of the further cycles of a longer run, so making the netlist is no part of it; reading
 # the inputs of a cycle and printing its outputs is. Where Icarus Verilog is installed its time stands beside it.
+# In the last netlist ten blocks have an input each, one of which changes in a cycle.
 #
 # usage: bench/cycles.sh [CELLS]      1000 where it is left out
 set -euo pipefail
@@ -44,6 +45,37 @@ else:
 PROGRAM
 }
 
+# blocks WIDTH CELLS CYCLES: ten blocks of cells with an input each, one of which changes in a cycle, as statements of `sim_cases`.
+blocks() {
+    python3 - "$@" <<'PROGRAM'
+import random, sys
+width, cells, cycles = map(int, sys.argv[1:])
+rng = random.Random(width)
+kinds = ("add", "sub", "and", "or", "xor")
+each = cells // 10
+# drivers 0 to 9 are the inputs, and 10 + i is cell i
+def nets(driver):
+    first = driver * width
+    return f"{first}..{first + width - 1}"
+for block in range(10):
+    print("input", nets(block))
+rows = []
+for block in range(10):
+    first = 10 + block * each
+    for i in range(each):
+        earlier = [block, *range(first, first + i)]
+        rows.append((rng.choice(kinds), rng.choice(earlier), rng.choice(earlier), first + i))
+    print("output", nets(first + each - 1))
+for kind, a, b, y in rows:
+    print(kind, nets(a), nets(b), nets(y))
+print("start")
+values = [0] * 10
+for cycle in range(cycles):
+    values[cycle % 10] = rng.getrandbits(width)
+    print("step", *values)
+PROGRAM
+}
+
 # seconds COMMAND..: how long it takes
 seconds() {
     local start
@@ -77,4 +109,8 @@ for width in 1 8 32 128; do
 done
 measure 8 $((cells * 2)) 100 5100
 measure 8 $((cells * 20)) 100 600
+echo "$cells cells of 8 bits in ten blocks, of which the input of one changes, a cell and cycle:"
+blocks 8 "$cells" 100 >"$room/few"
+blocks 8 "$cells" 10100 >"$room/many"
+row Sim "$(seconds sh -c "$program <$room/few")" "$(seconds sh -c "$program <$room/many")" "$cells" 10000
 echo "$(nproc) processors"

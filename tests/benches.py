@@ -17,6 +17,7 @@ import re
 import subprocess
 import tempfile
 
+import saturating
 from random_values import Words
 
 COUNT = 300
@@ -361,36 +362,6 @@ def drawn(k):
     raise SystemExit(f"no case {k}")
 
 
-SATURATING = lines(
-    "module sat(input clk, input rst_n, input en, output reg [7:0] q, output full);",
-    "  assign full = (q == 8'd255);",
-    "  always @(posedge clk or negedge rst_n)",
-    "    if (!rst_n) q <= 8'd0;",
-    "    else if (en && !full) q <= q + 8'd1;",
-    "endmodule",
-)
-COUNTING = lines(
-    "`timescale 1ns/1ps",
-    "module sat_tb;",
-    "  reg clk, rst_n, en;",
-    "  wire [7:0] q;",
-    "  wire full;",
-    "  integer i, bad;",
-    "  sat dut(.clk(clk), .rst_n(rst_n), .en(en), .q(q), .full(full));",
-    "  initial begin clk = 0; forever #5 clk = ~clk; end",
-    "  initial begin",
-    "    rst_n = 0; en = 0; bad = 0;",
-    "    repeat (2) @(posedge clk);",
-    "    rst_n <= 1; en <= 1;",
-    "    for (i = 0; i < 260; i = i + 1) begin",
-    "      @(negedge clk);",
-    "      if (q !== ((i < 255) ? i : 255)) bad = bad + 1;",
-    "    end",
-    '    if (bad == 0) $display("ALL GOOD"); else $display("BAD %0d", bad);',
-    "    $finish;",
-    "  end",
-    "endmodule",
-)
 GATE = "module g(input a, input b, output y); assign y = a & b; endmodule\n"
 
 
@@ -405,8 +376,8 @@ def by_hand():
     refused = lambda word, line, col: f"{word}({place(line, col)})\n"
     helper = lambda line, col: f"Unsupported({place(line, col)}, Helper)\n"
     return [
-        ("a counter that saturates, with as many cycles as its bench takes", SATURATING + COUNTING, "sat_tb sat 1 261", "ALL GOOD\nfinished\n"),
-        ("and with one fewer", SATURATING + COUNTING, "sat_tb sat 1 260", "not finished\n"),
+        ("a counter that saturates, with as many cycles as its bench takes", lines(*saturating.DESIGN, *saturating.BENCH), "sat_tb sat 1 261", "ALL GOOD\nfinished\n"),
+        ("and with one fewer", lines(*saturating.DESIGN, *saturating.BENCH), "sat_tb sat 1 260", "not finished\n"),
         ("the 100,001st statement of a phase is one too many", gate_bench(clock, gate, 'initial begin $display("on"); forever a = ~a; end'), "t g 1 5", "on\nnot finished\n"),
         ("100,000 are not: a block, a repeat, its turns of two, its last test and the end", gate_bench(clock, gate, "initial begin repeat (49998) a = ~a; $finish; end"), "t g 1 5", "finished\n"),
         ("and one more is", gate_bench(clock, gate, "initial begin repeat (49998) a = ~a; ; $finish; end"), "t g 1 5", "not finished\n"),

@@ -16,19 +16,12 @@ import itertools
 import sys
 
 import pcg
+import saturating
 
 WORDS = ["PASS", "FAIL", "HANG", "UNKNOWN"]
 MODES = ["inv", "const0", "const1", "cnot0", "cnot1"]
 LOGIC = [
     'word = result("same")', 'if word == "UNKNOWN":', '    tag("GIVENUP")', 'elif word == "PASS":', '    tag("NOCHANGE")', "else:", '    tag("CHANGED")'
-]
-COUNTER = [
-    "module sat(input clk, input rst_n, input en, output reg [7:0] q, output full);",
-    "  assign full = (q == 8'd255);",
-    "  always @(posedge clk or negedge rst_n)",
-    "    if (!rst_n) q <= 8'd0;",
-    "    else if (en && !full) q <= q + 8'd1;",
-    "endmodule",
 ]
 PARTS = [
     ("cell", "eq_0", 2, [("A", 8), ("B", 8), ("Y", 1)]),
@@ -151,7 +144,7 @@ def redundant(given_up):
 
 def counter_cases():
     one = counter()
-    new = ["new", project(["size 20", "seed 7", "conflicts 60000"], "sat.v", "sat"), f"hold sat.v {tilde(COUNTER)}"]
+    new = ["new", project(["size 20", "seed 7", "conflicts 60000"], "sat.v", "sat"), f"hold sat.v {tilde(saturating.DESIGN)}"]
     yield "# A saturating counter with 10 free bits: of its 20 mutants none is given up.", [*new, "call init", "call run", "call list"], (
         one.told("init", one.init(), 0) + one.run("run", 20) + one.told("list", one.list(), 20)
     )

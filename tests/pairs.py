@@ -21,6 +21,7 @@ from cell_gates import OPERATIONS, Gates, negation, number, value
 HERE = pathlib.Path(__file__).resolve().parent.parent / "crates/pair_cases"
 MOST_FREE, MOST_GATES, SHOWN = 2048, 200_000, 400
 RARE = "a word of 24 bits, one value of which alone makes a difference"
+HIDDEN = "two words of 16 bits, two pairs of which alone make a difference"
 
 
 class Netlist:
@@ -278,6 +279,15 @@ def cases(word):
     yield "three products of 128 bits", Netlist(rows, shown[:2], [], squares[:2]), Netlist(rows, [shown[0], ("z", wide(3000, 128))], [], squares)
     code = [bool(0xB4D2A7 >> i & 1) for i in range(24)]
     yield RARE, Netlist([("a", wide(0, 24))], [("y", [24])], [], [("eq", False, [wide(0, 24), code, [24]])]), Netlist([("a", wide(0, 24))], [("y", [False])])
+    first, second = 24162, 41375
+    product, total, least = first * second % 2**16, (first + second) % 2**16, 2
+    assert total < least
+    inputs = [("a", wide(0, 16)), ("b", wide(16, 16)), ("c", [32])]
+    whole = lambda n: [bool(n >> i & 1) for i in range(16)]
+    meets = [("mul", False, [wide(0, 16), wide(16, 16), wide(40, 16)]), ("eq", False, [wide(40, 16), whole(product), [60]])]
+    meets += [("add", False, [wide(0, 16), wide(16, 16), wide(70, 16)]), ("lt", False, [wide(70, 16), whole(least), [90]])]
+    meets += [("and", False, [[60], [90], [91]]), ("xor", False, [[32], [91], [92]])]
+    yield HIDDEN, Netlist(inputs, [("y", [92])], [], meets), Netlist(inputs, [("y", [32])])
     for number_of_case in range(70):
         netlist = drawn(word)
         yield f"drawn {number_of_case}", netlist, changed(word, netlist) if number_of_case % 10 else netlist
@@ -301,6 +311,10 @@ def main():
             # Too rare for simulation.
             stdin.append("detail 1000 10")
             stdout.append(f"output 0 differs with inputs {0xB4D2A7}, registers")
+        if name == HIDDEN:
+            # Too rare for simulation, and too deep for 2,000 lemmas.
+            stdin.append("test 2000 1000")
+            stdout.append("change")
         if found is None:
             continue
         tests = list(verdicts(original, mutant, found))

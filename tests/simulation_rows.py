@@ -12,31 +12,12 @@ tests/equality_rows.py. `§` stands in front of the byte at which a bench is ref
 
 import sys
 
-from equality_rows import COUNTER, Campaign, all_sites, counter, project, step, tilde
+from equality_rows import Campaign, all_sites, counter, project, step, tilde
 import pcg
+import saturating
 
-BENCH = [
-    "`timescale 1ns/1ps",
-    "module sat_tb;",
-    "  reg clk, rst_n, en;",
-    "  wire [7:0] q;",
-    "  wire full;",
-    "  integer i, bad;",
-    "  sat dut(.clk(clk), .rst_n(rst_n), .en(en), .q(q), .full(full));",
-    "  initial begin clk = 0; forever #5 clk = !clk; end",
-    "  initial begin",
-    "    rst_n = 0; en = 0; bad = 0;",
-    "    repeat (2) @(posedge clk);",
-    "    rst_n <= 1; en <= 1;",
-    "    for (i = 0; i < 260; i = i + 1) begin",
-    "      @(negedge clk);",
-    "      if (q !== ((i < 255) ? i : 255)) bad = bad + 1;",
-    "    end",
-    '    if (bad == 0) $display("ALL GOOD"); else $display("BAD %0d", bad);',
-    "    $finish;",
-    "  end",
-    "endmodule",
-]
+# `~` stands for the end of a line in the cases
+BENCH = [line.replace("~clk", "!clk") for line in saturating.BENCH]
 LOGIC = [
     'tb_okay = (result("test_sim") == "PASS")', 'eq_word = result("test_eq")', 'eq_okay = (eq_word == "PASS")', 'if eq_word == "UNKNOWN":', '    tag("GIVENUP")',
     "elif tb_okay and not eq_okay:", '    tag("UNCOVERED")', "elif not tb_okay and not eq_okay:", '    tag("COVERED")', "elif tb_okay and eq_okay:", '    tag("NOCHANGE")',
@@ -112,13 +93,13 @@ def refused_bench(fault, bench):
     if "§" in text:
         before = text[: text.index("§")].encode()
         place = "sat_tb.v:%d:%d: " % (before.count(b"\n") + 1, len(before) - before.rfind(b"\n"))
-    given = ["new", both_project(CYCLES), f"hold sat.v {tilde(COUNTER)}", f"hold sat_tb.v {tilde(bench).replace('§', '')}", "fail-keeper 0 0", "call run"]
+    given = ["new", both_project(CYCLES), f"hold sat.v {tilde(saturating.DESIGN)}", f"hold sat_tb.v {tilde(bench).replace('§', '')}", "fail-keeper 0 0", "call run"]
     return given, ["> run", "status 5", f"mcy: {place}{fault}", "0 items, 0 mutations"]
 
 
 def cases():
     one = Both(CYCLES)
-    files = [f"hold sat.v {tilde(COUNTER)}", f"hold sat_tb.v {tilde(BENCH)}"]
+    files = [f"hold sat.v {tilde(saturating.DESIGN)}", f"hold sat_tb.v {tilde(BENCH)}"]
     new = ["new", both_project(CYCLES), *files]
     init = ["Sites: 550", "Mutations: 20"]
     yield "# A saturating counter with its bench and an equality test: 40 tests.", [*new, "call init", "call run", "call run"], (

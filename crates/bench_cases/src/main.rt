@@ -13,6 +13,7 @@
 use anyhow::{Context, Result, bail};
 use elab_hier::elaborate;
 use mcy_base::Span;
+use netlist_core::Netlist;
 use std::alloc::Global;
 use tb_reading::read_bench;
 use tb_runner::{Transcript, transcript};
@@ -92,6 +93,24 @@ fn tell<R: Print>(rt: &R, told: &Transcript) -> Result<()> {
     Ok(println!(rt; "{end}")?)
 }
 
+/// Simulates the bench of a module with a design, or prints why it is refused.
+fn simulate_bench<R: Print + AllocGlobal>(
+    rt: &R,
+    module: &Module,
+    top: &Module,
+    netlist: Netlist,
+    asked: Asked<'_>,
+) -> Result<()> {
+    let alloc = rt.alloc();
+    match read_bench(alloc, module, top, &netlist) {
+        Ok(bench) => {
+            let told = transcript(alloc, &bench, netlist, asked.seed, asked.cycles)?;
+            tell(rt, &told)
+        }
+        Err(error) => Ok(println!(rt; "{error:?}")?),
+    }
+}
+
 /// Simulates the bench of a source with its design, or prints why it is refused.
 fn simulate<R: Print + AllocGlobal>(rt: &R, text: &str, asked: Asked<'_>) -> Result<()> {
     let alloc = rt.alloc();
@@ -101,13 +120,7 @@ fn simulate<R: Print + AllocGlobal>(rt: &R, text: &str, asked: Asked<'_>) -> Res
     let netlist = netlist.context("no design")?;
     let module = module_named(modules, asked.bench)?;
     let top = module_named(modules, asked.top)?;
-    match read_bench(alloc, module, top, &netlist) {
-        Ok(bench) => {
-            let told = transcript(alloc, &bench, netlist, asked.seed, asked.cycles)?;
-            tell(rt, &told)
-        }
-        Err(error) => Ok(println!(rt; "{error:?}")?),
-    }
+    simulate_bench(rt, module, top, netlist, asked)
 }
 
 /// Carries out a line.

@@ -10,4 +10,4 @@ mod relations;
 mod shifts;
 mod value;
 
-pub use value::cell_value;
+pub use value::{cell_value, number_of_one, number_of_three, number_of_two};

@@ -17,7 +17,7 @@ use mcy_base::Word;
 use netlist_core::{BitList, Cell, CellKind, Shape};
 
 /// The value of a cell with one input port, in the low bits.
-fn of_one(kind: CellKind, signed: bool, width: u8, a: Word) -> u128
+pub fn number_of_one(kind: CellKind, signed: bool, width: u8, a: Word) -> u128
     requires { HasWidths (shape_of kind) (a.width ∷ width ∷ []) }
     ensures { HasValue result kind signed width (word_bits a ∷ []) }
 {
@@ -83,7 +83,7 @@ fn of_shift(kind: CellKind, signed: bool, a: Word, b: Word) -> u128
 }
 
 /// The value of a cell with two input ports, in the low bits.
-fn of_two(kind: CellKind, signed: bool, width: u8, a: Word, b: Word) -> u128
+pub fn number_of_two(kind: CellKind, signed: bool, width: u8, a: Word, b: Word) -> u128
     requires { HasWidths (shape_of kind) (a.width ∷ b.width ∷ width ∷ []) }
     ensures { HasValue result kind signed width (word_bits a ∷ word_bits b ∷ []) }
 {
@@ -101,7 +101,7 @@ fn of_two(kind: CellKind, signed: bool, width: u8, a: Word, b: Word) -> u128
 }
 
 /// The value of a cell with three input ports, in the low bits.
-fn of_three(kind: CellKind, signed: bool, width: u8, a: Word, b: Word, d: Word) -> u128
+pub fn number_of_three(kind: CellKind, signed: bool, width: u8, a: Word, b: Word, d: Word) -> u128
     requires { HasWidths (shape_of kind) (a.width ∷ b.width ∷ d.width ∷ width ∷ []) }
     ensures { HasValue result kind signed width (word_bits a ∷ word_bits b ∷ word_bits d ∷ []) }
 {
@@ -146,12 +146,12 @@ fn number_of(cell: &Cell, width: u8, a: Word, b: Word, d: Word) -> u128
 {
     let count = cell.ports.as_slice().len();
     if count == 2 {
-        return of_one(cell.kind, cell.is_signed, width, a);
+        return number_of_one(cell.kind, cell.is_signed, width, a);
     }
     if count == 3 {
-        return of_two(cell.kind, cell.is_signed, width, a, b);
+        return number_of_two(cell.kind, cell.is_signed, width, a, b);
     }
-    of_three(cell.kind, cell.is_signed, width, a, b, d)
+    number_of_three(cell.kind, cell.is_signed, width, a, b, d)
 }
 
 /// The value of a cell, from the words at the first, the second and the third input port.

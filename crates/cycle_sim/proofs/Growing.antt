@@ -1,12 +1,11 @@
 -- Wires that grow by a bit.
 use Rattle.std.proofs.Common.{◌≡◌, ℕ, zero, suc, ◌+◌, ◌-◌, ◌<◌, ◌≤◌, List, [], ◌∷◌, ◌++◌, length, take, drop, get_or, slice_get, Some, refl, sym, ◌∙◌, ap, subst, arith}
-use Rattle.std.proofs.lemmas.List.{append-nil, append_assoc, length-append, length-take, length-drop, take_more, drop_more, drop-drop, length_push}
+use Rattle.std.proofs.lemmas.List.{append-nil, append_assoc, length-take, length-drop, take_more, drop_more, drop-drop, length_push}
 use Rattle.netlist_core.specs.declared.bit.Bit.{Bit}
-use Rattle.netlist_core.specs.declared.bit.Bit.TheVariants.{Net}
 use Rattle.netlist_core.specs.Runs.{input_ports}
 use Rattle.cycle_sim.specs.declared.parts.Place.{Place}
 use Rattle.cycle_sim.specs.declared.parts.Source.{Source}
-use Rattle.cycle_sim.specs.declared.parts.Source.TheVariants.{Constant, Driver}
+use Rattle.cycle_sim.specs.declared.parts.Source.TheVariants.{Driver}
 use Rattle.cycle_sim.specs.declared.parts.Part.{Part}
 use Rattle.cycle_sim.specs.Parts.{source_bits, part_bits, all_bits, AllWhole}
 

@@ -1,5 +1,5 @@
 -- Laying numbers on nets that are driven once.
-use Rattle.std.proofs.Common.{◌≡◌, ◌≢◌, ℕ, zero, suc, ◌+◌, ◌*◌, ◌/◌, ◌%◌, ◌^◌, ◌<◌, ◌≤◌, Bool, true, false, List, [], ◌∷◌, ◌++◌, length, nat_eq, get_or, set, refl, sym, ◌∙◌, ap, subst, ◌⊎◌, inl, inr, arith}
+use Rattle.std.proofs.Common.{◌≡◌, ◌≢◌, ℕ, zero, suc, ◌+◌, ◌*◌, ◌/◌, ◌%◌, ◌^◌, ◌<◌, ◌≤◌, Bool, List, [], ◌∷◌, ◌++◌, length, nat_eq, get_or, set, refl, sym, ◌∙◌, ap, subst, ◌⊎◌, inl, inr, arith}
 use Rattle.std.proofs.lemmas.Bool.Decides.{eqb_tells}
 use Rattle.std.proofs.lemmas.Bool.{cases_lt}
 use Rattle.std.proofs.lemmas.Nat.{mod-pow-add}
@@ -8,7 +8,7 @@ use Rattle.netlist_core.specs.declared.bit.Bit.TheVariants.{Fixed, Net}
 use Rattle.netlist_core.specs.Runs.{Nets}
 use Rattle.netlist_core.specs.Drivers.{times, times_at}
 use Rattle.netlist_core.specs.Settled.{with_net, laid, laid_all}
-use Rattle.netlist_core.proofs.Settles.{with_net-same, with_net-other, laid-other, laid_all-other}
+use Rattle.netlist_core.proofs.Settles.{with_net-same, laid-other, laid_all-other}
 
 pub times-cases : (m n : ℕ) (more : List Bit) → ((m ≡ n) × (times n (Net m ∷ more) ≡ 1 + times n more)) ⊎ ((m ≢ n) × (times n (Net m ∷ more) ≡ times n more))
 times-cases m n more = elim (eqb_tells m n) [

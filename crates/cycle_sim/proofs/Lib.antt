@@ -9,3 +9,9 @@ mod Lists
 mod Computed
 mod Cycles
 mod Reading
+mod Marking
+mod Current
+mod ReaderLists
+mod Fronts
+mod Few
+mod Settling

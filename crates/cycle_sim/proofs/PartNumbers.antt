@@ -1,10 +1,10 @@
 -- The numbers of parts.
-use Rattle.std.proofs.Common.{◌≡◌, ℕ, zero, suc, ◌+◌, ◌-◌, ◌*◌, ◌/◌, ◌%◌, ◌^◌, ◌<◌, ◌≤◌, Bool, true, false, List, [], ◌∷◌, ◌++◌, map, length, take, drop, replicate, get_or, refl, sym, ◌∙◌, ap, subst, arith}
+use Rattle.std.proofs.Common.{◌≡◌, ℕ, zero, suc, ◌+◌, ◌-◌, ◌*◌, ◌/◌, ◌%◌, ◌^◌, ◌<◌, ◌≤◌, Bool, true, false, List, [], ◌∷◌, ◌++◌, length, take, drop, replicate, get_or, refl, sym, ◌∙◌, ap, subst, arith}
 use Rattle.std.proofs.lemmas.Nat.{pow_pos, pow-add, shr_high, mul-le, shl_whole}
 use Rattle.std.proofs.lemmas.List.{map-append, take-map, drop-map, take-append-drop, length-take-le, length-take, take_all}
 use Rattle.std.proofs.Math.Nat.{mod-eq_of_lt, add-mul-mod_self_left, pow-le-pow_right}
 use Rattle.netlist_core.specs.declared.bit.Bit.{Bit}
-use Rattle.netlist_core.specs.declared.bit.Bit.TheVariants.{Fixed, Net}
+use Rattle.netlist_core.specs.declared.bit.Bit.TheVariants.{Fixed}
 use Rattle.netlist_core.specs.Numbers.{number}
 use Rattle.netlist_core.specs.Runs.{Nets, bit_value, values, port_numbers}
 use Rattle.netlist_core.proofs.Settles.{length-values, number-fits}
@@ -12,7 +12,7 @@ use Rattle.cell_meaning.proofs.Parts.{number-append, number-zeros, number-ones, 
 use Rattle.cycle_sim.specs.declared.parts.Source.{Source}
 use Rattle.cycle_sim.specs.declared.parts.Source.TheVariants.{Constant, Driver}
 use Rattle.cycle_sim.specs.declared.parts.Part.{Part}
-use Rattle.cycle_sim.specs.Parts.{source_bits, part_bits, all_bits, AllWhole, source_number, part_number, parts_number, total, AllInside}
+use Rattle.cycle_sim.specs.Parts.{source_bits, part_bits, all_bits, AllWhole, source_number, part_number, parts_number, total}
 
 -- the greatest number of 128 bits, shifted down
 ones-at : (w k : ℕ) → w + k ≡ 128 → 340282366920938463463374607431768211455 / 2 ^ k ≡ 2 ^ w - 1
@@ -76,7 +76,7 @@ values-constant : (nets : Nets) (w : ℕ) (b : Bool) → values nets (replicate 
 values-constant nets zero b = refl
 values-constant nets (suc w) b = ap (λ (l : List Bool). b ∷ l) (values-constant nets w b)
 
-driver-number : (nets : Nets) (drivers : List (List Bit)) (d : ℕ) → number (values nets (get_or drivers d [])) ≡ get_or (port_numbers nets drivers) d 0
+pub driver-number : (nets : Nets) (drivers : List (List Bit)) (d : ℕ) → number (values nets (get_or drivers d [])) ≡ get_or (port_numbers nets drivers) d 0
 driver-number nets [] d = refl
 driver-number nets (bits ∷ more) zero = refl
 driver-number nets (bits ∷ more) (suc d) = driver-number nets more d

@@ -1,14 +1,13 @@
 -- Where nets are driven.
-use Rattle.std.proofs.Common.{◌≡◌, ◌≢◌, ℕ, zero, suc, ◌+◌, ◌<◌, ◌≤◌, Bool, List, [], ◌∷◌, ◌++◌, length, take, drop, get_or, set, slice_get, Option, Some, None, refl, sym, ◌∙◌, ap, subst, inl, inr, arith}
-use Rattle.std.proofs.lemmas.Bool.Decides.{eqb_tells}
+use Rattle.std.proofs.Common.{◌≡◌, ℕ, zero, suc, ◌+◌, ◌<◌, ◌≤◌, Bool, List, [], ◌∷◌, ◌++◌, length, take, get_or, set, slice_get, Some, refl, sym, ◌∙◌, ap, subst, inl, inr, arith}
 use Rattle.std.proofs.lemmas.Bool.{cases_lt}
-use Rattle.std.proofs.lemmas.List.{take_more, get_or-set_same, get_or-set_other, replicate_more, get_or_past, take_all, length-take}
-use Rattle.std.proofs.lemmas.Option.{slice_get-get_or, get_or_from_slice_get}
+use Rattle.std.proofs.lemmas.List.{take_more, get_or-set_same, get_or-set_other, take_all}
+use Rattle.std.proofs.lemmas.Option.{slice_get-get_or}
 use Rattle.netlist_core.specs.declared.bit.Bit.{Bit}
 use Rattle.netlist_core.specs.declared.bit.Bit.TheVariants.{Fixed, Net}
 use Rattle.netlist_core.specs.Drivers.{times, times_at}
 use Rattle.cycle_sim.specs.declared.parts.Place.{Place}
-use Rattle.cycle_sim.specs.Places.{place_of, IsAt, ArePlaced, ArePortsPlaced, AreBelow, AreMarked}
+use Rattle.cycle_sim.specs.Places.{place_of, IsAt, ArePortsPlaced, AreMarked}
 use Rattle.cycle_sim.proofs.Laid.{times-cases, times_at-append}
 
 pub times-append : (n : ℕ) (xs ys : List Bit) → times n (xs ++ ys) ≡ times n xs + times n ys

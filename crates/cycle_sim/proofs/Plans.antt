@@ -1,23 +1,22 @@
 -- The drivers of a sound netlist.
-use Rattle.std.proofs.Common.{◌≡◌, ℕ, zero, suc, ◌+◌, ◌^◌, ◌<◌, ◌≤◌, List, [], ◌∷◌, ◌++◌, length, map, replicate, get_or, set, take, drop, slice_get, Option, Some, None, refl, sym, ◌∙◌, ap, subst, inl, inr, arith}
-use Rattle.std.specs.List.{All}
+use Rattle.std.proofs.Common.{◌≡◌, ℕ, zero, suc, ◌+◌, ◌^◌, ◌<◌, ◌≤◌, List, [], ◌∷◌, ◌++◌, length, map, replicate, get_or, set, drop, slice_get, Some, refl, sym, ◌∙◌, ap, subst, inl, inr, arith}
 use Rattle.std.proofs.lemmas.Bool.{cases_lt}
 use Rattle.std.proofs.lemmas.Nat.{pow_pos}
-use Rattle.std.proofs.lemmas.List.{length-append, length-map, get_or-append-add, get_or-map, get_or_append_left, get_or_past}
+use Rattle.std.proofs.lemmas.List.{length-append, length-map, get_or-append-add}
 use Rattle.mcy_base.specs.declared.word.Word.{Word}
 use Rattle.netlist_core.specs.declared.bit.Bit.{Bit}
 use Rattle.netlist_core.specs.declared.cell.Cell.{Cell}
 use Rattle.netlist_core.specs.declared.port.Port as port
 use Rattle.netlist_core.specs.declared.port.Register.{Register}
 use Rattle.netlist_core.specs.declared.raw.RawNetlist.{RawNetlist}
-use Rattle.netlist_core.specs.Runs.{bits_at, q_bits, d_bits, input_ports, output_port, port_numbers, plain, taken, values, Nets}
+use Rattle.netlist_core.specs.Runs.{bits_at, q_bits, output_port, port_numbers, plain, taken, values, Nets}
 use Rattle.netlist_core.specs.Numbers.{number}
-use Rattle.netlist_core.specs.Drivers.{times_at, y_bits, drivers, cell_readers, readers}
-use Rattle.netlist_core.specs.Checked.{AllWide, AllNets, AllPortsNets, AllRegistersFit, AllCellsWide, all_bits, net_bits, IsFormed, Plan, IsSound}
+use Rattle.netlist_core.specs.Drivers.{times_at, y_bits, drivers, readers}
+use Rattle.netlist_core.specs.Checked.{AllWide, AllPortsNets, AllRegistersFit, AllCellsWide, all_bits, Plan, IsSound}
 use Rattle.netlist_core.specs.Solutions.{FitPorts, driving}
-use Rattle.netlist_core.specs.Settled.{laid_all, all_zero}
+use Rattle.netlist_core.specs.Settled.{all_zero}
 use Rattle.netlist_core.proofs.Settles.{length-values, number-fits, laid_all-numbers}
-use Rattle.cycle_sim.specs.Simulated.{nets_of, numbers_of, starts_of, HaveWidths}
+use Rattle.cycle_sim.specs.Simulated.{nets_of, numbers_of, HaveWidths}
 use Rattle.cycle_sim.proofs.Laid.{times_at-append}
 use Rattle.cycle_sim.proofs.Wired.{AllNarrow}
 

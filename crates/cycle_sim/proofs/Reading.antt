@@ -1,6 +1,5 @@
 -- What is read is driven, and has a place.
-use Rattle.std.proofs.Common.{◌≡◌, ℕ, zero, suc, ◌+◌, ◌<◌, ◌≤◌, List, [], ◌∷◌, ◌++◌, length, take, get_or, slice_get, Some, refl, sym, ◌∙◌, ap, subst, arith}
-use Rattle.std.specs.List.{All}
+use Rattle.std.proofs.Common.{◌≡◌, ℕ, zero, suc, ◌+◌, ◌<◌, ◌≤◌, List, [], ◌∷◌, ◌++◌, length, take, get_or, sym, ◌∙◌, ap, subst, arith}
 use Rattle.std.proofs.lemmas.List.{length-map, get_or-map, take_more}
 use Rattle.netlist_core.specs.declared.bit.Bit.{Bit}
 use Rattle.netlist_core.specs.declared.cell.Cell.{Cell}
@@ -14,7 +13,7 @@ use Rattle.netlist_core.specs.Solutions.{driving}
 use Rattle.cycle_sim.specs.declared.parts.Place.{Place}
 use Rattle.cycle_sim.specs.declared.parts.Wires.{Wires}
 use Rattle.cycle_sim.specs.Parts.{IsWired, AllWired}
-use Rattle.cycle_sim.specs.Places.{place_of, IsAt, ArePlaced, ArePortsPlaced}
+use Rattle.cycle_sim.specs.Places.{place_of, IsAt, ArePortsPlaced}
 use Rattle.cycle_sim.specs.Simulated.{AllCellsWired}
 use Rattle.cycle_sim.proofs.Wired.{AllNarrow, wired-push}
 use Rattle.cycle_sim.proofs.Placed.{times_at-at}

@@ -1,12 +1,12 @@
 -- What wires read.
-use Rattle.std.proofs.Common.{◌≡◌, ℕ, zero, suc, ◌+◌, ◌-◌, ◌*◌, ◌/◌, ◌%◌, ◌^◌, ◌<◌, ◌≤◌, Bool, true, false, List, [], ◌∷◌, ◌++◌, length, take, drop, get_or, refl, sym, ◌∙◌, ap, subst, inl, inr, arith}
+use Rattle.std.proofs.Common.{◌≡◌, ℕ, zero, suc, ◌+◌, ◌*◌, ◌/◌, ◌%◌, ◌<◌, ◌≤◌, Bool, true, false, List, [], ◌∷◌, ◌++◌, length, drop, get_or, refl, sym, ◌∙◌, ap, inl, inr, arith}
 use Rattle.std.specs.List.{All}
 use Rattle.std.proofs.lemmas.Bool.{cases_lt}
 use Rattle.std.proofs.lemmas.List.{length-append, length-take, length-drop, get_or_past}
 use Rattle.mcy_base.specs.declared.word.Word.{Word}
 use Rattle.netlist_core.specs.declared.bit.Bit.{Bit}
-use Rattle.netlist_core.specs.Numbers.{digit, number, low_bits}
-use Rattle.netlist_core.specs.Runs.{Nets, values, Port, plain, ports_seen, port_numbers, input_ports}
+use Rattle.netlist_core.specs.Numbers.{number, low_bits}
+use Rattle.netlist_core.specs.Runs.{Nets, values, plain, ports_seen, port_numbers}
 use Rattle.netlist_core.specs.Checked.{AllWide}
 use Rattle.netlist_core.proofs.Settles.{length-values}
 use Rattle.cell_meaning.specs.Words.{word_bits, FitWords, bits_of}

@@ -1,13 +1,13 @@
 -- What a simulator holds.
-use Rattle.std.specs.Prelude.{◌≡◌, ℕ, ◌+◌, List, [], ◌∷◌, map, length}
+use Rattle.std.specs.Prelude.{◌≡◌, ℕ, List, [], ◌∷◌, map, length}
 use Rattle.mcy_base.specs.declared.word.Word.{Word}
 use Rattle.netlist_core.specs.declared.bit.Bit.{Bit}
 use Rattle.netlist_core.specs.declared.cell.Cell.{Cell}
 use Rattle.netlist_core.specs.declared.raw.RawNetlist.{RawNetlist}
-use Rattle.netlist_core.specs.Runs.{Nets, bits_at, q_bits, d_bits, input_ports}
+use Rattle.netlist_core.specs.Runs.{Nets, input_ports}
 use Rattle.netlist_core.specs.Settled.{laid_all, all_zero}
-use Rattle.netlist_core.specs.Solutions.{FitPorts, driving}
-use Rattle.netlist_core.specs.Checked.{Plan, IsSound}
+use Rattle.netlist_core.specs.Solutions.{driving}
+use Rattle.netlist_core.specs.Checked.{Plan}
 use Rattle.cycle_sim.specs.declared.parts.Wires.{Wires}
 use Rattle.cycle_sim.specs.Parts.{AllWired}
 
@@ -44,12 +44,3 @@ abbrev pub AllCellsWired : List (List Bit) → List (List Wires) → List Cell �
 AllCellsWired drivers [] [] = Unit {0}
 AllCellsWired drivers (wires ∷ more) (cell ∷ cells) = AllWired drivers wires (input_ports cell.ports) × AllCellsWired drivers more cells
 AllCellsWired drivers wires cells = ⊥
-
--- where each reader finds its bits, and numbers that fit
-pub record IsSimulated (plan : Plan) (cell_wires : List (List Wires)) (next_wires output_wires : List Wires) (table registers : List ℕ) : Type 0 where
-  pub sound : IsSound plan
-  pub cells : AllCellsWired (driving plan.raw) cell_wires plan.raw.cells
-  pub next : AllWired (driving plan.raw) next_wires (d_bits plan.raw.registers)
-  pub outputs : AllWired (driving plan.raw) output_wires (bits_at plan.raw.outputs)
-  pub numbers : FitPorts (driving plan.raw) table
-  pub stored : FitPorts (q_bits plan.raw.registers) registers

@@ -3,8 +3,10 @@
 
 mod cycle;
 mod laws;
+mod marks;
 mod parts;
 mod places;
+mod readers;
 mod sim;
 mod state;
 mod wiring;

@@ -3,8 +3,10 @@
 //! `table` has the numbers at inputs, registers' Q and cells' Y, in this order, as they were last settled, and
 //! `registers` those that the registers hold now. They part at a clock: the registers take their D, and the table stays
 //! as it is until the nets settle again. `cells`, `next` and `outputs` say where each reader finds its bits in the table:
-//! the input ports of each cell, each register's D, and each output. All memory is taken by `new`.
-ghost use Rattle.std.specs.Prelude.{◌≡◌, ℕ, ◌≤◌, ◌<◌, ◌↔◌, IsTrue, IfOk, Some, length, slice_index, slice_get};
+//! the input ports of each cell, each register's D, and each output. `readers` has for each driver the cells that read it, and
+//! `marks` tells which cells are to be computed: each other one has its number. All memory is taken by `new`.
+ghost use Rattle.std.specs.Prelude.{◌≡◌, ℕ, ◌≤◌, ◌<◌, ◌↔◌, IsTrue, IfOk, Some, map, take, length, slice_index, slice_get};
+ghost use Rattle.std.specs.List.{All};
 ghost use Rattle.netlist_core.specs.declared.port.Port.{Port as Output};
 ghost use Rattle.netlist_core.specs.declared.port.Register.{Register as Stored};
 ghost use Rattle.netlist_core.specs.Runs.{Nets, plain, bits_at, q_bits, Holds, shown, taken};
@@ -13,9 +15,10 @@ ghost use Rattle.cycle_sim.specs.Simulated.{HaveWidths, numbers_of, starts_of, s
 
 use crate::cycle::settle_cells;
 use crate::parts::{Wires, word_at, word_of};
-use crate::places::{driver_count, places_of};
-use crate::state::{have_widths, lay_numbers, lay_words, starts, take_all};
-use crate::wiring::{cell_wires, next_wires, output_wires};
+use crate::state::{
+    first_numbers, have_widths, lay_named, lay_registers, lay_words, load_words, take_all,
+};
+use crate::wiring::wiring_of;
 use mcy_base::{Items, Word};
 use netlist_core::{Netlist, one_run};
 use std::alloc::{AllocError, Global};
@@ -28,18 +31,21 @@ pub struct Sim {
     cells: Vec<Items<Wires>>,
     next: Vec<Wires>,
     outputs: Vec<Wires>,
+    readers: Vec<Items<usize>>,
     table: Vec<u128>,
     registers: Vec<u128>,
+    marks: Vec<u64>,
 }
 
 impl Model for Sim {
-    ghost use Rattle.cycle_sim.specs.Simulated.{Simulated, IsSimulated};
+    ghost use Rattle.cycle_sim.specs.Simulated.{Simulated};
+    ghost use Rattle.cycle_sim.specs.Kept.{IsSimulated};
 
     ghost Value = { Simulated };
 
     ghost view = { λ s. record { plan = s.netlist; table = s.table.items; registers = s.registers.items } };
 
-    ghost invariant = { λ s. IsSimulated s.netlist s.cells.items s.next.items s.outputs.items s.table.items s.registers.items };
+    ghost invariant = { λ s. IsSimulated s.netlist s.cells.items s.next.items s.outputs.items s.readers.items s.table.items s.registers.items s.marks.items };
 }
 
 impl Sim {
@@ -48,19 +54,17 @@ impl Sim {
         ensures plan { IfOk result (λ s. s.plan ≡ netlist) }
         ensures starts { IfOk result (λ s. s.registers ≡ starts_of netlist.raw) }
     {
-        let places = places_of(alloc, &netlist)?;
-        let cells = cell_wires(alloc, places.as_slice(), &netlist)?;
-        let next = next_wires(alloc, places.as_slice(), &netlist)?;
-        let outputs = output_wires(alloc, places.as_slice(), &netlist)?;
-        let table = vec![in alloc; 0u128; driver_count(&netlist)]?;
-        let registers = starts(alloc, &netlist)?;
+        let wiring = wiring_of(alloc, &netlist)?;
+        let numbers = first_numbers(alloc, &netlist)?;
         Ok(Sim {
             netlist,
-            cells,
-            next,
-            outputs,
-            table,
-            registers,
+            cells: wiring.cells,
+            next: wiring.next,
+            outputs: wiring.outputs,
+            readers: wiring.readers,
+            table: numbers.table,
+            registers: numbers.registers,
+            marks: numbers.marks,
         })
     }
 
@@ -86,10 +90,58 @@ impl Sim {
         ensures plan { self.new.plan ≡ self.old.plan }
         ensures registers { self.new.registers ≡ self.old.registers }
     {
+        lay_words(
+            &self.netlist,
+            self.readers.as_slice(),
+            &mut self.table,
+            &mut self.marks,
+            inputs,
+        );
+        self.settle_nets();
+    }
+
+    /// Computes all nets as `settle` does. Each input has the word of the store that has its number.
+    pub fn settle_with(&mut self, store: &[Word], numbers: &[u32])
+        requires inside { All (λ k. k < length store.now) numbers.now }
+        requires widths { map (slice_index (map (λ w. w.width) store.now)) numbers.now ≡ map length (bits_at self.old.plan.raw.inputs) }
+        ensures holds { Holds (plain (settled_nets self.new)) (settled_nets self.new) self.old.plan.raw (map (slice_index (numbers_of store.now)) numbers.now) self.old.registers }
+        ensures alone { (nets : Nets) → Holds (plain nets) nets self.old.plan.raw (map (slice_index (numbers_of store.now)) numbers.now) self.old.registers → (n : ℕ) → 1 ≤ drivers self.old.plan.raw n → nets n ≡ settled_nets self.new n }
+        ensures plan { self.new.plan ≡ self.old.plan }
+        ensures registers { self.new.registers ≡ self.old.registers }
+    {
+        lay_named(
+            &self.netlist,
+            self.readers.as_slice(),
+            &mut self.table,
+            &mut self.marks,
+            store,
+            numbers,
+        );
+        self.settle_nets();
+    }
+
+    /// Computes all nets, from the numbers that stand at the inputs and the registers' values.
+    fn settle_nets(&mut self)
+        ensures holds { Holds (plain (settled_nets self.new)) (settled_nets self.new) self.old.plan.raw (take (length self.old.plan.raw.inputs) self.old.table) self.old.registers }
+        ensures alone { (nets : Nets) → Holds (plain nets) nets self.old.plan.raw (take (length self.old.plan.raw.inputs) self.old.table) self.old.registers → (n : ℕ) → 1 ≤ drivers self.old.plan.raw n → nets n ≡ settled_nets self.new n }
+        ensures plan { self.new.plan ≡ self.old.plan }
+        ensures registers { self.new.registers ≡ self.old.registers }
+    {
         one_run();
-        lay_words(&mut self.table, inputs);
-        lay_numbers(&mut self.table, inputs.len(), self.registers.as_slice());
-        settle_cells(&self.netlist, self.cells.as_slice(), &mut self.table);
+        lay_registers(
+            &self.netlist,
+            self.readers.as_slice(),
+            &mut self.table,
+            &mut self.marks,
+            self.registers.as_slice(),
+        );
+        settle_cells(
+            &self.netlist,
+            self.cells.as_slice(),
+            self.readers.as_slice(),
+            &mut self.table,
+            &mut self.marks,
+        );
     }
 
     /// Gives the registers these words, one for each, of its width. The nets stay as they were last settled.
@@ -99,7 +151,7 @@ impl Sim {
         ensures plan { self.new.plan ≡ self.old.plan }
         ensures table { self.new.table ≡ self.old.table }
     {
-        lay_words(&mut self.registers, words);
+        load_words(&mut self.registers, words);
     }
 
     /// Gives each register what stands at its D. The nets stay as they were last settled.

@@ -7,8 +7,11 @@ ghost use Rattle.netlist_core.specs.Solutions.{driving};
 ghost use Rattle.cycle_sim.specs.Parts.{source_bits, part_bits, all_bits, AllWhole, IsWired, AllWired};
 ghost use Rattle.cycle_sim.specs.Places.{ArePlaced, ArePortsPlaced, AreBelow, ArePortsBelow};
 ghost use Rattle.cycle_sim.specs.Simulated.{AllCellsWired};
+ghost use Rattle.cycle_sim.specs.Marks.{AreReaders};
 
 use crate::parts::{Part, Place, Source, Wires};
+use crate::places::places_of;
+use crate::readers::readers_of;
 use mcy_base::Items;
 use netlist_core::{Bit, BitList, Netlist};
 use std::alloc::{AllocError, Global};
@@ -98,14 +101,14 @@ fn wires_at(alloc: Global, places: &[Place], ports: &[BitList]) -> Result<Items<
 }
 
 /// The input ports: all ports of a cell but the last.
-fn inputs(ports: &[BitList]) -> &[BitList]
+pub(crate) fn inputs(ports: &[BitList]) -> &[BitList]
     ensures { result.now ≡ input_ports ports.now }
 {
     &ports[..ports.len().saturating_sub(1)]
 }
 
 /// For each cell the wires of its input ports.
-pub(crate) fn cell_wires(
+fn cell_wires(
     alloc: Global,
     places: &[Place],
     netlist: &Netlist,
@@ -122,11 +125,7 @@ pub(crate) fn cell_wires(
 }
 
 /// For each register the wires of its D.
-pub(crate) fn next_wires(
-    alloc: Global,
-    places: &[Place],
-    netlist: &Netlist,
-) -> Result<Vec<Wires>, AllocError>
+fn next_wires(alloc: Global, places: &[Place], netlist: &Netlist) -> Result<Vec<Wires>, AllocError>
     requires long { length places.now ≡ netlist.now.nets }
     requires placed { ArePortsPlaced (driving netlist.now.raw) places.now (driving netlist.now.raw) }
     ensures { IfOk result (λ w. AllWired (driving netlist.now.raw) w.items (d_bits netlist.now.raw.registers)) }
@@ -139,7 +138,7 @@ pub(crate) fn next_wires(
 }
 
 /// For each output its wires.
-pub(crate) fn output_wires(
+fn output_wires(
     alloc: Global,
     places: &[Place],
     netlist: &Netlist,
@@ -153,4 +152,33 @@ pub(crate) fn output_wires(
         wires.push(wires_of(alloc, places, port.bits.as_slice())?)?;
     }
     Ok(wires)
+}
+
+/// Where each reader finds its bits, and which cells read each driver.
+#[derive(Drop)]
+pub(crate) struct Wiring {
+    pub(crate) cells: Vec<Items<Wires>>,
+    pub(crate) next: Vec<Wires>,
+    pub(crate) outputs: Vec<Wires>,
+    pub(crate) readers: Vec<Items<usize>>,
+}
+
+/// The wiring of a netlist.
+pub(crate) fn wiring_of(alloc: Global, netlist: &Netlist) -> Result<Wiring, AllocError>
+    ensures cells { IfOk result (λ w. AllCellsWired (driving netlist.now.raw) w.cells.items netlist.now.raw.cells) }
+    ensures next { IfOk result (λ w. AllWired (driving netlist.now.raw) w.next.items (d_bits netlist.now.raw.registers)) }
+    ensures outputs { IfOk result (λ w. AllWired (driving netlist.now.raw) w.outputs.items (bits_at netlist.now.raw.outputs)) }
+    ensures readers { IfOk result (λ w. AreReaders netlist.now w.readers.items) }
+{
+    let places = places_of(alloc, netlist)?;
+    let cells = cell_wires(alloc, places.as_slice(), netlist)?;
+    let next = next_wires(alloc, places.as_slice(), netlist)?;
+    let outputs = output_wires(alloc, places.as_slice(), netlist)?;
+    let readers = readers_of(alloc, places.as_slice(), netlist)?;
+    Ok(Wiring {
+        cells,
+        next,
+        outputs,
+        readers,
+    })
 }

@@ -1,7 +1,7 @@
-//! A look for a model of a miter's clauses by simulation, 64 patterns of the free bits at a time.
+//! A look for a model of a miter's clauses: by simulation, 64 patterns of the free bits at a time, and where that finds none by a guess.
 //!
-//! Each clause but the last defines its greatest variable, which is true where all its other literals are false. Nothing rests on
-//! this: what is found is tried on the netlists.
+//! Each clause but the last defines its greatest variable, which is true where all its other literals are false. Only those of the last
+//! one's cone are looked at. Nothing rests on this: what is found is tried on the netlists.
 ghost use Rattle.std.specs.Prelude.{◌≡◌, ◌≤◌, IfOk};
 ghost use Rattle.netlist_core.specs.Checked.{IsSound, free_bits};
 ghost use Rattle.pair_gates.specs.Matching.{AreAlike};
@@ -9,14 +9,19 @@ ghost use Rattle.equiv_test.specs.Jobs.{HasSeen};
 
 use crate::place::difference_at;
 use crate::verdict::Difference;
+use clause_cone::Cone;
 use clause_encoder::Miter;
 use clause_store::{ClauseStore, Lit};
 use cycle_sim::Sim;
+use model_guide::guess;
 use sat_solver::Assignment;
 use std::alloc::{AllocError, Global};
 
 /// How many words of 64 patterns are tried.
 const ROUNDS: u32 = 64;
+
+/// After how many conflicts the guess is given up.
+const CONFLICTS: u32 = 2000;
 
 /// How many of a word's bits are 1.
 #[derive(Clone, Copy)]
@@ -100,14 +105,24 @@ fn define(words: &mut [u64], clause: &[Lit]) {
     }
 }
 
-/// The patterns under which the last clause is true, once the others have defined their variables.
-fn models(words: &mut [u64], store: &ClauseStore) -> u64 {
+/// Whether the clause at this place is in the cone.
+fn is_inside(left_out: &[bool], place: usize) -> bool {
+    match left_out.get(place) {
+        Some(is_out) => !*is_out,
+        None => false,
+    }
+}
+
+/// The patterns under which the last clause is true, once those of its cone have defined their variables.
+fn models(words: &mut [u64], store: &ClauseStore, left_out: &[bool]) -> u64 {
     let count = store.len();
     if count == 0 {
         return u64::MAX;
     }
     for id in 1..count {
-        define(words, store.clause(id));
+        if is_inside(left_out, id as usize - 1) {
+            define(words, store.clause(id));
+        }
     }
     true_patterns(words, store.clause(count), 0)
 }
@@ -132,8 +147,9 @@ fn pattern(alloc: Global, words: &[u64], free: u32, number: u32) -> Result<Assig
     Ok(Assignment::from_values(values))
 }
 
-/// Values of the free bits under which the clauses may have a model, if some are found.
+/// Values of the free bits under which the clauses may have a model, if simulation finds some.
 fn sample(alloc: Global, miter: &Miter) -> Result<Option<Assignment>, AllocError> {
+    let cone = Cone::new(alloc, &miter.store, miter.variables, miter.free)?;
     let mut words = vec![in alloc; 0u64; miter.variables as usize + 1]?;
     let mut source = Words {
         last: 0x9E37_79B9_7F4A_7C15,
@@ -145,7 +161,7 @@ fn sample(alloc: Global, miter: &Miter) -> Result<Option<Assignment>, AllocError
             density_of(round),
             &mut source,
         );
-        let found = models(words.as_mut_slice(), &miter.store);
+        let found = models(words.as_mut_slice(), &miter.store, &cone.left_out);
         if found != 0 {
             let number = found.trailing_zeros();
             return Ok(Some(pattern(alloc, words.as_slice(), miter.free, number)?));
@@ -154,7 +170,18 @@ fn sample(alloc: Global, miter: &Miter) -> Result<Option<Assignment>, AllocError
     Ok(None)
 }
 
-/// A difference of two netlists that a pattern shows, if one does.
+/// Values of the free bits under which the clauses may have a model, if some are found.
+fn likely_model(alloc: Global, miter: &Miter) -> Result<Option<Assignment>, AllocError> {
+    if let Some(values) = sample(alloc, miter)? {
+        return Ok(Some(values));
+    }
+    match guess(alloc, miter, CONFLICTS)? {
+        Some(values) => Ok(Some(Assignment::from_values(values))),
+        None => Ok(None),
+    }
+}
+
+/// A difference of two netlists that such values show, if one is found.
 pub(crate) fn seen_difference(
     alloc: Global,
     original: &mut Sim,
@@ -169,7 +196,7 @@ pub(crate) fn seen_difference(
     ensures original { original.new.plan ≡ original.old.plan }
     ensures mutant { mutant.new.plan ≡ mutant.old.plan }
 {
-    match sample(alloc, miter)? {
+    match likely_model(alloc, miter)? {
         Some(values) => difference_at(alloc, original, mutant, &values),
         None => Ok(None),
     }

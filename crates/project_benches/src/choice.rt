@@ -24,19 +24,19 @@ fn stands_in(numbers: &[u32], at: Span) -> bool
 }
 
 /// Whether a module has this name and stands in one of these files.
-fn is_bench(numbers: &[u32], name: &str, module: &Module) -> bool
-    ensures { result ≡ is_bench numbers.now name.now module.now }
+fn is_bench(numbers: &[u32], name: &str, tree: &Module) -> bool
+    ensures { result ≡ is_bench numbers.now name.now tree.now }
 {
-    stands_in(numbers, module.span) && name == module.name.as_str()
+    stands_in(numbers, tree.span) && name == tree.name.as_str()
 }
 
 /// What there is with one module more.
-fn with<'a>(found: Found<'a>, module: &'a Module) -> Found<'a>
-    ensures { (modules : List Tree) → IsFound modules found.entry → IsFound (modules ++ module.now ∷ []) result }
+fn with<'a>(found: Found<'a>, tree: &'a Module) -> Found<'a>
+    ensures { (modules : List Tree) → IsFound modules found.entry → IsFound (modules ++ tree.now ∷ []) result }
 {
     match found {
-        Found::Nothing => Found::One(module),
-        Found::One(_) => Found::Twice(module.span),
+        Found::Nothing => Found::One(tree),
+        Found::One(_) => Found::Twice(tree.span),
         Found::Twice(at) => Found::Twice(at),
     }
 }

@@ -4,3 +4,4 @@ pub mod LastFirst
 pub mod Fitting
 pub mod Checked
 pub mod Checking
+pub mod Clips

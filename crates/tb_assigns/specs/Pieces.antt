@@ -1,13 +1,14 @@
 -- What the program keeps of a part of a left side.
-use Rattle.std.specs.Prelude.{◌≡◌, ℕ, List, [], ◌∷◌, ◌++◌, map, Option, Some, None}
+use Rattle.std.specs.Prelude.{◌≡◌, ℕ, ◌/◌, ◌^◌, List, [], ◌∷◌, ◌++◌, map, Option, Some, None}
 use Rattle.rand_pcg.specs.Lcg.{Lcg}
 use Rattle.vlog_meaning.specs.Integers.{bound_integer}
 use Rattle.vlog_meaning.specs.Scopes.{Names, Store}
 use Rattle.vlog_effects.specs.LeftSides.{Part, Vector, part_vector}
 use Rattle.tb_machine.specs.declared.update.Update.{Update}
+use Rattle.tb_assigns.specs.declared.clip.Clip.{Clip}
 use Rattle.tb_assigns.specs.declared.piece.Piece.{Piece}
 use Rattle.tb_assigns.specs.declared.piece.Vector as code
-use Rattle.tb_assigns.specs.Updates.{Window, window_drawn, windows_drawn}
+use Rattle.tb_assigns.specs.Updates.{Window, some_bits, window_drawn, windows_drawn}
 
 abbrev pub vector_is : code.Vector → Vector
 vector_is v = record { number = v.number; width = v.width; low = v.low }
@@ -34,3 +35,7 @@ AreDrawn names phase store parts g h before after = (windows_of after, h) ≡ on
 abbrev pub listed : Option Update → List Update
 listed None = []
 listed (Some u) = u ∷ []
+
+-- the update of the bits of a piece that lie in its signal
+abbrev pub clip_update : Clip → ℕ → List Update
+clip_update c v = some_bits c.signal c.low c.width (v / 2 ^ c.skipped)

@@ -14,7 +14,7 @@ use vlog_meaning::{Scope, Shape, shape_of};
 use vlog_syntax::{Assignment, Expr};
 
 /// The size at which a right side is evaluated that is assigned to so many bits.
-fn context_of(right: &Expr, width: u8, scope: &Scope) -> Shape
+pub fn context_of(right: &Expr, width: u8, scope: &Scope) -> Shape
     requires whole { IsWhole (names_of scope.now) right.now }
     requires narrow { width ≤ 128 }
     ensures size { result ≡ assigned (sense (names_of scope.now) right.now) width }

@@ -17,7 +17,7 @@ use vlog_syntax::LeftSide;
 
 /// How many bits a left side writes, at most 128.
 #[cycle(width)]
-pub(crate) fn left_width(left: &LeftSide, scope: &Scope) -> u8
+pub fn left_width(left: &LeftSide, scope: &Scope) -> u8
     requires parts { AreParts (names_of scope.now) (parts_of left.now) }
     requires narrow { parts_width (names_of scope.now) (parts_of left.now) ≤ 128 }
     ensures { result ≡ parts_width (names_of scope.now) (parts_of left.now) }

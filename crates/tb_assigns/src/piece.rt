@@ -18,7 +18,7 @@ use vlog_syntax::{Expr, Identifier};
 
 /// A signal: its number, how many bits it has, and the declared number of its lowest bit.
 #[derive(Clone, Copy)]
-pub(crate) struct Vector {
+pub struct Vector {
     pub number: u32,
     pub width: u8,
     pub low: u32,
@@ -26,14 +26,14 @@ pub(crate) struct Vector {
 
 /// So many bits of a signal, from the one with a declared number on. They may lie outside of it.
 #[derive(Clone, Copy)]
-pub(crate) struct Piece {
+pub struct Piece {
     pub vector: Vector,
     pub base: Bound,
     pub size: u8,
 }
 
 /// The signal of a name.
-pub(crate) fn vector_of(name: &Identifier, scope: &Scope) -> Vector
+pub fn vector_of(name: &Identifier, scope: &Scope) -> Vector
     requires { (v : Known) × (vector_of (names_of scope.now name.now.name) ≡ Some v) }
     ensures { vector_of (names_of scope.now name.now.name) ≡ Some (vector_is result) }
 {
@@ -64,7 +64,7 @@ pub(crate) fn range_size(msb: Bound, lsb: Bound) -> u8
 }
 
 /// A number that is not negative.
-fn positive(magnitude: u128) -> Bound
+pub fn positive(magnitude: u128) -> Bound
     ensures { bound_integer result ≡ pos magnitude }
 {
     Bound {
@@ -85,7 +85,7 @@ fn index_at(index: &Expr, moment: &Moment<'_>, words: &mut Lcg64Xsh32) -> Result
 }
 
 /// A whole signal.
-pub(crate) fn whole_piece(name: &Identifier, scope: &Scope) -> Piece
+pub fn whole_piece(name: &Identifier, scope: &Scope) -> Piece
     requires { (v : Known) × IsPart (names_of scope.now) (record { name = name.now; select = Whole }) v }
     ensures { (phase : ℕ) (store : Store) (g : Lcg) → IsDrawn (names_of scope.now) phase store (record { name = name.now; select = Whole }) g g result }
 {
@@ -118,13 +118,7 @@ pub(crate) fn bit_piece(
 }
 
 /// `name[msb:lsb]`
-pub(crate) fn range_piece(
-    name: &Identifier,
-    span: Span,
-    msb: &Expr,
-    lsb: &Expr,
-    scope: &Scope,
-) -> Piece
+pub fn range_piece(name: &Identifier, span: Span, msb: &Expr, lsb: &Expr, scope: &Scope) -> Piece
     requires { (v : Known) × IsPart (names_of scope.now) (record { name = name.now; select = Range span msb.now lsb.now }) v }
     ensures { (phase : ℕ) (store : Store) (g : Lcg) → IsDrawn (names_of scope.now) phase store (record { name = name.now; select = Range span msb.now lsb.now }) g g result }
 {

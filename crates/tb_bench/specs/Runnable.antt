@@ -9,6 +9,7 @@ use Rattle.tb_machine.specs.Known.{AllKnown}
 use Rattle.tb_machine.specs.Nodes.{IsCode, AreClosed}
 use Rattle.tb_assigns.specs.Updates.{CanAssign}
 use Rattle.tb_evaluator.specs.Meanings.{CanPerform, HasSignals}
+use Rattle.tb_plans.specs.Plans.{ArePlans, AreNetPlans}
 use Rattle.tb_settling.specs.Settling.{CanSettle}
 use Rattle.tb_bench.specs.declared.parts.Waiting.{Waiting}
 use Rattle.tb_bench.specs.declared.parts.Parts.{Parts}
@@ -26,6 +27,8 @@ pub record IsRunnable (b : Parts) : Type 0 where
   -- each statement evaluates, assigns and prints what it can, and names statements of the code
   pub known : AllKnown (IsWhole (names b)) (CanAssign (names b)) (CanPerform (names b)) b.code
   pub closed : AreClosed b.code
+  -- its plan, if it has one, tells what it evaluates
+  pub plans : ArePlans (names b) b.code b.plans
   pub always : All (IsBelow (length b.code)) b.always
   pub initial : All (IsBelow (length b.code)) b.initial
   -- declared signals have a start value, of their width
@@ -35,6 +38,8 @@ pub record IsRunnable (b : Parts) : Type 0 where
   pub high : b.clock.high.width ≡ slice_index (widths b) b.clock.signal
   -- the nets can settle
   pub nets : CanSettle (names b) (widths b) b.inputs b.outputs b.nets
+  -- and the plan of an assign among them, if it has one, tells its updates
+  pub net_plans : AreNetPlans (names b) b.nets.nodes b.net_plans
 
 -- the design's ports are as wide as the signals that stand for them
 pub record FitsDesign (b : Parts) (netlist : RawNetlist) : Type 0 where

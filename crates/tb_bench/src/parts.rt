@@ -2,6 +2,7 @@
 use mcy_base::{Items, Word, WordList};
 use tb_code::Code;
 use tb_machine::{Event, Numbers};
+use tb_plans::{Plan, Transfer};
 use tb_settling::Nets;
 use vlog_meaning::Scope;
 
@@ -32,6 +33,8 @@ pub struct Parts {
     pub starts: WordList,
     /// The statements of its processes.
     pub code: Code,
+    /// How each of them is evaluated, by its number.
+    pub plans: Items<Plan>,
     /// The `always` processes in the order of the source.
     pub always: WaitingList,
     /// The `initial` processes in the order of the source. The clock is none of them.
@@ -42,4 +45,6 @@ pub struct Parts {
     pub outputs: Numbers,
     /// The assigns and the instance, in an order in which they settle.
     pub nets: Nets,
+    /// How each of their nodes is evaluated, by its number, if it is an assign that has a plan.
+    pub net_plans: Items<Option<Transfer>>,
 }

@@ -5,4 +5,5 @@ mod matching;
 mod selection;
 mod sizes;
 
-pub use selection::choose;
+pub use selection::{choose, default_item};
+pub use sizes::case_size;

@@ -39,7 +39,7 @@ fn first_match(
 }
 
 /// The default: the first item without labels.
-fn default_item(items: &[Choice]) -> Option<usize>
+pub fn default_item(items: &[Choice]) -> Option<usize>
     ensures { result ≡ default_item 0 (map choice_labels items.now) }
 {
     for (number, item) in items.iter().enumerate() {

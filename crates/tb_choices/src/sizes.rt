@@ -55,7 +55,7 @@ fn size_with_labels(size: Shape, items: &[Choice], scope: &Scope) -> Shape
 }
 
 /// The size of a case.
-pub(crate) fn case_size(selector: &Expr, items: &[Choice], scope: &Scope) -> Shape
+pub fn case_size(selector: &Expr, items: &[Choice], scope: &Scope) -> Shape
     requires selector { IsWhole (names_of scope.now) selector.now }
     requires labels { LabelsWhole (names_of scope.now) (map choice_labels items.now) }
     ensures size { result ≡ common_size (names_of scope.now) (selector.now ∷ flat_map choice_labels items.now) }

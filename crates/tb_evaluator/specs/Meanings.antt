@@ -1,16 +1,19 @@
 -- What expressions, assignments and system tasks of a testbench mean to its processes in a phase: they are evaluated with the
 -- values that the world has of the signals, and the generator goes on in the world after them.
-use Rattle.std.specs.Prelude.{◌≡◌, ◌<◌, ℕ, true, ◌||◌, List, [], ◌++◌, length, slice_index, Option, Some, None}
+use Rattle.std.specs.Prelude.{◌≡◌, ℕ, true, ◌||◌, List, [], ◌++◌, slice_index}
 use Rattle.rand_pcg.specs.Lcg.{Lcg}
 use Rattle.vlog_syntax.specs.declared.stmt.Argument.{Argument}
-use Rattle.vlog_meaning.specs.declared.scope.Decl.{Decl}
-use Rattle.vlog_meaning.specs.declared.scope.Decl.TheVariants.{Signal, Constant}
 use Rattle.vlog_meaning.specs.Scopes.{Names, Store}
+use Rattle.vlog_meaning.specs.Senses.{IsWhole}
 use Rattle.tb_machine.specs.Worlds.{World}
 use Rattle.tb_machine.specs.Steps.{Meaning}
+use Rattle.tb_machine.specs.Known.{Request, Test, Count, Choose, Assign, Perform}
 use Rattle.tb_values.specs.Values.{condition, turns}
-use Rattle.tb_choices.specs.Choices.{chosen}
-use Rattle.tb_assigns.specs.Updates.{updates}
+use Rattle.tb_choices.specs.Choices.{chosen, LabelsWhole}
+use Rattle.tb_assigns.specs.Updates.{updates, CanAssign}
+pub use Rattle.tb_formulas.specs.Signals.{HasSignal, HasSignals}
+use Rattle.tb_plans.specs.declared.plan.Plan.{Plan}
+use Rattle.tb_plans.specs.Plans.{IsPlanned}
 use Rattle.tb_tasks.specs.Tasks.{performed, is_display, is_write, AreWhole}
 
 -- the values of the signals in a world
@@ -38,11 +41,14 @@ meaning names phase = record {
 abbrev pub CanPerform : Names → List ℕ → List Argument → Type 0
 CanPerform names name arguments = (is_display name || is_write name) ≡ true → AreWhole names arguments
 
--- signals of these widths are those that are declared
-abbrev pub HasSignal : List ℕ → Option Decl → Type 0
-HasSignal widths (Some (Signal width low is_signed number)) = (number < length widths) × (slice_index widths number ≡ width)
-HasSignal widths (Some (Constant value is_signed)) = Unit {0}
-HasSignal widths None = Unit {0}
+-- What a statement asks for has shapes.
+abbrev pub IsSound : Names → Request → Type 0
+IsSound names (Test x) = IsWhole names x
+IsSound names (Count x) = IsWhole names x
+IsSound names (Choose kind x labels) = IsWhole names x × LabelsWhole names labels
+IsSound names (Assign part a) = CanAssign names a
+IsSound names (Perform name arguments) = CanPerform names name arguments
 
-abbrev pub HasSignals : Names → List ℕ → Type 0
-HasSignals names widths = (name : List ℕ) → HasSignal widths (names name)
+-- What a statement with this plan asks for can be answered: where there is a plan, it means the same.
+abbrev pub CanAnswer : Names → Plan → Request → Type 0
+CanAnswer names plan request = IsSound names request × IsPlanned names plan request

@@ -1,65 +1,62 @@
-//! The evaluator of a phase.
-ghost use Rattle.std.specs.Prelude.{◌≡◌};
-ghost use Rattle.vlog_meaning.specs.Scopes.{names_of, store_of, FitsSignals};
-ghost use Rattle.vlog_meaning.specs.Senses.{IsWhole};
-ghost use Rattle.tb_assigns.specs.Updates.{CanAssign};
-ghost use Rattle.tb_evaluator.specs.Meanings.{meaning, store_in, CanPerform, HasSignals};
+//! The evaluator of a phase: a statement with a plan goes by that, and any other by its expressions.
+ghost use Rattle.std.specs.Prelude.{◌≡◌, IfOk, map};
+ghost use Rattle.vlog_syntax.specs.declared.stmt.Assignment.{Assignment as Assigned};
+ghost use Rattle.vlog_meaning.specs.Scopes.{names_of};
+ghost use Rattle.tb_machine.specs.Steps.{assign};
+ghost use Rattle.tb_machine.specs.Worlds.{scheduled};
+ghost use Rattle.tb_plans.specs.Plans.{plan_at};
+ghost use Rattle.tb_plans.specs.Transfers.{IsWritingOf};
+ghost use Rattle.tb_evaluator.specs.Meanings.{meaning, CanAnswer, HasSignals};
 
-use rand_pcg::Lcg64Xsh32;
-use std::alloc::{AllocError, Global};
-use tb_assigns::updates;
-use tb_choices::choose;
-use tb_machine::{Choice, Evaluator, Scene};
+use crate::phase::PhaseEvaluator;
+use crate::planned::{assign_some, choice_planned, holds_planned, schedule_some, update_planned};
+use std::alloc::AllocError;
+use tb_machine::{Choice, Evaluator, Part, Scene};
+use tb_plans::Writing;
 use tb_tasks::perform;
-use tb_values::{Moment, count, holds};
-use vlog_meaning::Scope;
+use tb_values::count;
 use vlog_syntax::{Argument, Assignment, CaseKind, Expr, Identifier};
 
-/// What a process finds in a phase besides a scene: the names that its expressions see, and the number of the phase.
-#[derive(Clone, Copy)]
-pub struct PhaseEvaluator<'a> {
-    pub alloc: Global,
-    pub scope: &'a Scope,
-    pub phase: u64,
-}
-
 impl<'a> PhaseEvaluator<'a> {
-    /// The moment of a scene.
-    fn moment<'b>(&'b self, scene: &'b Scene) -> Moment<'b>
-        requires { HasSignals (names_of self.now.scope.now) scene.now.widths }
-        ensures scope { result.scope.now ≡ self.now.scope.now }
-        ensures phase { result.phase ≡ self.now.phase }
-        ensures stored { FitsSignals (names_of self.now.scope.now) result.store.now }
-        ensures store { store_of result.store.now ≡ store_in scene.now }
+    /// Carries out a blocking assignment by its plan.
+    fn assign_planned(&self, writing: &Writing, scene: &mut Scene) -> Result<(), AllocError>
+        requires plan { (a : Assigned) × IsWritingOf (names_of self.now.scope.now) a writing.now }
+        requires world { HasSignals (names_of self.now.scope.now) scene.old.widths }
+        ensures assigned { (a : Assigned) → IsWritingOf (names_of self.now.scope.now) a writing.now → IfOk result (λ _. scene.new ≡ assign (meaning (names_of self.now.scope.now) self.now.phase) a scene.old) }
+        ensures world { IfOk result (λ _. HasSignals (names_of self.now.scope.now) scene.new.widths) }
     {
-        Moment {
-            alloc: self.alloc,
-            scope: self.scope,
-            store: scene.store(),
-            phase: self.phase,
-        }
+        let update = update_planned(writing, scene)?;
+        assign_some(update, scene);
+        Ok(())
+    }
+
+    /// Schedules the updates of a nonblocking assignment by its plan.
+    fn schedule_planned(&self, writing: &Writing, scene: &mut Scene) -> Result<(), AllocError>
+        requires plan { (a : Assigned) × IsWritingOf (names_of self.now.scope.now) a writing.now }
+        requires world { HasSignals (names_of self.now.scope.now) scene.old.widths }
+        ensures scheduled { (a : Assigned) → IsWritingOf (names_of self.now.scope.now) a writing.now → IfOk result (λ _. scene.new ≡ scheduled ((meaning (names_of self.now.scope.now) self.now.phase).updates a scene.old).1 ((meaning (names_of self.now.scope.now) self.now.phase).updates a scene.old).0) }
+        ensures world { IfOk result (λ _. HasSignals (names_of self.now.scope.now) scene.new.widths) }
+    {
+        let update = update_planned(writing, scene)?;
+        schedule_some(update, scene)
     }
 }
 
 impl<'a> Evaluator for PhaseEvaluator<'a> {
     ghost meaning = { λ e. meaning (names_of e.scope.now) e.phase };
 
-    ghost knows = { λ e x. IsWhole (names_of e.scope.now) x };
-
-    ghost assigns = { λ e a. CanAssign (names_of e.scope.now) a };
-
-    ghost performs = { λ e name arguments. CanPerform (names_of e.scope.now) name arguments };
+    ghost answers = { λ e number request. CanAnswer (names_of e.scope.now) (plan_at e.plans.now number) request };
 
     ghost serves = { λ e w. HasSignals (names_of e.scope.now) w.widths };
 
-    fn holds(&self, condition: &Expr, scene: &mut Scene) -> Result<bool, AllocError> {
-        let mut words = scene.words()?;
-        let holds = holds(condition, &self.moment(scene), &mut words)?;
-        scene.set_words(words);
-        Ok(holds)
+    fn holds(&self, number: u32, condition: &Expr, scene: &mut Scene) -> Result<bool, AllocError> {
+        match self.condition(number) {
+            Some(formula) => Ok(holds_planned(formula, scene)),
+            None => self.holds_unplanned(condition, scene),
+        }
     }
 
-    fn count(&self, expr: &Expr, scene: &mut Scene) -> Result<u128, AllocError> {
+    fn count(&self, _number: u32, expr: &Expr, scene: &mut Scene) -> Result<u128, AllocError> {
         let mut words = scene.words()?;
         let turns = count(expr, &self.moment(scene), &mut words)?;
         scene.set_words(words);
@@ -68,34 +65,46 @@ impl<'a> Evaluator for PhaseEvaluator<'a> {
 
     fn choice(
         &self,
+        number: u32,
         kind: CaseKind,
         selector: &Expr,
         items: &[Choice],
         scene: &mut Scene,
     ) -> Result<Option<usize>, AllocError> {
-        let mut words = scene.words()?;
-        let taken = choose(kind, selector, items, &self.moment(scene), &mut words)?;
-        scene.set_words(words);
-        Ok(taken)
+        match self.selection(number) {
+            Some(selection) => Ok(choice_planned(selection, scene)),
+            None => self.choice_unplanned(kind, selector, items, scene),
+        }
     }
 
-    fn assign(&self, assignment: &Assignment, scene: &mut Scene) -> Result<(), AllocError> {
-        let mut words = scene.words()?;
-        let updates = updates(assignment, &self.moment(scene), &mut words)?;
-        scene.set_words(words);
-        scene.assign_all(updates.as_slice());
-        Ok(())
+    fn assign(
+        &self,
+        number: u32,
+        part: Part,
+        assignment: &Assignment,
+        scene: &mut Scene,
+    ) -> Result<(), AllocError> {
+        match self.writing(number, part) {
+            Some(writing) => self.assign_planned(writing, scene),
+            None => self.assign_unplanned(assignment, scene),
+        }
     }
 
-    fn schedule(&self, assignment: &Assignment, scene: &mut Scene) -> Result<(), AllocError> {
-        let mut words = scene.words()?;
-        let updates = updates(assignment, &self.moment(scene), &mut words)?;
-        scene.set_words(words);
-        scene.schedule_all(updates.as_slice())
+    fn schedule(
+        &self,
+        number: u32,
+        assignment: &Assignment,
+        scene: &mut Scene,
+    ) -> Result<(), AllocError> {
+        match self.writing(number, Part::Itself) {
+            Some(writing) => self.schedule_planned(writing, scene),
+            None => self.schedule_unplanned(assignment, scene),
+        }
     }
 
     fn task(
         &self,
+        _number: u32,
         name: &Identifier,
         arguments: &[Argument],
         scene: &mut Scene,

@@ -1,6 +1,9 @@
-//! What expressions, assignments and system tasks of a testbench mean to its processes.
+//! What expressions, assignments and system tasks of a testbench mean to its processes. Where a statement has a plan, it is
+//! evaluated by that.
 #![tactic(auto)]
 
 mod evaluator;
+mod phase;
+mod planned;
 
-pub use evaluator::PhaseEvaluator;
+pub use phase::PhaseEvaluator;

@@ -16,11 +16,11 @@ use Rattle.tb_machine.proofs.Stacks.{works-push}
 pub works-push-two : (nodes : List Node) (tree : Tree) (stack one two : List Frame) (x y : Frame) → one ≡ stack ++ x ∷ [] → two ≡ one ++ y ∷ [] → works nodes tree two ≡ work_of nodes tree y ∷ work_of nodes tree x ∷ works nodes tree stack
 works-push-two nodes tree stack one two x y e h = rw (h, works-push nodes tree one y, e, works-push nodes tree stack x) refl
 
-pub for_turn : (nodes : List Node) (tree : Tree) (m : Meaning) (first : Bool) (number : ℕ) (stack : List Frame) (w : World) (due : Assignment) {node : Node} {start after : Assignment} {x : Expr} {body : ℕ} {u v : World} {taken : Bool} {one two : List Frame} → node ≡ n.For start x after body → slice_get nodes number ≡ Some node → due ≡ (if first then start else after) → u ≡ assign m due w → (taken, v) ≡ m.holds x u → taken ≡ true → one ≡ stack ++ f.Next number ∷ [] → two ≡ one ++ f.Do body ∷ [] → IsStep nodes tree d.Goes two v (step m (loop_work tree first (Some node)) (works nodes tree stack) w)
-for_turn nodes tree m first number stack w due {start = start} {after = after} {x = x} {body = body} {one = one} {two = two} is at is_due run drawn here pushed again = rw (is, ← is_due, ← run, ← drawn, here) (works-push-two nodes tree stack one two (f.Next number) (f.Do body) pushed again ∙ rw (at, is) refl, refl)
+pub for_turn : (nodes : List Node) (tree : Tree) (m : Meaning) (first : Bool) (number : ℕ) (stack : List Frame) (w : World) {node : Node} {start after : Assignment} {x : Expr} {body : ℕ} {u v : World} {taken : Bool} {one two : List Frame} → node ≡ n.For start x after body → slice_get nodes number ≡ Some node → u ≡ assign m (if first then start else after) w → (taken, v) ≡ m.holds x u → taken ≡ true → one ≡ stack ++ f.Next number ∷ [] → two ≡ one ++ f.Do body ∷ [] → IsStep nodes tree d.Goes two v (step m (loop_work tree first (Some node)) (works nodes tree stack) w)
+for_turn nodes tree m first number stack w {start = start} {after = after} {x = x} {body = body} {one = one} {two = two} is at run drawn here pushed again = rw (is, ← run, ← drawn, here) (works-push-two nodes tree stack one two (f.Next number) (f.Do body) pushed again ∙ rw (at, is) refl, refl)
 
-pub for_end : (nodes : List Node) (tree : Tree) (m : Meaning) (first : Bool) (stack : List Frame) (w : World) (due : Assignment) {node : Node} {start after : Assignment} {x : Expr} {body : ℕ} {u v : World} {taken : Bool} → node ≡ n.For start x after body → due ≡ (if first then start else after) → u ≡ assign m due w → (taken, v) ≡ m.holds x u → taken ≡ false → IsStep nodes tree d.Goes stack v (step m (loop_work tree first (Some node)) (works nodes tree stack) w)
-for_end nodes tree m first stack w due {start = start} {after = after} {x = x} {body = body} is is_due run drawn here = rw (is, ← is_due, ← run, ← drawn, here) (refl, refl)
+pub for_end : (nodes : List Node) (tree : Tree) (m : Meaning) (first : Bool) (stack : List Frame) (w : World) {node : Node} {start after : Assignment} {x : Expr} {body : ℕ} {u v : World} {taken : Bool} → node ≡ n.For start x after body → u ≡ assign m (if first then start else after) w → (taken, v) ≡ m.holds x u → taken ≡ false → IsStep nodes tree d.Goes stack v (step m (loop_work tree first (Some node)) (works nodes tree stack) w)
+for_end nodes tree m first stack w {start = start} {after = after} {x = x} {body = body} is run drawn here = rw (is, ← run, ← drawn, here) (refl, refl)
 
 pub while_turn : (nodes : List Node) (tree : Tree) (m : Meaning) (first : Bool) (number : ℕ) (stack : List Frame) (w : World) {node : Node} {x : Expr} {body : ℕ} {v : World} {taken : Bool} {one two : List Frame} → node ≡ n.While x body → slice_get nodes number ≡ Some node → (taken, v) ≡ m.holds x w → taken ≡ true → one ≡ stack ++ f.Next number ∷ [] → two ≡ one ++ f.Do body ∷ [] → IsStep nodes tree d.Goes two v (step m (loop_work tree first (Some node)) (works nodes tree stack) w)
 while_turn nodes tree m first number stack w {x = x} {body = body} {one = one} {two = two} is at drawn here pushed again = rw (is, ← drawn, here) (works-push-two nodes tree stack one two (f.Next number) (f.Do body) pushed again ∙ rw (at, is) refl, refl)

@@ -31,3 +31,13 @@ power_le j k h = pow_mono {i = j} {j = k} h
 
 pub shifted : (u width low wide : ℕ) → u < 2 ^ width → low + width ≤ wide → wide ≤ 128 → u * 2 ^ low % 2 ^ 128 ≡ u * 2 ^ low
 shifted u width low wide fits inside narrow = shl_whole u width low 128 fits (omega arith)
+
+-- a number of all places replaces them all
+pub all_replaced : (v value low width wide : ℕ) → v < 2 ^ wide → width ≡ wide → low + width ≤ wide → v % 2 ^ low + value * 2 ^ low + v / 2 ^ (low + width) * 2 ^ (low + width) ≡ value
+all_replaced v value low width wide fits is inside =
+    let none : low ≡ 0 = omega arith in
+    let top : 0 + width ≡ wide = omega arith in
+    let all : 0 + wide ≡ wide = omega arith in
+    let gone : v / 2 ^ wide < 2 ^ 0 = shr_below v 0 wide (rw all fits) in
+    let zero_is : v / 2 ^ wide ≡ 0 = omega (arith, gone) in
+    rw (none, top, zero_is) (omega (arith, remainder_below v 0))

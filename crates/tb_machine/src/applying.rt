@@ -18,7 +18,7 @@ pub(crate) fn set(words: &mut Vec<Word>, number: u32, word: Word)
 }
 
 /// An update applies.
-fn apply(words: &mut Vec<Word>, update: Update)
+pub(crate) fn apply(words: &mut Vec<Word>, update: Update)
     requires { Fits (map (λ w. w.width) words.old.items) update }
     ensures widths { map (λ w. w.width) words.new.items ≡ map (λ w. w.width) words.old.items }
     ensures bits { map (λ w. w.bits) words.new.items ≡ applied (map (λ w. w.bits) words.old.items) update }

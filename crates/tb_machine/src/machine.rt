@@ -3,15 +3,16 @@ ghost use Rattle.std.specs.Prelude.{◌≡◌, ℕ, ◌<◌, ◌++◌, [], ◌�
 ghost use Rattle.std.specs.List.{All};
 ghost use Rattle.vlog_syntax.specs.declared.stmt.Stmt.{Stmt};
 ghost use Rattle.tb_machine.specs.declared.node.Node.{Node as Code};
-ghost use Rattle.tb_machine.specs.Steps.{Do, Turns, step, goes_on};
+ghost use Rattle.tb_machine.specs.Steps.{Do, Turns, assign, step, goes_on};
 ghost use Rattle.tb_machine.specs.declared.machine.Stepped.TheVariants.{Goes};
 ghost use Rattle.tb_machine.specs.Nodes.{Tree, tree_of, node_step, loop_work, work_of, works, optional_do, choice_at, choice_do, AreClosed, BodyBelow, PartsBelow, FramesBelow, IsCode, frame_number};
-ghost use Rattle.tb_machine.specs.Known.{IsKnown, AllKnown};
+ghost use Rattle.tb_machine.specs.Known.{IsAnswered, AllAnswered, Assign};
+ghost use Rattle.tb_machine.specs.declared.node.Part.TheVariants as p;
 ghost use Rattle.tb_machine.specs.Machine.{IsStep, IsRan};
 
 use crate::evaluator::Evaluator;
 use crate::event::Event;
-use crate::node::{Choice, Frame, Node, Process};
+use crate::node::{Choice, Frame, Node, Part, Process};
 use crate::scene::Scene;
 use std::alloc::AllocError;
 use vlog_syntax::Assignment;
@@ -94,7 +95,7 @@ fn execute<E: Evaluator>(
     requires at { slice_get nodes.now number ≡ Some node.now }
     requires parts { PartsBelow (length nodes.now) node.now }
     requires below { FramesBelow (length nodes.now) stack.old.items }
-    requires can { IsKnown (E.knows evaluator.now) (E.assigns evaluator.now) (E.performs evaluator.now) node.now }
+    requires can { IsAnswered (E.answers evaluator.now) number node.now }
     requires serves { E.serves evaluator.now scene.old }
     ensures step { (tree : Tree) → IfOk result (λ r. IsStep nodes.now tree r stack.new.items scene.new (node_step (E.meaning evaluator.now) tree node.now (works nodes.now tree stack.old.items) scene.old)) }
     ensures below { IfOk result (λ _. FramesBelow (length nodes.now) stack.new.items) }
@@ -107,18 +108,18 @@ fn execute<E: Evaluator>(
             Ok(Stepped::Goes)
         }
         Node::Conditional(condition, yes, no) => {
-            let holds = evaluator.holds(condition, scene)?;
+            let holds = evaluator.holds(number, condition, scene)?;
             push_next(stack, part_of(holds, *yes, *no))
         }
         Node::Case(kind, selector, items) => {
             let items = items.as_slice();
-            let taken = evaluator.choice(*kind, selector, items, scene)?;
+            let taken = evaluator.choice(number, *kind, selector, items, scene)?;
             push_next(stack, body_at(items, taken))
         }
         Node::For(..) => push(stack, Frame::First(number)),
         Node::While(..) => push(stack, Frame::First(number)),
         Node::Repeat(count, body) => {
-            let turns = evaluator.count(count, scene)?;
+            let turns = evaluator.count(number, count, scene)?;
             push(stack, Frame::Turns(turns, *body))
         }
         Node::Forever(body) => push(stack, Frame::Again(*body)),
@@ -128,25 +129,40 @@ fn execute<E: Evaluator>(
         }
         Node::Finish => Ok(Stepped::Finishes),
         Node::SystemTaskEnable(name, arguments) => {
-            evaluator.task(name, arguments.as_slice(), scene)?;
+            evaluator.task(number, name, arguments.as_slice(), scene)?;
             Ok(Stepped::Goes)
         }
         Node::Blocking(assignment) => {
-            evaluator.assign(assignment, scene)?;
+            evaluator.assign(number, Part::Itself, assignment, scene)?;
             Ok(Stepped::Goes)
         }
         Node::Nonblocking(assignment) => {
-            evaluator.schedule(assignment, scene)?;
+            evaluator.schedule(number, assignment, scene)?;
             Ok(Stepped::Goes)
         }
     }
 }
 
-/// The assignment that is due before a test: the start of a loop, or the step after a turn.
-fn due<'a>(is_first: bool, start: &'a Assignment, step: &'a Assignment) -> &'a Assignment
-    ensures { result.now ≡ (if is_first then start.now else step.now) }
+/// Carries out the assignment that is due before a test: the start of a loop, or the step after a turn.
+fn assign_due<E: Evaluator>(
+    number: u32,
+    is_first: bool,
+    start: &Assignment,
+    step: &Assignment,
+    evaluator: &E,
+    scene: &mut Scene,
+) -> Result<(), AllocError>
+    requires start { E.answers evaluator.now number (Assign p.Start start.now) }
+    requires step { E.answers evaluator.now number (Assign p.Step step.now) }
+    requires serves { E.serves evaluator.now scene.old }
+    ensures assigned { IfOk result (λ _. scene.new ≡ assign (E.meaning evaluator.now) (if is_first then start.now else step.now) scene.old) }
+    ensures serves { IfOk result (λ _. E.serves evaluator.now scene.new) }
 {
-    if is_first { start } else { step }
+    if is_first {
+        evaluator.assign(number, Part::Start, start, scene)
+    } else {
+        evaluator.assign(number, Part::Step, step, scene)
+    }
 }
 
 /// Tests a loop, and begins a turn where the test holds. The assignment that is due comes first.
@@ -163,7 +179,7 @@ fn test_loop<E: Evaluator>(
     requires at { slice_get nodes.now number ≡ Some node.now }
     requires parts { PartsBelow (length nodes.now) node.now }
     requires below { FramesBelow (length nodes.now) stack.old.items }
-    requires can { IsKnown (E.knows evaluator.now) (E.assigns evaluator.now) (E.performs evaluator.now) node.now }
+    requires can { IsAnswered (E.answers evaluator.now) number node.now }
     requires serves { E.serves evaluator.now scene.old }
     ensures step { (tree : Tree) → IfOk result (λ r. IsStep nodes.now tree r stack.new.items scene.new (step (E.meaning evaluator.now) (loop_work tree is_first (Some node.now)) (works nodes.now tree stack.old.items) scene.old)) }
     ensures below { IfOk result (λ _. FramesBelow (length nodes.now) stack.new.items) }
@@ -171,15 +187,15 @@ fn test_loop<E: Evaluator>(
 {
     match node {
         Node::For(start, condition, step, body) => {
-            evaluator.assign(due(is_first, start, step), scene)?;
-            if evaluator.holds(condition, scene)? {
+            assign_due(number, is_first, start, step, evaluator, scene)?;
+            if evaluator.holds(number, condition, scene)? {
                 stack.push(Frame::Next(number))?;
                 stack.push(Frame::Do(*body))?;
             }
             Ok(Stepped::Goes)
         }
         Node::While(condition, body) => {
-            if evaluator.holds(condition, scene)? {
+            if evaluator.holds(number, condition, scene)? {
                 stack.push(Frame::Next(number))?;
                 stack.push(Frame::Do(*body))?;
             }
@@ -200,7 +216,7 @@ fn step<E: Evaluator>(
     requires known { frame_number frame < length nodes.now }
     requires closed { AreClosed nodes.now }
     requires below { FramesBelow (length nodes.now) stack.old.items }
-    requires can { AllKnown (E.knows evaluator.now) (E.assigns evaluator.now) (E.performs evaluator.now) nodes.now }
+    requires can { AllAnswered (E.answers evaluator.now) nodes.now }
     requires serves { E.serves evaluator.now scene.old }
     ensures step { (trees : List Stmt) → IsCode nodes.now trees → IfOk result (λ r. IsStep nodes.now (tree_of trees) r stack.new.items scene.new (step (E.meaning evaluator.now) (work_of nodes.now (tree_of trees) frame) (works nodes.now (tree_of trees) stack.old.items) scene.old)) }
     ensures below { IfOk result (λ _. FramesBelow (length nodes.now) stack.new.items) }
@@ -244,7 +260,7 @@ pub fn go_on<E: Evaluator>(
 ) -> Result<Ended, AllocError>
     requires closed { AreClosed nodes.now }
     requires below { FramesBelow (length nodes.now) process.old.stack.items }
-    requires can { AllKnown (E.knows evaluator.now) (E.assigns evaluator.now) (E.performs evaluator.now) nodes.now }
+    requires can { AllAnswered (E.answers evaluator.now) nodes.now }
     requires serves { E.serves evaluator.now scene.old }
     ensures ran { (trees : List Stmt) → IsCode nodes.now trees → IfOk result (λ r. IsRan nodes.now (tree_of trees) r left.new process.new scene.new (goes_on (E.meaning evaluator.now) process.old.event left.old (works nodes.now (tree_of trees) process.old.stack.items) scene.old)) }
     ensures below { IfOk result (λ _. FramesBelow (length nodes.now) process.new.stack.items) }

@@ -47,6 +47,17 @@ pub enum Node {
     Nonblocking(Assignment),
 }
 
+/// Which assignment of a statement is meant.
+#[derive(Clone, Copy, Debug, PartialEq, Eq)]
+pub enum Part {
+    /// That of an assignment statement.
+    Itself,
+    /// The start of a `for`.
+    Start,
+    /// The step of a `for`.
+    Step,
+}
+
 /// A part of what remains of a process.
 #[derive(Clone, Copy, Debug, PartialEq, Eq)]
 pub enum Frame {

@@ -10,7 +10,7 @@ fn low_part(bits: u128, place: u8) -> u128
     requires { place < 128 }
     ensures { result ≡ bits % 2 ^ place }
 {
-    bits % (1u128 << place)
+    bits & ((1u128 << place) - 1)
 }
 
 /// The number without the bits below a place.
@@ -25,7 +25,7 @@ fn high_part(bits: u128, place: u8) -> u128
     }
 }
 
-/// The bits of a value of this width, with those of an update.
+/// The bits of a value of this width, with those of an update among them.
 fn replaced_bits(width: u8, bits: u128, update: Update) -> u128
     requires narrow { width ≤ 128 }
     requires fits { bits < 2 ^ width }
@@ -41,6 +41,23 @@ fn replaced_bits(width: u8, bits: u128, update: Update) -> u128
     low + middle + high
 }
 
+/// The bits of a value of this width, with those of an update. One of all bits is the value itself.
+fn bits_with(width: u8, bits: u128, update: Update) -> u128
+    requires narrow { width ≤ 128 }
+    requires fits { bits < 2 ^ width }
+    requires some { 1 ≤ update.width }
+    requires inside { update.low + update.width ≤ width }
+    requires value { update.value < 2 ^ update.width }
+    ensures value { result ≡ replaced bits update }
+    ensures fits { result < 2 ^ width }
+{
+    if update.width == width {
+        update.value
+    } else {
+        replaced_bits(width, bits, update)
+    }
+}
+
 /// A word with the bits of an update.
 pub(crate) fn replaced(word: Word, update: Update) -> Word
     requires some { 1 ≤ update.width }
@@ -49,6 +66,6 @@ pub(crate) fn replaced(word: Word, update: Update) -> Word
     ensures width { result.width ≡ word.width }
     ensures bits { result.bits ≡ replaced word.bits update }
 {
-    let bits = replaced_bits(word.width(), word.bits(), update);
+    let bits = bits_with(word.width(), word.bits(), update);
     Word::new(word.width(), bits).unwrap()
 }

@@ -1,11 +1,12 @@
 -- Processes from their starts, one after the other.
-use Rattle.std.proofs.Common.{◌≡◌, ℕ, ◌+◌, ◌<◌, ◌≤◌, List, [], ◌∷◌, ◌++◌, map, length, drop, get_or, append_assoc, ap, sym, ◌∙◌}
-use Rattle.std.proofs.lemmas.List.{map-append, append-nil, drop_more, drop_all}
+use Rattle.std.proofs.Common.{◌≡◌, ℕ, ◌+◌, ◌<◌, ◌≤◌, List, [], ◌∷◌, ◌++◌, map, length, take, drop, set, get_or, append_assoc, ap, sym, ◌∙◌, subst}
+use Rattle.std.proofs.lemmas.List.{map-append, append-nil, drop_more, drop_all, take_more, take_more_set, take_all}
+use Rattle.std.proofs.lemmas.List.Elements.{All-push}
 use Rattle.tb_machine.specs.declared.node.Node.{Node}
 use Rattle.tb_machine.specs.declared.node.Process.{Process}
 use Rattle.tb_machine.specs.Steps.{Suspended}
 use Rattle.tb_machine.specs.Nodes.{Tree}
-use Rattle.tb_machine.specs.Machine.{suspended, all_suspended}
+use Rattle.tb_machine.specs.Machine.{suspended, all_suspended, StackBelow, StacksBelow}
 use Rattle.tb_bench.specs.declared.parts.Waiting.{Waiting}
 use Rattle.tb_bench.specs.Settings.{begun}
 
@@ -18,3 +19,19 @@ one_begun nodes tree ps p ws k d inside is before =
 
 pub all_begun : (nodes : List Node) (tree : Tree) (ps : List Process) (ws : List Waiting) (k : ℕ) → length ws ≤ k → all_suspended nodes tree ps ++ map (begun tree) (drop k ws) ≡ map (begun tree) ws → all_suspended nodes tree ps ≡ map (begun tree) ws
 all_begun nodes tree ps ws k past before = sym (append-nil (all_suspended nodes tree ps)) ∙ ap (λ (l : List Waiting). all_suspended nodes tree ps ++ map (begun tree) l) (sym (drop_all k ws past)) ∙ before
+
+-- Processes that begin again, as far as a number.
+
+pub next_begun : (nodes : List Node) (tree : Tree) (ps : List Process) (q : Process) (ws : List Waiting) (i : ℕ) (d : Waiting) → i < length ps → i < length ws → suspended nodes tree q ≡ begun tree (get_or ws i d) → all_suspended nodes tree (take i ps) ≡ map (begun tree) (take i ws) → all_suspended nodes tree (take (i + 1) (set ps i q)) ≡ map (begun tree) (take (i + 1) ws)
+next_begun nodes tree ps q ws i d inside within is before =
+    let both : all_suspended nodes tree (take i ps) ++ suspended nodes tree q ∷ [] ≡ map (begun tree) (take i ws) ++ begun tree (get_or ws i d) ∷ [] = λ j. before j ++ is j ∷ [] in
+    ap (all_suspended nodes tree) (take_more_set ps i q inside) ∙ map-append (suspended nodes tree) (take i ps) (q ∷ []) ∙ both ∙ sym (map-append (begun tree) (take i ws) (get_or ws i d ∷ [])) ∙ ap (map (begun tree)) (sym (take_more ws i d within))
+
+pub next_below : (limit : ℕ) (ps : List Process) (q : Process) (i : ℕ) → i < length ps → StackBelow limit q → StacksBelow limit (take i ps) → StacksBelow limit (take (i + 1) (set ps i q))
+next_below limit ps q i inside one before = subst (StacksBelow limit) (sym (take_more_set ps i q inside)) (All-push (StackBelow limit) (take i ps) q before one)
+
+pub each_begun : (nodes : List Node) (tree : Tree) (ps : List Process) (ws : List Waiting) (i : ℕ) → length ps ≤ i → length ws ≤ i → all_suspended nodes tree (take i ps) ≡ map (begun tree) (take i ws) → all_suspended nodes tree ps ≡ map (begun tree) ws
+each_begun nodes tree ps ws i past beyond before = ap (all_suspended nodes tree) (sym (take_all i ps past)) ∙ before ∙ ap (map (begun tree)) (take_all i ws beyond)
+
+pub each_below : (limit : ℕ) (ps : List Process) (i : ℕ) → length ps ≤ i → StacksBelow limit (take i ps) → StacksBelow limit ps
+each_below limit ps i past before = subst (StacksBelow limit) (take_all i ps past) before

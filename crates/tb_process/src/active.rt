@@ -8,7 +8,7 @@ ghost use Rattle.tb_evaluator.specs.Meanings.{meaning};
 ghost use Rattle.tb_bench.specs.Settings.{names, widths, begun};
 ghost use Rattle.tb_bench.specs.Runnable.{IsRunnable};
 
-use crate::begin::begin_all;
+use crate::begin::begin_again;
 use std::alloc::{AllocError, Global};
 use tb_bench::Parts;
 use tb_evaluator::PhaseEvaluator;
@@ -17,12 +17,14 @@ use tb_machine::{Ended, Event, Process, Scene, wake_all};
 /// The statements that may be carried out in a phase.
 const MAX_STATEMENTS: u32 = 100_000;
 
-/// The `always` processes of the event run from their starts, and then the `initial` processes that wait for it go on.
+/// The `always` processes of the event run from their starts, and then the `initial` processes that wait for it go on. What the
+/// `always` processes were does not matter.
 pub(crate) fn run_processes(
     alloc: Global,
     parts: &Parts,
     phase: u64,
     event: Event,
+    always: &mut Vec<Process>,
     initial: &mut [Process],
     scene: &mut Scene,
 ) -> Result<Ended, AllocError>
@@ -36,12 +38,13 @@ pub(crate) fn run_processes(
     let evaluator = PhaseEvaluator {
         alloc,
         scope: &parts.scope,
+        plans: parts.plans.as_slice(),
         phase,
     };
     let nodes = parts.code.nodes();
-    let mut always = begin_all(alloc, parts.always.as_slice())?;
+    begin_again(alloc, always, parts.always.as_slice())?;
     let mut left = MAX_STATEMENTS;
-    match wake_all(nodes, &mut always, event, &mut left, &evaluator, scene)? {
+    match wake_all(nodes, always, event, &mut left, &evaluator, scene)? {
         Ended::Pauses => wake_all(nodes, initial, event, &mut left, &evaluator, scene),
         Ended::Finished => Ok(Ended::Finished),
         Ended::TooLong => Ok(Ended::TooLong),

@@ -21,6 +21,7 @@ pub(crate) fn run_phase(
     parts: &Parts,
     phase: u64,
     sim: &mut Sim,
+    always: &mut Vec<Process>,
     initial: &mut [Process],
     scene: &mut Scene,
 ) -> Result<PhaseEnd, AllocError>
@@ -32,7 +33,7 @@ pub(crate) fn run_phase(
 {
     let event = event_of(phase);
     begin_phase(parts.clock, event, scene);
-    match run_processes(alloc, parts, phase, event, initial, scene)? {
+    match run_processes(alloc, parts, phase, event, always, initial, scene)? {
         Ended::Pauses => {
             end_phase(alloc, parts, phase, event, sim, scene)?;
             Ok(PhaseEnd::Going)

@@ -1,7 +1,8 @@
 //! A run of a bench over a design, phase by phase.
 //!
 //! It is not tied to its bench by a lifetime: each call is given the bench again. `is_refused` tells that a phase was refused
-//! for want of memory, which leaves the processes in the midst of it, so that each later phase is refused too.
+//! for want of memory, which leaves the processes in the midst of it, so that each later phase is refused too. The `always`
+//! processes begin anew in each phase; they are kept for their stacks alone.
 ghost use Rattle.std.specs.Prelude.{ℕ, OnOk, ◌≡◌, ◌<◌, ◌-◌, ◌+◌, ◌^◌, ◌++◌, true, IfOk, IfErr, IsErr, List};
 ghost use Rattle.vlog_syntax.specs.declared.stmt.Stmt.{Stmt};
 ghost use Rattle.tb_machine.specs.declared.phase_end.PhaseEnd.TheVariants.{Going};
@@ -31,6 +32,7 @@ pub struct Run {
     phase: u64,
     sim: Sim,
     scene: Scene,
+    always: Vec<Process>,
     initial: Vec<Process>,
     is_refused: bool,
 }
@@ -64,6 +66,7 @@ impl Run {
             phase: 0,
             sim: Sim::new(alloc, netlist)?,
             scene: Scene::new(alloc, store, words),
+            always: begin_all(alloc, parts.always.as_slice())?,
             initial: begin_all(alloc, parts.initial.as_slice())?,
             is_refused: false,
         })
@@ -112,6 +115,7 @@ impl Run {
             bench.parts(),
             self.phase,
             &mut self.sim,
+            &mut self.always,
             &mut self.initial,
             &mut self.scene,
         )?;

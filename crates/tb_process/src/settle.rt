@@ -44,6 +44,7 @@ fn settle_nets(
     settle(
         alloc,
         &parts.nets,
+        parts.net_plans.as_slice(),
         &parts.scope,
         phase,
         parts.inputs.as_slice(),

@@ -11,6 +11,7 @@ use Rattle.tb_code.proofs.Adding.{code_of}
 use Rattle.tb_known.specs.Laws.{bench_tests}
 use Rattle.tb_known.proofs.Known.{known}
 use Rattle.tb_evaluator.specs.Meanings.{HasSignals}
+use Rattle.tb_plans.specs.Plans.{ArePlans, AreNetPlans}
 use Rattle.tb_settling.specs.Settling.{CanSettle}
 use Rattle.tb_bench.specs.declared.parts.Waiting.{Waiting}
 use Rattle.tb_bench.specs.declared.parts.Parts.{Parts}
@@ -24,8 +25,8 @@ split_below limit (w ∷ ws) rest all =
     let more = split_below limit ws rest (All-tail (λ k. k < limit) w.body (map (λ v. v.body) ws ++ rest) all) in
     (All-cons (IsBelow limit) w ws (All-head (λ k. k < limit) w.body (map (λ v. v.body) ws ++ rest) all) more.0, more.1)
 
-pub runnable : (b : Parts) (parts : List Stmt) → Adds [] b.code (map (λ w. w.body) b.always ++ map (λ w. w.body) b.initial) parts → All (Passes (bench_tests (names b))) parts → HasSignals (names b) (widths b) → b.clock.signal < length b.starts → b.clock.high.width ≡ slice_index (widths b) b.clock.signal → CanSettle (names b) (widths b) b.inputs b.outputs b.nets → IsRunnable b
-runnable b parts adds passing signals clock high nets =
+pub runnable : (b : Parts) (parts : List Stmt) → Adds [] b.code (map (λ w. w.body) b.always ++ map (λ w. w.body) b.initial) parts → All (Passes (bench_tests (names b))) parts → ArePlans (names b) b.code b.plans → AreNetPlans (names b) b.nets.nodes b.net_plans → HasSignals (names b) (widths b) → b.clock.signal < length b.starts → b.clock.high.width ≡ slice_index (widths b) b.clock.signal → CanSettle (names b) (widths b) b.inputs b.outputs b.nets → IsRunnable b
+runnable b parts adds passing plans net_plans signals clock high nets =
     let numbers : List ℕ = map (λ w. w.body) b.always ++ map (λ w. w.body) b.initial in
     let held : Holds [] b.code numbers parts = code_of b.code numbers parts adds in
     let first = split_below (length b.code) b.always (map (λ w. w.body) b.initial) held.below in
@@ -35,10 +36,12 @@ runnable b parts adds passing signals clock high nets =
       code = held.whole.code;
       known = known (names b) b.code numbers parts adds passing;
       closed = held.whole.closed;
+      plans = plans;
       always = first.0;
       initial = (split_below (length b.code) b.initial [] behind).0;
       signals = signals;
       clock = clock;
       high = high;
       nets = nets;
+      net_plans = net_plans;
     }

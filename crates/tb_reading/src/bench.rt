@@ -13,6 +13,7 @@ use crate::clock::clock_in;
 use crate::judge::reason;
 use crate::processes::list_processes;
 use crate::reading::{Reading, read};
+use mcy_base::Items;
 use netlist_core::Netlist;
 use std::alloc::{AllocError, Global};
 use tb_bench::{Bench, Clock, Parts, WaitingList};
@@ -20,6 +21,7 @@ use tb_code::Code;
 use tb_faults::BenchError;
 use tb_machine::Numbers;
 use tb_nets::Nets;
+use tb_plans::{plan_all, plan_nets};
 use tb_wired::{Wired, wire};
 use vlog_syntax::{Feature, Module, ProcessKind};
 
@@ -48,16 +50,20 @@ fn assemble(
     let always = list_processes(alloc, &mut code, ProcessKind::Always, items.as_slice())?;
     let initial = list_processes(alloc, &mut code, ProcessKind::Initial, items.as_slice())?;
     let (scope, starts) = signals.into_parts();
+    let plans = plan_all(alloc, &scope, code.nodes())?;
+    let net_plans = plan_nets(alloc, &scope, nets.nodes.as_slice())?;
     Ok(Bench::of(Parts {
         scope,
         starts,
         code,
+        plans: Items::from_vec(plans),
         always: WaitingList::from_vec(always),
         initial: WaitingList::from_vec(initial),
         clock,
         inputs: Numbers::from_vec(inputs),
         outputs: Numbers::from_vec(outputs),
         nets,
+        net_plans: Items::from_vec(net_plans),
     }))
 }
 

@@ -1,40 +1,15 @@
 //! The processes of a testbench as code.
 ghost use Rattle.std.specs.Prelude.{◌≡◌, ◌∷◌, [], IfOk};
 ghost use Rattle.vlog_syntax.specs.declared.stmt.Stmt.{out-Stmt};
-ghost use Rattle.tb_machine.specs.Steps.{event_of, event_of_edge};
 ghost use Rattle.tb_code.specs.Codes.{Adds};
 ghost use Rattle.tb_reading.specs.Processes.{always_layer, of_kind, item_processes, processes, AddsWaiting};
 
 use std::alloc::{AllocError, Global};
 use tb_bench::Waiting;
-use tb_code::Code;
+use tb_code::{Code, event_of};
 use tb_items::BenchItem;
 use tb_machine::Event;
-use vlog_syntax::{Edge, EventControl, Process, ProcessKind, Stmt};
-
-/// The edge that one event of a list waits for.
-fn event_of_edge(edge: Edge) -> Event
-    ensures { result ≡ event_of_edge edge }
-{
-    match edge {
-        Edge::Any => Event::Start,
-        Edge::Posedge => Event::Rise,
-        Edge::Negedge => Event::Fall,
-    }
-}
-
-/// The edge that a list waits for.
-fn event_of(control: &EventControl) -> Event
-    ensures { result ≡ event_of control.now }
-{
-    match control {
-        EventControl::Implicit => Event::Start,
-        EventControl::List(events) => match events.as_slice() {
-            [event] => event_of_edge(event.edge),
-            _ => Event::Start,
-        },
-    }
-}
+use vlog_syntax::{Process, ProcessKind, Stmt};
 
 /// Adds a statement for a process that waits for this event first.
 fn add_statement(code: &mut Code, event: Event, statement: &Stmt) -> Result<Waiting, AllocError>

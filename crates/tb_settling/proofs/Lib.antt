@@ -7,6 +7,7 @@ pub mod Windows
 pub mod Passing
 pub mod Ending
 pub mod Scenes
+pub mod Planning
 pub mod Showing
 pub mod Turning
 pub mod Once

@@ -1,5 +1,5 @@
 -- A turn of the pass: one node more has settled.
-use Rattle.std.proofs.Common.{◌≡◌, zero, suc, ℕ, ◌+◌, ◌<◌, List, [], ◌∷◌, map, length, take, get_or, slice_get, Some, sym, ap, ◌∙◌, subst, arith}
+use Rattle.std.proofs.Common.{◌≡◌, zero, suc, ℕ, ◌+◌, ◌<◌, List, [], ◌∷◌, map, length, take, get_or, slice_get, Option, Some, None, sym, ap, ◌∙◌, subst, arith}
 use Rattle.std.specs.Prelude.{slice_index}
 use Rattle.netlist_core.specs.Checked.{Plan}
 use Rattle.netlist_core.specs.Runs.{bits_at}
@@ -8,17 +8,24 @@ use Rattle.vlog_syntax.specs.declared.stmt.Assignment.{Assignment}
 use Rattle.vlog_meaning.specs.Scopes.{Names}
 use Rattle.tb_machine.specs.Worlds.{World, assigned, all_applied}
 use Rattle.tb_evaluator.specs.Meanings.{HasSignals}
+use Rattle.tb_plans.specs.declared.transfer.Transfer.{Transfer}
+use Rattle.tb_plans.specs.Plans.{AreNetPlans}
 use Rattle.tb_nets.specs.declared.node.NetNode.{NetNode}
-use Rattle.tb_nets.specs.declared.node.NetNode.TheVariants.{Assign}
+use Rattle.tb_nets.specs.declared.node.NetNode.TheVariants.{Assign, Design}
 use Rattle.tb_nets.specs.declared.nets.Nets.{Nets}
 use Rattle.tb_settling.specs.Settling.{CanSettle}
-use Rattle.tb_settling.specs.Nodes.{Situation, situation, PortsFit, IsSide, node_updates, IsCycleOf, IsStore, HaveSettled}
+use Rattle.tb_settling.specs.Nodes.{Situation, situation, PortsFit, IsSide, IsOfNode, node_updates, IsCycleOf, IsStore, HaveSettled}
 use Rattle.tb_settling.proofs.Passing.{side_of, next_settled}
 
-node_at : (nodes : List NetNode) (k : ℕ) (node : NetNode) → node ≡ get_or nodes k node → k < length nodes → slice_get nodes k ≡ Some node
-node_at [] k node is h = absurd (omega arith)
-node_at (x ∷ xs) zero node is h = ap Some (sym is)
-node_at (x ∷ xs) (suc k) node is h = node_at xs k node is (omega arith)
+item_at : {A : Type 0} (items : List A) (k : ℕ) (item : A) → item ≡ get_or items k item → k < length items → slice_get items k ≡ Some item
+item_at [] k item is h = absurd (omega arith)
+item_at (x ∷ xs) zero item is h = ap Some (sym is)
+item_at (x ∷ xs) (suc k) item is h = item_at xs k item is (omega arith)
+
+of_node : (names : Names) (nodes : List NetNode) (plans : List (Option Transfer)) → AreNetPlans names nodes plans → (k : ℕ) (node : NetNode) (plan : Option Transfer) → slice_get nodes k ≡ Some node → slice_get plans k ≡ Some plan → IsOfNode names node plan
+of_node names nodes plans are k (Assign a) (Some t) at planned = are.each k a t at planned
+of_node names nodes plans are k (Assign a) None at planned = tt
+of_node names nodes plans are k Design plan at planned = tt
 
 same_situation : (names : Names) (inputs outputs : List ℕ) (phase : ℕ) (a b : Simulated) → a.plan ≡ b.plan → a.registers ≡ b.registers → situation names inputs outputs phase a ≡ situation names inputs outputs phase b
 same_situation names inputs outputs phase a b plan registers =
@@ -60,12 +67,21 @@ module _ (names : Names) (inputs outputs : List ℕ) (phase : ℕ) (first : Simu
           let below : slice_index nets.order k < length nets.nodes = (can.settled.order.places k (subst (λ (l : List ℕ). k < length l) order_is inside)).ready.node in
           subst (λ (l : List NetNode). slice_index order k < length l) (sym nodes_are) (subst (λ (l : List ℕ). slice_index l k < length nets.nodes) (sym order_is) below)
 
+      module _ (plans : List (Option Transfer)) (planned : AreNetPlans names nets.nodes plans) where
+        pub plan_inside : slice_index order k < length plans
+        plan_inside = subst (λ (n : ℕ). slice_index order k < n) (ap (λ (l : List NetNode). length l) nodes_are ∙ sym planned.long) place_inside
+
       module _ (node : NetNode) (is_node : node ≡ get_or nodes (slice_index order k) node) where
         at_place : slice_get nets.nodes (slice_index nets.order k) ≡ Some node
-        at_place = subst (λ (l : List ℕ). slice_get nets.nodes (slice_index l k) ≡ Some node) order_is (subst (λ (l : List NetNode). slice_get l (slice_index order k) ≡ Some node) nodes_are (node_at nodes (slice_index order k) node is_node place_inside))
+        at_place = subst (λ (l : List ℕ). slice_get nets.nodes (slice_index l k) ≡ Some node) order_is (subst (λ (l : List NetNode). slice_get l (slice_index order k) ≡ Some node) nodes_are (item_at nodes (slice_index order k) node is_node place_inside))
 
         pub has_side : IsSide names node
         has_side = side_of names scene.widths inputs outputs nets can (slice_index nets.order k) node at_place
+
+        pub has_plan : (plans : List (Option Transfer)) → AreNetPlans names nets.nodes plans → (plan : Option Transfer) → plan ≡ get_or plans (slice_index order k) plan → IsOfNode names node plan
+        has_plan plans planned plan is_plan =
+            let there : slice_get plans (slice_index nets.order k) ≡ Some plan = subst (λ (l : List ℕ). slice_get plans (slice_index l k) ≡ Some plan) order_is (item_at plans (slice_index order k) plan is_plan (plan_inside plans planned)) in
+            of_node names nets.nodes plans planned (slice_index nets.order k) node plan at_place there
 
         pub turned : (after : Simulated) (next : World) → IsCycleOf (situation names inputs outputs phase sim) (settled_nets after) now.store node → next ≡ assigned now (node_updates (situation names inputs outputs phase sim) (settled_nets after) now.store node) → ((a : Assignment) → node ≡ Assign a → settled_nets after ≡ settled_nets sim) → after.plan ≡ sim.plan → after.registers ≡ sim.registers → IsStore names next.widths next.store → Passed names inputs outputs phase first scene nets (k + 1) after next
         turned after next cycle goes other plan registers is_next =

@@ -1,5 +1,5 @@
 -- What holds of a node that has settled, and of the first nodes of an order.
-use Rattle.std.specs.Prelude.{◌≡◌, ℕ, ◌<◌, ◌≤◌, ◌^◌, true, false, List, [], map, length, slice_get, slice_index, slice_index_or, Some}
+use Rattle.std.specs.Prelude.{◌≡◌, ℕ, ◌<◌, ◌≤◌, ◌^◌, true, false, List, [], map, length, slice_get, slice_index, slice_index_or, Option, Some}
 use Rattle.std.specs.List.{All, Contains}
 use Rattle.netlist_core.specs.declared.bit.Bit.{Bit}
 use Rattle.netlist_core.specs.declared.raw.RawNetlist.{RawNetlist}
@@ -10,6 +10,8 @@ use Rattle.tb_machine.specs.Worlds.{some_gives}
 use Rattle.tb_machine.specs.Phases.{Hold, bit_of}
 use Rattle.cycle_sim.specs.Simulated.{Simulated}
 use Rattle.tb_assigns.specs.Checks.{can_assign}
+use Rattle.tb_plans.specs.declared.transfer.Transfer.{Transfer}
+use Rattle.tb_plans.specs.Transfers.{OfTransfer}
 use Rattle.tb_nets.specs.declared.node.NetNode.{NetNode}
 use Rattle.tb_nets.specs.declared.node.NetNode.TheVariants.{Assign, Design}
 use Rattle.tb_settling.specs.Settling.{assign_updates, values_at, whole_updates}
@@ -39,6 +41,11 @@ whole_update numbers ports values k = record { signal = slice_index numbers k; l
 abbrev pub IsSide : Names → NetNode → Type 0
 IsSide names (Assign a) = can_assign names a ≡ true
 IsSide names Design = Unit {0}
+
+-- the plan, where there is one, is of the assign
+abbrev pub IsOfNode : Names → NetNode → Option Transfer → Type 0
+IsOfNode names (Assign a) plan = OfTransfer names a plan
+IsOfNode names Design plan = Unit {0}
 
 -- the updates of a node, from the store and the values of the design's nets
 abbrev pub node_updates : Situation → Values → List ℕ → NetNode → List Update

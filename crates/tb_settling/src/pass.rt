@@ -8,6 +8,7 @@ ghost use Rattle.cycle_sim.specs.Simulated.{settled_nets};
 ghost use Rattle.vlog_meaning.specs.Scopes.{names_of};
 ghost use Rattle.tb_machine.specs.Phases.{Setting, Settles};
 ghost use Rattle.tb_evaluator.specs.Meanings.{HasSignals};
+ghost use Rattle.tb_plans.specs.Plans.{AreNetPlans};
 ghost use Rattle.tb_settling.specs.Settling.{CanSettle, IsNetsOf};
 ghost use Rattle.tb_settling.specs.Nodes.{IsStore};
 
@@ -16,6 +17,7 @@ use cycle_sim::Sim;
 use std::alloc::{AllocError, Global};
 use tb_machine::Scene;
 use tb_nets::Nets;
+use tb_plans::Transfer;
 use vlog_meaning::Scope;
 
 /// The values of a scene are those of its signals.
@@ -26,11 +28,12 @@ fn has_store(scene: &Scene, scope: &Scope)
     scene.store();
 }
 
-/// The nets of a bench settle in a phase: each assign, and the design with what stands at its inputs. Where there is no memory
+/// The nets of a bench settle in a phase: each assign, by its plan where it has one, and the design with what stands at its inputs. Where there is no memory
 /// for it, they may have settled in part.
 pub fn settle(
     alloc: Global,
     nets: &Nets,
+    plans: &[Option<Transfer>],
     scope: &Scope,
     phase: u64,
     inputs: &[u32],
@@ -39,6 +42,7 @@ pub fn settle(
     sim: &mut Sim,
 ) -> Result<(), AllocError>
     requires can { CanSettle (names_of scope.now) scene.old.widths inputs.now outputs.now nets.now }
+    requires plans { AreNetPlans (names_of scope.now) nets.now.nodes plans.now }
     requires signals { HasSignals (names_of scope.now) scene.old.widths }
     requires entered { map (slice_index scene.old.widths) inputs.now ≡ map length (bits_at sim.old.plan.raw.inputs) }
     requires shown { map (slice_index scene.old.widths) outputs.now ≡ map length (bits_at sim.old.plan.raw.outputs) }
@@ -53,6 +57,7 @@ pub fn settle(
         settle_node(
             alloc,
             &nodes[*place],
+            &plans[*place],
             scope,
             phase,
             inputs,

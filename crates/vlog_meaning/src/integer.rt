@@ -11,7 +11,7 @@ pub fn ones(width: u8) -> u128
     ensures { result ≡ 2 ^ width - 1 }
 {
     if width < 128 {
-        2u128.pow(u32::from(width)) - 1
+        (1u128 << width) - 1
     } else {
         u128::MAX
     }
@@ -22,11 +22,7 @@ pub fn truncate(value: u128, width: u8) -> u128
     requires { width ≤ 128 }
     ensures { result ≡ value % 2 ^ width }
 {
-    if width < 128 {
-        value % 2u128.pow(u32::from(width))
-    } else {
-        value
-    }
+    value & ones(width)
 }
 
 /// Whether a number is negative at this width and sign.
@@ -35,7 +31,7 @@ pub fn is_negative(shape: Shape, value: u128) -> bool
     requires narrow { shape.width ≤ 128 }
     ensures { result ≡ is_negative shape value }
 {
-    shape.is_signed && value >= 2u128.pow(u32::from(shape.width - 1))
+    shape.is_signed && value >= 1u128 << (shape.width - 1)
 }
 
 /// The number at another width, which is not less.

@@ -18,12 +18,13 @@ mod values;
 mod zeros;
 
 pub use answers::{constant, constant_at, constant_integer, shape, value};
-pub use bound::Bound;
+pub use bound::{Bound, count, part_width, window};
 pub use fault::{Cause, ConstError, Fault, earlier};
 pub use faults::{constant_fault, fault_in};
 pub use function::{Function, function_of};
+pub use integer::{clog2, extend, repeated, shift_left, shift_right, truncate};
 pub use laws::{names_declared_again, values_rest_on_reads};
-pub use operator::{Sizing, operand_context, sizing_of};
+pub use operator::{Sizing, binary_value, operand_context, sizing_of, unary_value};
 pub use scope::{Decl, Scope, ScopeError};
 pub use shapes::Shape;
 pub use signals::signal_in;

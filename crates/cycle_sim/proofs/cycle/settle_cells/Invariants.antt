@@ -1,12 +1,13 @@
-use Rattle.std.proofs.Common.{◌≡◌, drop}
-use Rattle.netlist_core.specs.Runs.{plain}
-use Rattle.netlist_core.specs.Settled.{after_order}
-use Rattle.netlist_core.specs.Solutions.{FitPorts, driving}
-use Rattle.cycle_sim.specs.Simulated.{nets_of}
+use Rattle.std.proofs.Common.{◌≡◌, ℕ, ◌-◌, ◌<◌, length}
+use Rattle.cycle_sim.specs.Marks.{mark_at, front, AreHeld}
 use Rattle.cycle_sim.proofs.cycle.settle_cells.Given as goal
 
-abbrev pub invariant-loop-i : goal.invariant-loop-i
-invariant-loop-i l = record {
-  nets : after_order plain l.netlist.raw.cells (drop l.i l.netlist.order) (nets_of l.netlist.raw l.table.items) ≡ after_order plain l.netlist.raw.cells l.netlist.order (nets_of l.netlist.raw l.initial.table.items);
-  numbers : FitPorts (driving l.netlist.raw) l.table.items;
+abbrev pub invariant-loop-place : goal.invariant-loop-place
+invariant-loop-place l = record {
+  held : AreHeld l.netlist l.table.items l.marks.items;
+  front : front l.netlist.raw l.table.items ≡ front l.netlist.raw l.initial.table.items;
+  before : (k : ℕ) → k < l.place → mark_at l.marks.items k ≡ 0;
 }
+
+abbrev pub decreases-loop-place : goal.decreases-loop-place
+decreases-loop-place l = length l.netlist.order - l.place

@@ -1,4 +1,4 @@
-use Rattle.std.proofs.Common.{◌≡◌, ℕ, List, [], ◌∷◌, map, subst}
+use Rattle.std.proofs.Common.{ℕ, List, [], ◌∷◌, map, subst}
 use Rattle.netlist_core.specs.Runs.{IsRun}
 use Rattle.netlist_core.specs.Checked.{Plan}
 use Rattle.cycle_sim.specs.Simulated.{Simulated, settled_nets}

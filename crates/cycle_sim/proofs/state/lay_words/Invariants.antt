@@ -1,6 +1,7 @@
-use Rattle.std.proofs.Common.{◌≡◌, ◌++◌, take, drop, length}
+use Rattle.std.proofs.Common.{◌≡◌, ◌++◌, take, drop}
 use Rattle.cycle_sim.specs.Simulated.{numbers_of}
+use Rattle.cycle_sim.specs.Marks.{AreHeld}
 use Rattle.cycle_sim.proofs.state.lay_words.Given as goal
 
 abbrev pub invariant-loop-i : goal.invariant-loop-i
-invariant-loop-i l = (length l.table.items ≡ length l.initial.table.items) × (l.table.items ≡ numbers_of (take l.i l.words) ++ drop l.i l.initial.table.items)
+invariant-loop-i l = AreHeld l.netlist l.table.items l.marks.items × (l.table.items ≡ numbers_of (take l.i l.words) ++ drop l.i l.initial.table.items)

@@ -1,4 +1,3 @@
-use Rattle.std.proofs.Common.{◌≡◌}
 use Rattle.cycle_sim.proofs.Growing.{inputs-take}
 use Rattle.cycle_sim.proofs.wiring.inputs.Goals as goal
 

@@ -14,10 +14,10 @@ returns-clause-settles c = λ tree.
     let design = c.args.sim.now.plan.raw in
     let new = c.settle.new.sim in
     let g : Setting = setting_of b tree design in
-    let of : IsNetsOf g (names b) c.as_slice.result.now c.as_slice-2.result.now b.nets.nodes design = record {
+    let of : IsNetsOf g (names b) c.as_slice-2.result.now c.as_slice-3.result.now b.nets.nodes design = record {
       netlist_is = refl;
-      inputs_are = ap values_at (sym c.as_slice.ensures);
-      outputs_are = ap (λ (ks : List ℕ). whole_updates ks (bits_at design.outputs)) (sym c.as_slice-2.ensures);
+      inputs_are = ap values_at (sym c.as_slice-2.ensures);
+      outputs_are = ap (λ (ks : List ℕ). whole_updates ks (bits_at design.outputs)) (sym c.as_slice-3.ensures);
       assigns_are = refl;
     } in
     let same : taken (plain (settled_nets new)) 0 design.registers ≡ next_of new = ap (λ (p : Plan). taken (plain (settled_nets new)) 0 p.raw.registers) (sym c.settle.ensures.plan) in

@@ -1,12 +1,13 @@
-use Rattle.std.proofs.Common.{◌≡◌, ℕ, List, map, length, ap, ◌∙◌}
+use Rattle.std.proofs.Common.{◌≡◌, ◌<◌, ℕ, List, map, length, sym, ap, ◌∙◌, subst}
 use Rattle.std.specs.Prelude.{slice_index}
-use Rattle.mcy_base.specs.declared.word.Word.{Word}
-use Rattle.netlist_core.specs.Runs.{bits_at}
-use Rattle.tb_settling.proofs.Showing.{have_widths}
+use Rattle.std.specs.List.{All}
+use Rattle.std.proofs.lemmas.List.{length-map}
 use Rattle.tb_settling.proofs.design.settle_design.Goals as goal
 
-pub settle-requires : goal.settle-requires
-settle-requires c =
-    let ports = bits_at c.args.sim.now.plan.raw.inputs in
-    let widths : map (λ w. w.width) c.as_slice.result.now ≡ map length ports = ap (λ (l : List Word). map (λ w. w.width) l) c.as_slice.ensures.value ∙ c.in_ok-words.ensures.widths ∙ ap (λ (l : List ℕ). map (slice_index l) c.args.inputs.now) c.store.ensures.widths ∙ c.requires.entered.widths_are in
-    record { widths = have_widths ports c.as_slice.result.now widths }
+pub settle_with-requires-clause-inside : goal.settle_with-requires-clause-inside
+settle_with-requires-clause-inside c =
+    let long : length c.args.scene.now.widths ≡ length c.store.result.now = sym (ap (λ (l : List ℕ). length l) c.store.ensures.widths) ∙ length-map c.store.result.now (λ w. w.width) in
+    subst (λ (n : ℕ). All (λ k. k < n) c.args.inputs.now) long c.requires.entered.known
+
+pub settle_with-requires-clause-widths : goal.settle_with-requires-clause-widths
+settle_with-requires-clause-widths c = ap (λ (l : List ℕ). map (slice_index l) c.args.inputs.now) c.store.ensures.widths ∙ c.requires.entered.widths_are

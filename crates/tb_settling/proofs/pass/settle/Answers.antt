@@ -4,7 +4,7 @@ use Rattle.vlog_meaning.specs.Scopes.{names_of}
 use Rattle.tb_settling.specs.Nodes.{situation}
 use Rattle.tb_settling.proofs.Ending.{settles}
 use Rattle.tb_settling.proofs.Passing.{none_settled}
-use Rattle.tb_settling.proofs.Turning.{first_ports, first_shows, still_signals, still_entered, still_shown, place_inside, has_side, turned}
+use Rattle.tb_settling.proofs.Turning.{first_ports, first_shows, still_signals, still_entered, still_shown, place_inside, plan_inside, has_side, has_plan, turned}
 use Rattle.tb_settling.proofs.pass.settle.Goals as goal
 
 pub loop-place-init : goal.loop-place-init
@@ -18,6 +18,12 @@ loop-place-init c = record {
 
 pub bounds-nodes-place : goal.bounds-nodes-place
 bounds-nodes-place c = place_inside (names_of c.args.scope.now) c.args.inputs.now c.args.outputs.now c.args.phase c.args.sim.now c.args.scene.now c.args.nets.now c.requires.can c.requires.signals c.requires.entered c.requires.shown c.loop-place.place-index c.loop-place.sim c.loop-place.scene c.loop-place.invariant c.as_slice-nodes.result.now c.as_slice-place-items.result.now c.as_slice-nodes.ensures c.as_slice-place-items.ensures c.loop-place-test.true
+
+pub bounds-plans-place : goal.bounds-plans-place
+bounds-plans-place c = plan_inside (names_of c.args.scope.now) c.args.inputs.now c.args.outputs.now c.args.phase c.args.sim.now c.args.scene.now c.args.nets.now c.requires.can c.requires.signals c.requires.entered c.requires.shown c.loop-place.place-index c.loop-place.sim c.loop-place.scene c.loop-place.invariant c.as_slice-nodes.result.now c.as_slice-place-items.result.now c.as_slice-nodes.ensures c.as_slice-place-items.ensures c.loop-place-test.true c.args.plans.now c.requires.plans
+
+pub settle_node-requires-clause-plan : goal.settle_node-requires-clause-plan
+settle_node-requires-clause-plan c = has_plan (names_of c.args.scope.now) c.args.inputs.now c.args.outputs.now c.args.phase c.args.sim.now c.args.scene.now c.args.nets.now c.requires.can c.requires.signals c.requires.entered c.requires.shown c.loop-place.place-index c.loop-place.sim c.loop-place.scene c.loop-place.invariant c.as_slice-nodes.result.now c.as_slice-place-items.result.now c.as_slice-nodes.ensures c.as_slice-place-items.ensures c.loop-place-test.true c.index-nodes-place.result c.index-nodes-place.is c.args.plans.now c.requires.plans c.index-plans-place.result c.index-plans-place.is
 
 pub settle_node-requires-clause-side : goal.settle_node-requires-clause-side
 settle_node-requires-clause-side c = has_side (names_of c.args.scope.now) c.args.inputs.now c.args.outputs.now c.args.phase c.args.sim.now c.args.scene.now c.args.nets.now c.requires.can c.requires.signals c.requires.entered c.requires.shown c.loop-place.place-index c.loop-place.sim c.loop-place.scene c.loop-place.invariant c.as_slice-nodes.result.now c.as_slice-place-items.result.now c.as_slice-nodes.ensures c.as_slice-place-items.ensures c.loop-place-test.true c.index-nodes-place.result c.index-nodes-place.is

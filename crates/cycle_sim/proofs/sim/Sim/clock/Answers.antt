@@ -1,4 +1,4 @@
-use Rattle.std.proofs.Common.{◌≡◌, List, length, sym, ◌∙◌, subst}
+use Rattle.std.proofs.Common.{List, sym, ◌∙◌, subst}
 use Rattle.std.proofs.lemmas.List.{length-map}
 use Rattle.netlist_core.specs.declared.port.Register.{Register}
 use Rattle.netlist_core.specs.Runs.{q_bits}
@@ -20,6 +20,8 @@ invariant_of-self c =
       cells = c.self.invariant.cells;
       next = c.self.invariant.next;
       outputs = c.self.invariant.outputs;
+      reading = c.self.invariant.reading;
+      current = c.self.invariant.current;
       numbers = c.self.invariant.numbers;
       stored = subst (FitPorts (q_bits raw.registers)) (sym c.take_all.ensures) (fit-taken (nets_of raw c.as_slice.result.now) 0 raw.registers c.self.invariant.sound.formed.registers);
     }

@@ -18,8 +18,8 @@ as-long plan words numbers have fit = fit-length (q_bits plan.raw.registers) num
 laid-all : (words : List Word) (old new : List ℕ) → length old ≡ length words → new ≡ numbers_of words ++ drop (length words) old → new ≡ numbers_of words
 laid-all words old new long is = is ∙ ap (λ (l : List ℕ). numbers_of words ++ l) (drop_all (length words) old (omega (arith, long))) ∙ append-nil (numbers_of words)
 
-pub lay_words-requires : goal.lay_words-requires
-lay_words-requires c =
+pub load_words-requires : goal.load_words-requires
+load_words-requires c =
     let plan = c.self.inside.netlist in
     let have = have-of plan c.args.self.now.plan c.args.words.now (ap (λ (s : Simulated). s.plan) c.self.view_is) c.requires.widths in
     let long = as-long plan c.args.words.now c.self.inside.registers.items have c.self.invariant.stored in
@@ -35,8 +35,10 @@ invariant_of-self c =
       cells = c.self.invariant.cells;
       next = c.self.invariant.next;
       outputs = c.self.invariant.outputs;
+      reading = c.self.invariant.reading;
+      current = c.self.invariant.current;
       numbers = c.self.invariant.numbers;
-      stored = subst (FitPorts (q_bits plan.raw.registers)) (sym (laid-all c.args.words.now c.self.inside.registers.items c.lay_words.new.table.items long c.lay_words.ensures)) (fit-words (q_bits plan.raw.registers) c.args.words.now have);
+      stored = subst (FitPorts (q_bits plan.raw.registers)) (sym (laid-all c.args.words.now c.self.inside.registers.items c.load_words.new.registers.items long c.load_words.ensures)) (fit-words (q_bits plan.raw.registers) c.args.words.now have);
     }
 
 pub returns-clause-registers : goal.returns-clause-registers
@@ -44,4 +46,4 @@ returns-clause-registers c =
     let plan = c.self.inside.netlist in
     let have = have-of plan c.args.self.now.plan c.args.words.now (ap (λ (s : Simulated). s.plan) c.self.view_is) c.requires.widths in
     let long = as-long plan c.args.words.now c.self.inside.registers.items have c.self.invariant.stored in
-    laid-all c.args.words.now c.self.inside.registers.items c.lay_words.new.table.items long c.lay_words.ensures
+    laid-all c.args.words.now c.self.inside.registers.items c.load_words.new.registers.items long c.load_words.ensures

@@ -1,13 +1,12 @@
-use Rattle.std.proofs.Common.{map, ap, sym, subst}
-use Rattle.vlog_meaning.specs.Scopes.{names_of, store_of}
-use Rattle.vlog_meaning.specs.Scopes.{Names}
+use Rattle.std.proofs.Common.{map}
+use Rattle.vlog_meaning.specs.Scopes.{names_of}
 use Rattle.tb_machine.specs.Nodes.{choice_labels}
-use Rattle.tb_choices.specs.Choices.{chosen, LabelsWhole}
-use Rattle.tb_evaluator.proofs.Evaluating.{evaluated_in, labels_whole}
+use Rattle.tb_plans.specs.Plans.{plan_at}
+use Rattle.tb_evaluator.proofs.Planning.{choice_plan, choice_taken}
 use Rattle.tb_evaluator.proofs.evaluator.PhaseEvaluatorEvaluator.choice.Goals as goal
 
-pub choose-requires-clause-labels : goal.choose-requires-clause-labels
-choose-requires-clause-labels c = subst (λ (k : Names). LabelsWhole k (map choice_labels c.args.items.now)) (sym (ap names_of c.moment.ensures.scope)) (labels_whole (names_of c.args.self.now.scope.now) c.args.items.now c.requires.labels)
+pub choice_planned-requires : goal.choice_planned-requires
+choice_planned-requires c = (choice_plan (names_of c.args.self.now.scope.now) (plan_at c.args.self.now.plans.now c.args.number) c.args.kind c.args.selector.now (map choice_labels c.args.items.now) c.in-Some.selection.now c.requires.known c.in-Some.ensures).fits c.args.scene.now.widths c.requires.world
 
-pub returns-clause-choice : goal.returns-clause-choice
-returns-clause-choice c = evaluated_in (λ names phase store words. chosen names phase c.args.kind c.args.selector.now (map choice_labels c.args.items.now) store words) (names_of c.args.self.now.scope.now) (names_of c.moment.result.scope.now) c.args.self.now.phase c.moment.result.phase (store_of c.moment.result.store.now) c.args.scene.now c.set_words.new.self c.in_ok-words.words c.choose.new.words c.in_ok-taken.taken (ap names_of c.moment.ensures.scope) c.moment.ensures.phase c.moment.ensures.store c.in_ok-words.ensures c.in_ok-taken.ensures c.set_words.ensures
+pub returns-in-Some-clause-choice : goal.returns-in-Some-clause-choice
+returns-in-Some-clause-choice c = choice_taken (names_of c.args.self.now.scope.now) c.args.self.now.phase c.args.kind c.args.selector.now (map choice_labels c.args.items.now) c.in-Some.selection.now c.args.scene.now c.choice_planned.result (choice_plan (names_of c.args.self.now.scope.now) (plan_at c.args.self.now.plans.now c.args.number) c.args.kind c.args.selector.now (map choice_labels c.args.items.now) c.in-Some.selection.now c.requires.known c.in-Some.ensures) c.choice_planned.ensures

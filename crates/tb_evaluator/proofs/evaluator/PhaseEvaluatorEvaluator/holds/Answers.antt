@@ -1,8 +1,10 @@
-use Rattle.std.proofs.Common.{ap}
-use Rattle.vlog_meaning.specs.Scopes.{names_of, store_of}
-use Rattle.tb_values.specs.Values.{condition}
-use Rattle.tb_evaluator.proofs.Evaluating.{evaluated_in}
+use Rattle.vlog_meaning.specs.Scopes.{names_of}
+use Rattle.tb_plans.specs.Plans.{plan_at}
+use Rattle.tb_evaluator.proofs.Planning.{condition_plan, condition_holds}
 use Rattle.tb_evaluator.proofs.evaluator.PhaseEvaluatorEvaluator.holds.Goals as goal
 
-pub returns-clause-holds : goal.returns-clause-holds
-returns-clause-holds c = evaluated_in (λ names phase store words. condition names phase c.args.condition.now store words) (names_of c.args.self.now.scope.now) (names_of c.moment.result.scope.now) c.args.self.now.phase c.moment.result.phase (store_of c.moment.result.store.now) c.args.scene.now c.set_words.new.self c.in_ok-words.words c.holds.new.words c.in_ok-holds.holds (ap names_of c.moment.ensures.scope) c.moment.ensures.phase c.moment.ensures.store c.in_ok-words.ensures c.in_ok-holds.ensures c.set_words.ensures
+pub holds_planned-requires : goal.holds_planned-requires
+holds_planned-requires c = (condition_plan (names_of c.args.self.now.scope.now) (plan_at c.args.self.now.plans.now c.args.number) c.args.condition.now c.in-Some.formula.now c.requires.known c.in-Some.ensures).fits c.args.scene.now.widths c.requires.world
+
+pub returns-in-Some-clause-holds : goal.returns-in-Some-clause-holds
+returns-in-Some-clause-holds c = condition_holds (names_of c.args.self.now.scope.now) c.args.self.now.phase c.args.condition.now c.in-Some.formula.now c.args.scene.now c.holds_planned.result (condition_plan (names_of c.args.self.now.scope.now) (plan_at c.args.self.now.plans.now c.args.number) c.args.condition.now c.in-Some.formula.now c.requires.known c.in-Some.ensures) c.holds_planned.ensures

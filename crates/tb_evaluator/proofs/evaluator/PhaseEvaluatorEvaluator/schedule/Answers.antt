@@ -1,13 +1,11 @@
-use Rattle.std.proofs.Common.{ap}
-use Rattle.vlog_meaning.specs.Scopes.{names_of, store_of, Names}
-use Rattle.tb_assigns.proofs.Fitting.{all_fit}
-use Rattle.tb_evaluator.specs.Meanings.{HasSignals}
-use Rattle.tb_evaluator.proofs.Evaluating.{still_served, updates_fit_scene}
+use Rattle.vlog_meaning.specs.Scopes.{names_of}
+use Rattle.tb_machine.specs.declared.node.Part.TheVariants.{Itself}
+use Rattle.tb_plans.specs.Plans.{plan_at}
+use Rattle.tb_evaluator.proofs.Planning.{writing_plan}
 use Rattle.tb_evaluator.proofs.evaluator.PhaseEvaluatorEvaluator.schedule.Goals as goal
 
-pub schedule_all-requires : goal.schedule_all-requires
-schedule_all-requires c =
-    let n : Names = names_of c.args.self.now.scope.now in
-    let m : Names = names_of c.moment.result.scope.now in
-    let served : HasSignals n c.set_words.new.self.widths = still_served n c.args.scene.now c.set_words.new.self c.updates.new.words c.set_words.ensures c.requires.world in
-    updates_fit_scene n m c.set_words.new.self.widths c.in_ok-updates.updates.items c.as_slice.result.now _ c.updates.new.words (ap names_of c.moment.ensures.scope) c.as_slice.ensures.value c.in_ok-updates.ensures (all_fit m c.moment.result.phase c.args.assignment.now (store_of c.moment.result.store.now) c.in_ok-words.words) served
+pub schedule_planned-requires-clause-plan : goal.schedule_planned-requires-clause-plan
+schedule_planned-requires-clause-plan c = (c.args.assignment.now, writing_plan (names_of c.args.self.now.scope.now) (plan_at c.args.self.now.plans.now c.args.number) Itself c.args.assignment.now c.in-Some.writing.now c.requires.known c.in-Some.ensures)
+
+pub returns-in-Some-clause-scheduled : goal.returns-in-Some-clause-scheduled
+returns-in-Some-clause-scheduled c = c.schedule_planned.ensures.scheduled c.args.assignment.now (writing_plan (names_of c.args.self.now.scope.now) (plan_at c.args.self.now.plans.now c.args.number) Itself c.args.assignment.now c.in-Some.writing.now c.requires.known c.in-Some.ensures)

@@ -1,0 +1,7 @@
+use Rattle.std.proofs.Common.{[], ◌∷◌, sym, subst}
+use Rattle.cell_meaning.specs.Words.{word_bits}
+use Rattle.cell_meaning.specs.Words.{HasValue}
+use Rattle.cell_meaning.proofs.value.number_of_two.Goals as goal
+
+pub returns-in-Pick : goal.returns-in-Pick
+returns-in-Pick c = subst (λ k. HasValue c.pick.result k c.args.signed c.args.width (word_bits c.args.a ∷ word_bits c.args.b ∷ [])) (sym c.in-Pick.is) (c.pick.ensures c.args.signed c.args.width)

@@ -1,0 +1,17 @@
+use Rattle.std.proofs.Common.{ℕ, ◌/◌, ◌%◌, ◌<◌, ◌∙◌, ap, arith, w64}
+use Rattle.std.specs.Int.{bit_at}
+use Rattle.std.proofs.lemmas.List.{get_or_read}
+use Rattle.std.proofs.lemmas.Nat.Bits.{bit_at_set_same, bit_at_set_other}
+use Rattle.cycle_sim.proofs.Marking.{mark-here, mark-other, set_bit}
+use Rattle.cycle_sim.proofs.marks.mark.Goals as goal
+
+pub returns-clause-here : goal.returns-clause-here
+returns-clause-here c =
+    let low : c.args.place % 64 < 64 = omega arith in
+    mark-here c.args.marks.now.items c.args.place (set_bit c.index_mut.result.now (c.args.place % 64)) c.requires ∙ bit_at_set_same w64 c.index_mut.result.now (c.args.place % 64) low
+
+pub returns-clause-others : goal.returns-clause-others
+returns-clause-others c = λ k other.
+    let low : c.args.place % 64 < 64 = omega arith in
+    let word = get_or_read c.args.marks.now.items (c.args.place / 64) c.index_mut.result.now (omega (arith, c.requires)) c.index_mut.ensures.value 0 in
+    mark-other c.args.marks.now.items c.args.place (set_bit c.index_mut.result.now (c.args.place % 64)) k c.requires (λ i less apart. bit_at_set_other w64 c.index_mut.result.now (c.args.place % 64) low i apart ∙ ap (λ (x : ℕ). bit_at x i) word) other

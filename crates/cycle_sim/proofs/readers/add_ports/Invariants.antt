@@ -1,0 +1,7 @@
+use Rattle.std.proofs.Common.{◌≤◌, take}
+use Rattle.netlist_core.specs.Drivers.{times_at}
+use Rattle.cycle_sim.specs.Marks.{AreAdded}
+use Rattle.cycle_sim.proofs.readers.add_ports.Given as goal
+
+abbrev pub invariant-loop-port : goal.invariant-loop-port
+invariant-loop-port l = AreAdded (λ n. 1 ≤ times_at n (take l.port-index l.ports)) l.places l.place l.initial.readers.items l.readers.items

@@ -1,0 +1,6 @@
+use Rattle.std.proofs.Common.{◌≡◌, ◌+◌, ◌++◌, take, drop, length}
+use Rattle.cycle_sim.specs.Marks.{AreHeld}
+use Rattle.cycle_sim.proofs.state.lay_registers.Given as goal
+
+abbrev pub invariant-loop-i : goal.invariant-loop-i
+invariant-loop-i l = AreHeld l.netlist l.table.items l.marks.items × (l.table.items ≡ take (length l.netlist.raw.inputs) l.initial.table.items ++ take l.i l.numbers ++ drop (length l.netlist.raw.inputs + l.i) l.initial.table.items)

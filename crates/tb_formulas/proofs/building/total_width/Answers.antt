@@ -1,0 +1,7 @@
+use Rattle.std.proofs.Common.{arith}
+use Rattle.vlog_meaning.specs.Scopes.{names_of}
+use Rattle.vlog_meaning.proofs.Whole.{element_whole}
+use Rattle.tb_formulas.proofs.building.total_width.Goals as goal
+
+pub shape_of-total-requires-in-loop-part : goal.shape_of-total-requires-in-loop-part
+shape_of-total-requires-in-loop-part c = element_whole (names_of c.args.scope.now) c.args.parts.now c.loop-part.part-index c.part-item.result c.part-item.is (omega arith) c.requires.whole

@@ -1,0 +1,116 @@
+//! Formulas, and what they come to.
+//!
+//! Nothing is looked up in an evaluation, and no memory is taken.
+ghost use Rattle.std.specs.Prelude.{◌≡◌, ◌<◌, ◌^◌, ℕ, length, map, slice_index};
+ghost use Rattle.mcy_base.specs.declared.word.Word.{Word as Held};
+ghost use Rattle.vlog_meaning.specs.Scopes.{store_of};
+ghost use Rattle.tb_formulas.specs.Formulas.{formula_value, FitsIn};
+
+use mcy_base::Word;
+use vlog_meaning::{
+    Bound, Shape, binary_value, extend, repeated, shift_left, shift_right, truncate, unary_value,
+    window,
+};
+use vlog_syntax::{BinaryOperator, Boxed, UnaryOperator};
+
+/// A part of a signal whose lowest bit has the number `low`: as many bits as the width.
+#[derive(Clone, Copy, Debug, PartialEq, Eq)]
+pub struct Part {
+    pub signal: u32,
+    pub low: u32,
+    pub width: u8,
+}
+
+/// What an expression comes to at a width and sign.
+#[derive(Drop)]
+pub enum Formula {
+    Number(u128),
+    /// A signal, at a width that is not less than its own.
+    Signal(u32, u8),
+    /// A signed signal of the first width, at the second.
+    SignedSignal(u32, u8, u8),
+    /// Bits of a signal from a place on, as many as the width.
+    Slice(u32, u8, u8),
+    /// Bits of a signal from a place on, which is an index of the signal.
+    Select(Part, Boxed<Formula>),
+    /// Bits of a number from a place on, as many as the width.
+    NumberSelect(u128, u8, Boxed<Formula>),
+    /// A number of this shape at another width.
+    Extended(Shape, u8, Boxed<Formula>),
+    /// An operator, and the shape at which its operand is evaluated.
+    Unary(UnaryOperator, Shape, Boxed<Formula>),
+    /// An operator, and the shapes at which its operands are evaluated.
+    Binary(BinaryOperator, Shape, Shape, Boxed<Formula>, Boxed<Formula>),
+    /// The second where the first is not 0, and else the third.
+    Conditional(Boxed<Formula>, Boxed<Formula>, Boxed<Formula>),
+    /// The first in front of the second, which has so many bits.
+    Joined(Boxed<Formula>, u8, Boxed<Formula>),
+    /// So many times a number of so many bits.
+    Repeated(u8, u8, Boxed<Formula>),
+}
+
+/// The value of a signal.
+fn bits_of(store: &[Word], signal: u32) -> u128
+    requires { signal < length store.now }
+    ensures value { result ≡ store_of store.now signal }
+    ensures fits { result < 2 ^ slice_index (map (λ (w : Held). w.width) store.now) signal }
+{
+    store[signal as usize].bits()
+}
+
+impl Formula {
+    /// What it comes to, with these values of the signals.
+    #[cycle(value)]
+    pub fn value(&self, store: &[Word]) -> u128
+        requires { (n : ℕ) × FitsIn (map (λ (w : Held). w.width) store.now) self.now n }
+        ensures value { result ≡ formula_value self.now (store_of store.now) }
+        ensures fits { (n : ℕ) → FitsIn (map (λ (w : Held). w.width) store.now) self.now n → result < 2 ^ n }
+    {
+        match self {
+            Formula::Number(bits) => *bits,
+            Formula::Signal(signal, _) => bits_of(store, *signal),
+            Formula::SignedSignal(signal, from, to) => {
+                let own = Shape {
+                    width: *from,
+                    is_signed: true,
+                };
+                extend(own, bits_of(store, *signal), *to)
+            }
+            Formula::Slice(signal, at, width) => truncate(bits_of(store, *signal) >> *at, *width),
+            Formula::Select(part, place) => {
+                let place = Bound {
+                    is_negative: false,
+                    magnitude: place.get().value(store),
+                };
+                window(bits_of(store, part.signal), place, part.low, part.width)
+            }
+            Formula::NumberSelect(bits, width, place) => {
+                truncate(shift_right(*bits, place.get().value(store)), *width)
+            }
+            Formula::Extended(shape, to, inner) => extend(*shape, inner.get().value(store), *to),
+            Formula::Unary(op, shape, inner) => {
+                unary_value(*op, *shape, inner.get().value(store))
+            }
+            Formula::Binary(op, left, right, first, second) => {
+                let first = first.get().value(store);
+                let second = second.get().value(store);
+                binary_value(*op, *left, first, *right, second)
+            }
+            Formula::Conditional(condition, yes, no) => {
+                if condition.get().value(store) == 0 {
+                    no.get().value(store)
+                } else {
+                    yes.get().value(store)
+                }
+            }
+            Formula::Joined(upper, width, lower) => {
+                let upper = upper.get().value(store);
+                let lower = lower.get().value(store);
+                shift_left(upper, u128::from(*width), 128) + lower
+            }
+            Formula::Repeated(count, width, inner) => {
+                repeated(*count, *width, inner.get().value(store))
+            }
+        }
+    }
+}

@@ -1,0 +1,7 @@
+pub mod Zips
+pub mod Knowing
+pub mod Values
+pub mod Targets
+pub mod Writings
+pub mod Arms
+pub mod Numbering

@@ -1,0 +1,11 @@
+use Rattle.std.proofs.Common.{ap, sym, ◌∙◌}
+use Rattle.std.specs.Prelude.{ℤ, pos}
+use Rattle.tb_assigns.specs.Pieces.{vector_is}
+use Rattle.tb_assigns.specs.Updates.{window_update}
+use Rattle.tb_plans.proofs.Targets.{number_is}
+use Rattle.tb_plans.proofs.left.indexed.Goals as goal
+
+pub returns-in-Number-clause-updates : goal.returns-in-Number-clause-updates
+returns-in-Number-clause-updates c store v =
+    c.clip_of.ensures v
+    ∙ ap (λ (z : ℤ). window_update (record { vector = vector_is c.args.vector; base = z; size = c.args.size }) v) (c.positive-base.ensures ∙ ap pos (sym (number_is c.args.index c.in-Number.at store c.in-Number.is)))

@@ -1,0 +1,8 @@
+use Rattle.std.proofs.Common.{take}
+use Rattle.std.specs.List.{AllZip}
+use Rattle.vlog_meaning.specs.Scopes.{names_of}
+use Rattle.tb_plans.specs.Making.{IsNetPlan}
+use Rattle.tb_plans.proofs.nets.plan_nets.Given as goal
+
+abbrev pub invariant-loop-node : goal.invariant-loop-node
+invariant-loop-node l = AllZip (IsNetPlan (names_of l.scope)) (take l.node-index l.nodes) l.plans.items

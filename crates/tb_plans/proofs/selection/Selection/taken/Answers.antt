@@ -1,0 +1,8 @@
+use Rattle.std.proofs.Common.{map, subst, sym}
+use Rattle.std.specs.List.{All}
+use Rattle.mcy_base.specs.declared.word.Word.{Word}
+use Rattle.tb_plans.specs.Selections.{ArmFits}
+use Rattle.tb_plans.proofs.selection.Selection.taken.Goals as goal
+
+pub first_arm-requires : goal.first_arm-requires
+first_arm-requires c = subst (All (ArmFits (map (λ (w : Word). w.width) c.args.store.now))) (sym c.as_slice.ensures) c.requires.arms

@@ -1,0 +1,71 @@
+-- Plans of assignments: the value is a formula, or a word of `$random` alone, and goes to bits of one signal. A plan is one of an
+-- assignment where it brings the same updates in each phase.
+use Rattle.std.specs.Prelude.{◌≡◌, ◌≤◌, ℕ, pos, List, Option, Some, None}
+use Rattle.rand_pcg.specs.Lcg.{Lcg}
+use Rattle.rand_pcg.specs.Pcg.{pcg32}
+use Rattle.vlog_syntax.specs.declared.stmt.Assignment.{Assignment}
+use Rattle.vlog_meaning.specs.Scopes.{Names, Store}
+use Rattle.vlog_meaning.specs.Senses.{taken}
+use Rattle.tb_machine.specs.declared.update.Update.{Update}
+use Rattle.tb_values.specs.Draws.{random_shape}
+use Rattle.tb_assigns.specs.Pieces.{vector_is, clip_update}
+use Rattle.tb_assigns.specs.Updates.{window_update, updates}
+use Rattle.tb_formulas.specs.Formulas.{formula_value}
+use Rattle.tb_formulas.specs.Signals.{HasSignals}
+use Rattle.tb_plans.specs.Values.{FormulaFits}
+use Rattle.tb_plans.specs.declared.target.Target.{Target}
+use Rattle.tb_plans.specs.declared.target.Target.TheVariants.{Fixed, Indexed}
+use Rattle.tb_plans.specs.declared.transfer.Transfer.{Transfer}
+use Rattle.tb_plans.specs.declared.transfer.Draw.{Draw}
+use Rattle.tb_plans.specs.declared.transfer.Writing.{Writing}
+use Rattle.tb_plans.specs.declared.transfer.Writing.TheVariants as w
+
+-- the updates of a target with a value; an index is read as unsigned
+abbrev pub target_updates : Target → Store → ℕ → List Update
+target_updates (Fixed clip) store v = clip_update clip v
+target_updates (Indexed vector size index) store v = window_update (record { vector = vector_is vector; base = pos (formula_value index store); size = size }) v
+
+abbrev pub transfer_updates : Transfer → Store → List Update
+transfer_updates t store = target_updates t.target store (formula_value t.value store)
+
+-- the next word of the generator, at the width and sign of the assignment
+abbrev pub draw_updates : Draw → Store → Lcg → List Update × Lcg
+draw_updates d store g = (target_updates d.target store (taken random_shape d.context (pcg32 g).0), (pcg32 g).1)
+
+-- formulas over signals of these widths
+
+abbrev pub TargetFits : List ℕ → Target → Type 0
+TargetFits widths (Fixed clip) = Unit {0}
+TargetFits widths (Indexed vector size index) = FormulaFits widths index
+
+pub record TransferFits (widths : List ℕ) (t : Transfer) : Type 0 where
+  pub value : FormulaFits widths t.value
+  pub target : TargetFits widths t.target
+
+pub record DrawFits (widths : List ℕ) (d : Draw) : Type 0 where
+  pub wide : 32 ≤ d.context.width
+  pub narrow : d.context.width ≤ 128
+  pub target : TargetFits widths d.target
+
+-- the plan of an assignment
+
+pub record IsTransferOf (names : Names) (a : Assignment) (t : Transfer) : Type 0 where
+  pub means : (phase : ℕ) (store : Store) (g : Lcg) → updates names phase a store g ≡ (transfer_updates t store, g)
+  pub fits : (widths : List ℕ) → HasSignals names widths → TransferFits widths t
+
+pub record IsDrawOf (names : Names) (a : Assignment) (d : Draw) : Type 0 where
+  pub means : (phase : ℕ) (store : Store) (g : Lcg) → updates names phase a store g ≡ draw_updates d store g
+  pub fits : (widths : List ℕ) → HasSignals names widths → DrawFits widths d
+
+abbrev pub IsWritingOf : Names → Assignment → Writing → Type 0
+IsWritingOf names a (w.Transfer t) = IsTransferOf names a t
+IsWritingOf names a (w.Draw d) = IsDrawOf names a d
+
+-- there is none, or it is one of the assignment
+abbrev pub OfWriting : Names → Assignment → Option Writing → Type 0
+OfWriting names a None = Unit {0}
+OfWriting names a (Some p) = IsWritingOf names a p
+
+abbrev pub OfTransfer : Names → Assignment → Option Transfer → Type 0
+OfTransfer names a None = Unit {0}
+OfTransfer names a (Some t) = IsTransferOf names a t

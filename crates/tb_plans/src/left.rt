@@ -1,0 +1,114 @@
+//! Targets of left sides.
+ghost use Rattle.std.specs.Prelude.{◌≡◌, ℕ, List, ◌∷◌, [], pos, IfOk};
+ghost use Rattle.vlog_meaning.specs.Scopes.{Store, names_of};
+ghost use Rattle.vlog_effects.specs.LeftSides.{Whole, Bit, Range, Indexed as FromIndex, Vector as Known, parts_of};
+ghost use Rattle.tb_assigns.specs.Pieces.{vector_is};
+ghost use Rattle.tb_assigns.specs.Updates.{IsPart, AreParts, window_update};
+ghost use Rattle.tb_formulas.specs.Formulas.{formula_value};
+ghost use Rattle.tb_plans.specs.Values.{FormulaFits};
+ghost use Rattle.tb_plans.specs.Making.{IsTargetOf, OfTarget};
+ghost use Rattle.tb_plans.specs.Transfers.{target_updates, TargetFits};
+
+use crate::target::Target;
+use crate::value::own_value_of;
+use elab_expr::count_of;
+use mcy_base::Span;
+use std::alloc::{AllocError, Global};
+use tb_assigns::{Piece, Vector, clip_of, positive, range_piece, vector_of, whole_piece};
+use tb_formulas::Formula;
+use vlog_meaning::Scope;
+use vlog_syntax::{Expr, Identifier, LeftSide};
+
+/// A whole signal.
+fn whole_target(name: &Identifier, scope: &Scope) -> Target
+    requires { (v : Known) × IsPart (names_of scope.now) (record { name = name.now; select = Whole }) v }
+    ensures { IsTargetOf (names_of scope.now) (record { name = name.now; select = Whole } ∷ []) result }
+{
+    Target::Fixed(clip_of(whole_piece(name, scope)))
+}
+
+/// `name[msb:lsb]`
+fn range_target(name: &Identifier, span: Span, msb: &Expr, lsb: &Expr, scope: &Scope) -> Target
+    requires { (v : Known) × IsPart (names_of scope.now) (record { name = name.now; select = Range span msb.now lsb.now }) v }
+    ensures { IsTargetOf (names_of scope.now) (record { name = name.now; select = Range span msb.now lsb.now } ∷ []) result }
+{
+    Target::Fixed(clip_of(range_piece(name, span, msb, lsb, scope)))
+}
+
+/// So many bits from an index on. They are fixed where the index is a number.
+fn indexed(vector: Vector, size: u8, index: Formula) -> Target
+    ensures updates { (store : Store) (v : ℕ) → target_updates result store v ≡ window_update (record { vector = vector_is vector; base = pos (formula_value index store); size = size }) v }
+    ensures fits { (widths : List ℕ) → FormulaFits widths index → TargetFits widths result }
+{
+    if let Formula::Number(at) = index {
+        let base = positive(at);
+        return Target::Fixed(clip_of(Piece { vector, base, size }));
+    }
+    Target::Indexed(vector, size, index)
+}
+
+/// `name[index]`
+fn bit_target(
+    alloc: Global,
+    name: &Identifier,
+    span: Span,
+    index: &Expr,
+    scope: &Scope,
+) -> Result<Option<Target>, AllocError>
+    requires { (v : Known) × IsPart (names_of scope.now) (record { name = name.now; select = Bit span index.now }) v }
+    ensures { IfOk result (λ t. OfTarget (names_of scope.now) (record { name = name.now; select = Bit span index.now } ∷ []) t) }
+{
+    let vector = vector_of(name, scope);
+    match own_value_of(alloc, index, scope)? {
+        Some(at) => Ok(Some(indexed(vector, 1, at))),
+        None => Ok(None),
+    }
+}
+
+/// `name[base +: count]`
+fn part_target(
+    alloc: Global,
+    name: &Identifier,
+    span: Span,
+    base: &Expr,
+    count: &Expr,
+    scope: &Scope,
+) -> Result<Option<Target>, AllocError>
+    requires { (v : Known) × IsPart (names_of scope.now) (record { name = name.now; select = FromIndex span base.now count.now }) v }
+    ensures { IfOk result (λ t. OfTarget (names_of scope.now) (record { name = name.now; select = FromIndex span base.now count.now } ∷ []) t) }
+{
+    let vector = vector_of(name, scope);
+    let size = count_of(count, scope);
+    match own_value_of(alloc, base, scope)? {
+        Some(at) => Ok(Some(indexed(vector, size, at))),
+        None => Ok(None),
+    }
+}
+
+/// The target of a left side that is no concatenation, and whose index draws nothing.
+pub(crate) fn target_of(
+    alloc: Global,
+    left: &LeftSide,
+    scope: &Scope,
+) -> Result<Option<Target>, AllocError>
+    requires { AreParts (names_of scope.now) (parts_of left.now) }
+    ensures { IfOk result (λ t. OfTarget (names_of scope.now) (parts_of left.now) t) }
+{
+    match left {
+        LeftSide::Name(name) => Ok(Some(whole_target(name, scope))),
+        LeftSide::BitSelect(name, span, index) => {
+            bit_target(alloc, name, *span, index.get(), scope)
+        }
+        LeftSide::PartSelect(name, span, msb, lsb) => Ok(Some(range_target(
+            name,
+            *span,
+            msb.get(),
+            lsb.get(),
+            scope,
+        ))),
+        LeftSide::IndexedPartSelect(name, span, base, count) => {
+            part_target(alloc, name, *span, base.get(), count.get(), scope)
+        }
+        LeftSide::Concatenation(..) => Ok(None),
+    }
+}
