@@ -3,6 +3,7 @@ use Rattle.std.specs.Prelude.{◌≡◌, ◌+◌, ◌≤◌, None, length, take,
 use Rattle.clause_store.specs.Clauses.{AreOver}
 use Rattle.lrat_checker.specs.declared.checker.Checker.TheInside.{Inside}
 use Rattle.lrat_checker.specs.LegalLogs.{Log, IsLegalLog}
+use Rattle.lrat_checker.specs.Guards.{AreGuarded}
 
 -- the log of a checker
 abbrev pub log_of : Inside → Log
@@ -15,3 +16,4 @@ pub record IsSound (c : Inside) : Type 0 where
   pub over : AreOver c.variables c.store
   pub free : c.free ≤ c.variables
   pub legal : IsLegalLog (take c.clauses c.store) c.free (drop c.clauses c.store)
+  pub guarded : AreGuarded (drop c.clauses c.store) c.guards

@@ -2,6 +2,7 @@
 #![tactic(auto)]
 
 mod checker;
+mod guards;
 mod judge;
 mod partial;
 mod refusal;

@@ -1,0 +1,20 @@
+use Rattle.std.proofs.Common.{◌≡◌, ◌<◌, ℤ, pos, true, false, length, get_or, sym, subst, arith, rules}
+use Rattle.std.specs.Prelude.{FitsSigned, Contains}
+use Rattle.std.specs.Int.{w32}
+use Rattle.std.proofs.lemmas.Bool.Decides.{nat_tests}
+use Rattle.std.proofs.lemmas.Int.{to_z-of_z}
+use Rattle.std.proofs.lemmas.List.Elements.{Contains-get_or}
+use Rattle.lrat_checker.proofs.guards.Guards.add.Goals as goal
+
+pub returns-then-is_empty-clause-ok : goal.returns-then-is_empty-clause-ok
+returns-then-is_empty-clause-ok c = λ lemmas count guarded all n h. absurd (let wrong : false ≡ true = all in cc)
+
+pub returns-then-is_empty-clause-kept : goal.returns-then-is_empty-clause-kept
+returns-then-is_empty-clause-kept c = λ lemmas guarded all n h. absurd (let wrong : false ≡ true = all in cc)
+
+pub returns-clause-ok : goal.returns-clause-ok
+returns-clause-ok c = λ lemmas count guarded.
+    let fits : FitsSigned w32 (get_or c.args.lemma.now 0 (pos 0)) = search rules in
+    let within : 0 < length c.args.lemma.now = grind (arith, nat_tests) in
+    let P : ℤ → Type 0 = Contains c.args.lemma.now in
+    c.put.ensures.ok lemmas c.args.lemma.now count (subst P (sym (to_z-of_z w32 (get_or c.args.lemma.now 0 (pos 0)) fits)) (Contains-get_or c.args.lemma.now 0 (pos 0) within)) guarded
