@@ -1,10 +1,11 @@
 //! Formulas, and what they come to.
 //!
 //! Nothing is looked up in an evaluation, and no memory is taken.
-ghost use Rattle.std.specs.Prelude.{◌≡◌, ◌<◌, ◌^◌, ℕ, length, map, slice_index};
+ghost use Rattle.std.specs.Prelude.{◌≡◌, ◌<◌, ◌≤◌, ◌^◌, ◌-ℤ◌, pos, ℕ, length, map, slice_index};
 ghost use Rattle.mcy_base.specs.declared.word.Word.{Word as Held};
+ghost use Rattle.vlog_meaning.specs.Integers.{window};
 ghost use Rattle.vlog_meaning.specs.Scopes.{store_of};
-ghost use Rattle.tb_formulas.specs.Formulas.{formula_value, FitsIn};
+ghost use Rattle.tb_formulas.specs.Formulas.{signed, formula_value, FitsIn};
 
 use mcy_base::Word;
 use vlog_meaning::{
@@ -58,8 +59,32 @@ fn bits_of(store: &[Word], signal: u32) -> u128
     store[signal as usize].bits()
 }
 
+/// So many bits in two's complement.
+fn signed(width: u8) -> Shape
+    ensures { result ≡ signed width }
+{
+    Shape {
+        width,
+        is_signed: true,
+    }
+}
+
+/// The bits of a part that begins at an index of the signal.
+fn part_from(store: &[Word], part: Part, index: u128) -> u128
+    requires known { part.signal < length store.now }
+    requires narrow { part.width ≤ 128 }
+    ensures { result ≡ window (pos index -ℤ pos part.low) part.width (store_of store.now part.signal) }
+{
+    let place = Bound {
+        is_negative: false,
+        magnitude: index,
+    };
+    window(bits_of(store, part.signal), place, part.low, part.width)
+}
+
 impl Formula {
-    /// What it comes to, with these values of the signals.
+    /// What it comes to, with these values of the signals. A number or a signal, as most parts are, is read without a call.
+    #[inline]
     #[cycle(value)]
     pub fn value(&self, store: &[Word]) -> u128
         requires { (n : ℕ) × FitsIn (map (λ (w : Held). w.width) store.now) self.now n }
@@ -69,21 +94,26 @@ impl Formula {
         match self {
             Formula::Number(bits) => *bits,
             Formula::Signal(signal, _) => bits_of(store, *signal),
+            _ => self.computed(store),
+        }
+    }
+
+    /// The same, of any kind.
+    #[inline(never)]
+    #[cycle(value)]
+    fn computed(&self, store: &[Word]) -> u128
+        requires { (n : ℕ) × FitsIn (map (λ (w : Held). w.width) store.now) self.now n }
+        ensures value { result ≡ formula_value self.now (store_of store.now) }
+        ensures fits { (n : ℕ) → FitsIn (map (λ (w : Held). w.width) store.now) self.now n → result < 2 ^ n }
+    {
+        match self {
+            Formula::Number(bits) => *bits,
+            Formula::Signal(signal, _) => bits_of(store, *signal),
             Formula::SignedSignal(signal, from, to) => {
-                let own = Shape {
-                    width: *from,
-                    is_signed: true,
-                };
-                extend(own, bits_of(store, *signal), *to)
+                extend(signed(*from), bits_of(store, *signal), *to)
             }
             Formula::Slice(signal, at, width) => truncate(bits_of(store, *signal) >> *at, *width),
-            Formula::Select(part, place) => {
-                let place = Bound {
-                    is_negative: false,
-                    magnitude: place.get().value(store),
-                };
-                window(bits_of(store, part.signal), place, part.low, part.width)
-            }
+            Formula::Select(part, place) => part_from(store, *part, place.get().value(store)),
             Formula::NumberSelect(bits, width, place) => {
                 truncate(shift_right(*bits, place.get().value(store)), *width)
             }
