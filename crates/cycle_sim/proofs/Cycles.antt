@@ -1,97 +1,20 @@
 -- A cycle that is settled, and what readers find in its table.
-use Rattle.std.proofs.Common.{◌≡◌, ℕ, zero, suc, ◌+◌, ◌^◌, ◌<◌, ◌≤◌, List, [], ◌∷◌, ◌++◌, length, take, drop, get_or, slice_get, Some, sym, ◌∙◌, ap, subst, arith}
-use Rattle.std.proofs.lemmas.List.{append_assoc, length-append, length-map, length-drop, length-take-le, take_at, drop_at, drop-drop, take-append-drop, get_or-map}
-use Rattle.mcy_base.specs.declared.word.Word.{Word}
+use Rattle.std.proofs.Common.{◌≡◌, ℕ, zero, suc, ◌^◌, ◌<◌, ◌≤◌, List, [], ◌∷◌, length, get_or, slice_get, Some, sym, ◌∙◌, ap, subst, arith}
+use Rattle.std.proofs.lemmas.List.{length-map, get_or-map}
 use Rattle.netlist_core.specs.declared.bit.Bit.{Bit}
 use Rattle.netlist_core.specs.declared.port.Port as port
 use Rattle.netlist_core.specs.declared.port.Register.{Register}
 use Rattle.netlist_core.specs.Numbers.{number}
 use Rattle.netlist_core.specs.Runs.{Nets, plain, values, bits_at, q_bits, d_bits, Holds}
-use Rattle.netlist_core.specs.Drivers.{y_bits, drivers}
+use Rattle.netlist_core.specs.Drivers.{drivers}
 use Rattle.netlist_core.specs.Checked.{Plan, IsSound, AllWide, AllRegistersFit}
-use Rattle.netlist_core.specs.Settled.{laid_all, after_order, all_zero}
-use Rattle.netlist_core.specs.Solutions.{FitPorts, driving, settled, OrderSettles, OneRunBySight}
+use Rattle.netlist_core.specs.Solutions.{FitPorts, driving, OneRunBySight}
 use Rattle.netlist_core.proofs.Settles.{plain-causal}
 use Rattle.cycle_sim.specs.declared.parts.Wires.{Wires}
 use Rattle.cycle_sim.specs.Parts.{IsWired, AllWired, IsReadable, parts_number}
-use Rattle.cycle_sim.specs.Simulated.{nets_of, numbers_of, HaveWidths}
+use Rattle.cycle_sim.specs.Simulated.{nets_of}
 use Rattle.cycle_sim.proofs.Wired.{wired-readable, wired-at, wires-number}
-use Rattle.cycle_sim.proofs.Laid.{laid-front}
-use Rattle.cycle_sim.proofs.Plans.{driving-narrow, driving-once, table-numbers, fit-append, fit-behind, fit-length, fit-words, words-length}
-
--- Inputs and registers laid at the front.
-
--- the table with these words at the front, and these numbers behind them
-abbrev pub laid_table : List Word → List ℕ → List ℕ → List ℕ
-laid_table words registers table = numbers_of words ++ (registers ++ drop (length words + length registers) table)
-
-pub laid-is : (words : List Word) (registers old first second : List ℕ) → first ≡ numbers_of words ++ drop (length words) old → second ≡ (take (length words) first ++ registers) ++ drop (length words + length registers) first → second ≡ laid_table words registers old
-laid-is words registers old first second is_first is_second =
-    let n : ℕ = length words in
-    let r : ℕ = length registers in
-    let nums : List ℕ = numbers_of words in
-    let long : length nums ≡ n = length-map words (λ (w : Word). w.bits) in
-    let front : take n first ≡ nums = ap (take n) is_first ∙ take_at nums (drop n old) n long in
-    let back : drop n first ≡ drop n old = ap (drop n) is_first ∙ drop_at nums (drop n old) n long in
-    let rest : drop (n + r) first ≡ drop (n + r) old = sym (drop-drop r n first) ∙ ap (drop r) back ∙ drop-drop r n old in
-    is_second
-    ∙ ap (λ (l : List ℕ). (l ++ registers) ++ drop (n + r) first) front
-    ∙ ap (λ (l : List ℕ). (nums ++ registers) ++ l) rest
-    ∙ append_assoc nums registers (drop (n + r) old)
-
-module _ (plan : Plan) (sound : IsSound plan) (words : List Word) (registers old : List ℕ) (have : HaveWidths (bits_at plan.raw.inputs) words) (stored : FitPorts (q_bits plan.raw.registers) registers) (fit : FitPorts (driving plan.raw) old) where
-  abbrev ins : List (List Bit)
-  ins = bits_at plan.raw.inputs
-
-  abbrev qs : List (List Bit)
-  qs = q_bits plan.raw.registers
-
-  abbrev ys : List (List Bit)
-  ys = y_bits plan.raw.cells
-
-  count : length words + length registers ≡ length ins + length qs
-  count = (let a = words-length ins words have in let b = fit-length qs registers stored in omega (arith, a, b))
-
-  rest-fits : FitPorts ys (drop (length words + length registers) old)
-  rest-fits = subst (λ (l : List ℕ). FitPorts ys l) (drop-drop (length qs) (length ins) old ∙ ap (λ (k : ℕ). drop k old) (sym count)) (fit-behind qs ys (drop (length ins) old) (fit-behind ins (qs ++ ys) old fit))
-
-  pub laid-fits : FitPorts (driving plan.raw) (laid_table words registers old)
-  laid-fits = fit-append ins (qs ++ ys) (numbers_of words) (registers ++ drop (length words + length registers) old) (fit-words ins words have) (fit-append qs ys registers (drop (length words + length registers) old) stored rest-fits)
-
-  old-is : old ≡ take (length words) old ++ (take (length registers) (drop (length words) old) ++ drop (length words + length registers) old)
-  old-is =
-      let behind : drop (length words) old ≡ take (length registers) (drop (length words) old) ++ drop (length words + length registers) old = sym (take-append-drop (length registers) (drop (length words) old)) ∙ ap (λ (l : List ℕ). take (length registers) (drop (length words) old) ++ l) (drop-drop (length registers) (length words) old) in
-      sym (take-append-drop (length words) old) ∙ ap (λ (l : List ℕ). take (length words) old ++ l) behind
-
-  pub laid-long : length words + length registers ≤ length old
-  laid-long =
-      let a = fit-length (driving plan.raw) old fit in
-      let b = length-append ins (qs ++ ys) in
-      let e = length-append qs ys in
-      let n = count in
-      omega (arith, a, b, e, n)
-
-  laid-nets : nets_of plan.raw (laid_table words registers old) ≡ laid_all (laid_all (nets_of plan.raw old) ins (numbers_of words)) qs registers
-  laid-nets =
-      let us : List ℕ = take (length words) old in
-      let vs : List ℕ = take (length registers) (drop (length words) old) in
-      let ws : List ℕ = drop (length words + length registers) old in
-      let many = laid-long in
-      let back = length-drop (length words) old in
-      let long_n : length (numbers_of words) ≡ length ins = length-map words (λ (w : Word). w.bits) ∙ words-length ins words have in
-      let long_r : length registers ≡ length qs = fit-length qs registers stored in
-      let long_u : length us ≡ length ins = length-take-le (length words) old (omega (arith, many)) ∙ words-length ins words have in
-      let long_v : length vs ≡ length qs = length-take-le (length registers) (drop (length words) old) (omega (arith, many, back)) ∙ long_r in
-      let long_w : length ws ≡ length ys = fit-length ys ws rest-fits in
-      laid-front all_zero ins qs ys (numbers_of words) registers us vs ws (driving-once plan sound) long_n long_r long_u long_v long_w
-      ∙ ap (λ (l : List ℕ). laid_all (laid_all (nets_of plan.raw l) ins (numbers_of words)) qs registers) (sym old-is)
-
-  -- the nets that settle from there
-  pub settled-is : (new : List ℕ) → nets_of plan.raw new ≡ after_order plain plan.raw.cells plan.order (nets_of plan.raw (laid_table words registers old)) → nets_of plan.raw new ≡ settled plain plan.raw plan.order (nets_of plan.raw old) (numbers_of words) registers
-  settled-is new is = is ∙ ap (after_order plain plan.raw.cells plan.order) laid-nets
-
-  pub cycle-holds : OrderSettles → (new : List ℕ) → nets_of plan.raw new ≡ after_order plain plan.raw.cells plan.order (nets_of plan.raw (laid_table words registers old)) → Holds (plain (nets_of plan.raw new)) (nets_of plan.raw new) plan.raw (numbers_of words) registers
-  cycle-holds settles new is = subst (λ (x : Nets). Holds (plain x) x plan.raw (numbers_of words) registers) (sym (settled-is new is)) (settles plan plain sound (plain-causal plan.raw) (nets_of plan.raw old) (numbers_of words) registers (fit-words ins words have) stored)
+use Rattle.cycle_sim.proofs.Plans.{driving-narrow, table-numbers}
 
 -- a solution of a cycle agrees with any other at each net that is driven
 pub cycle-alone : OneRunBySight → (plan : Plan) → IsSound plan → (inputs registers : List ℕ) → FitPorts (bits_at plan.raw.inputs) inputs → FitPorts (q_bits plan.raw.registers) registers → (x y : Nets) → Holds (plain x) x plan.raw inputs registers → Holds (plain y) y plan.raw inputs registers → (n : ℕ) → 1 ≤ drivers plan.raw n → x n ≡ y n
@@ -112,10 +35,10 @@ wide-at [] i wide inside = absurd (omega (arith, inside))
 wide-at (bits ∷ more) zero wide inside = (wide.0, wide.1)
 wide-at (bits ∷ more) (suc i) wide inside = wide-at more i wide.2 (omega (arith, inside))
 
-readable-at : (plan : Plan) → IsSound plan → (table : List ℕ) → FitPorts (driving plan.raw) table → (wires : Wires) (bits : List Bit) → IsWired (driving plan.raw) wires bits → (1 ≤ length bits) × (length bits ≤ 128) → IsReadable (length table) wires
-readable-at plan sound table fit wires bits wired wide = subst (λ (n : ℕ). IsReadable n wires) (sym (fit-length (driving plan.raw) table fit)) (wired-readable (driving plan.raw) wires bits (driving-narrow plan sound) wired wide.0 wide.1)
+readable-at : (plan : Plan) → IsSound plan → (table : List ℕ) → FitPorts (driving plan.raw) table → (wires : Wires) (bits : List Bit) → IsWired (driving plan.raw) wires bits → (1 ≤ length bits) × (length bits ≤ 128) → IsReadable table wires
+readable-at plan sound table fit wires bits wired wide = wired-readable (nets_of plan.raw table) (driving plan.raw) table (table-numbers plan sound table fit) wires bits (driving-narrow plan sound) wired wide.0 wide.1
 
-pub next-readable : (plan : Plan) → IsSound plan → (table : List ℕ) → FitPorts (driving plan.raw) table → (next : List Wires) → AllWired (driving plan.raw) next (d_bits plan.raw.registers) → (i : ℕ) (w : Wires) → i < length plan.raw.registers → i < length next → w ≡ get_or next i w → IsReadable (length table) w
+pub next-readable : (plan : Plan) → IsSound plan → (table : List ℕ) → FitPorts (driving plan.raw) table → (next : List Wires) → AllWired (driving plan.raw) next (d_bits plan.raw.registers) → (i : ℕ) (w : Wires) → i < length plan.raw.registers → i < length next → w ≡ get_or next i w → IsReadable table w
 next-readable plan sound table fit next wired i w inside within is =
     let here = subst (λ (x : Wires). IsWired (driving plan.raw) x (get_or (d_bits plan.raw.registers) i [])) (sym is) (wired-at (driving plan.raw) next (d_bits plan.raw.registers) i w [] wired within) in
     readable-at plan sound table fit w (get_or (d_bits plan.raw.registers) i []) here (d-wide plan.raw.registers i sound.formed.registers inside)
@@ -126,7 +49,7 @@ next-number plan sound table fit next wired i w r inside within is =
     wires-number (nets_of plan.raw table) (driving plan.raw) table w (get_or (d_bits plan.raw.registers) i []) (table-numbers plan sound table fit) here
     ∙ ap (λ (b : List Bit). number (values (nets_of plan.raw table) b)) (get_or-map (λ (x : Register). x.d) plan.raw.registers i r [] inside)
 
-pub output-readable : (plan : Plan) → IsSound plan → (table : List ℕ) → FitPorts (driving plan.raw) table → (outputs : List Wires) → AllWired (driving plan.raw) outputs (bits_at plan.raw.outputs) → (i : ℕ) (w : Wires) → i < length plan.raw.outputs → i < length outputs → w ≡ get_or outputs i w → IsReadable (length table) w
+pub output-readable : (plan : Plan) → IsSound plan → (table : List ℕ) → FitPorts (driving plan.raw) table → (outputs : List Wires) → AllWired (driving plan.raw) outputs (bits_at plan.raw.outputs) → (i : ℕ) (w : Wires) → i < length plan.raw.outputs → i < length outputs → w ≡ get_or outputs i w → IsReadable table w
 output-readable plan sound table fit outputs wired i w inside within is =
     let long : length (bits_at plan.raw.outputs) ≡ length plan.raw.outputs = length-map plan.raw.outputs (λ (p : port.Port). p.bits) in
     let here = subst (λ (x : Wires). IsWired (driving plan.raw) x (get_or (bits_at plan.raw.outputs) i [])) (sym is) (wired-at (driving plan.raw) outputs (bits_at plan.raw.outputs) i w [] wired within) in

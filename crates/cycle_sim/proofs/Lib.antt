@@ -15,3 +15,4 @@ mod ReaderLists
 mod Fronts
 mod Few
 mod Settling
+mod Gates

@@ -1,6 +1,6 @@
 -- The numbers of parts.
-use Rattle.std.proofs.Common.{◌≡◌, ℕ, zero, suc, ◌+◌, ◌-◌, ◌*◌, ◌/◌, ◌%◌, ◌^◌, ◌<◌, ◌≤◌, Bool, true, false, List, [], ◌∷◌, ◌++◌, length, take, drop, replicate, get_or, refl, sym, ◌∙◌, ap, subst, arith}
-use Rattle.std.proofs.lemmas.Nat.{pow_pos, pow-add, shr_high, mul-le, shl_whole}
+use Rattle.std.proofs.Common.{◌≡◌, ℕ, zero, suc, ◌+◌, ◌-◌, ◌*◌, ◌/◌, ◌%◌, ◌^◌, ◌<◌, ◌≤◌, Bool, true, false, List, [], ◌∷◌, ◌++◌, length, take, drop, replicate, bit_and, get_or, refl, sym, ◌∙◌, ap, subst, arith}
+use Rattle.std.proofs.lemmas.Nat.{and_mask, pow_pos, pow-add, shr_high, mul-le, shl_whole}
 use Rattle.std.proofs.lemmas.List.{map-append, take-map, drop-map, take-append-drop, length-take-le, length-take, take_all}
 use Rattle.std.proofs.Math.Nat.{mod-eq_of_lt, add-mul-mod_self_left, pow-le-pow_right}
 use Rattle.netlist_core.specs.declared.bit.Bit.{Bit}
@@ -27,6 +27,10 @@ ones-at w k e =
 
 pub ones-down : (w : ℕ) → w ≤ 128 → 340282366920938463463374607431768211455 / 2 ^ (128 - w) ≡ 2 ^ w - 1
 ones-down w le = ones-at w (128 - w) (omega (arith, le))
+
+-- the low bits, by a mask
+pub masked : (n w : ℕ) → w ≤ 128 → bit_and n (340282366920938463463374607431768211455 / 2 ^ (128 - w)) ≡ n % 2 ^ w
+masked n w le = ap (bit_and n) (ones-down w le) ∙ and_mask n w
 
 -- one number above another
 pub stacked : (a b w t : ℕ) → a < 2 ^ w → b < 2 ^ t → a + b * 2 ^ w < 2 ^ (w + t)

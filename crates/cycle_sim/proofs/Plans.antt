@@ -1,5 +1,5 @@
 -- The drivers of a sound netlist.
-use Rattle.std.proofs.Common.{◌≡◌, ℕ, zero, suc, ◌+◌, ◌^◌, ◌<◌, ◌≤◌, List, [], ◌∷◌, ◌++◌, length, map, replicate, get_or, set, drop, slice_get, Some, refl, sym, ◌∙◌, ap, subst, inl, inr, arith}
+use Rattle.std.proofs.Common.{◌≡◌, ℕ, zero, suc, ◌+◌, ◌^◌, ◌<◌, ◌≤◌, List, [], ◌∷◌, ◌++◌, length, map, replicate, get_or, set, slice_get, Some, refl, sym, ◌∙◌, ap, subst, inl, inr, arith}
 use Rattle.std.proofs.lemmas.Bool.{cases_lt}
 use Rattle.std.proofs.lemmas.Nat.{pow_pos}
 use Rattle.std.proofs.lemmas.List.{length-append, length-map, get_or-append-add}
@@ -25,18 +25,6 @@ use Rattle.cycle_sim.proofs.Wired.{AllNarrow}
 pub nets-append : (xs ys : List (List Bit)) → AllPortsNets xs → AllPortsNets ys → AllPortsNets (xs ++ ys)
 nets-append [] ys a b = b
 nets-append (x ∷ xs) ys a b = (a.0, nets-append xs ys a.1 b)
-
-pub fit-append : (xs ys : List (List Bit)) (vs ws : List ℕ) → FitPorts xs vs → FitPorts ys ws → FitPorts (xs ++ ys) (vs ++ ws)
-fit-append [] ys [] ws a b = b
-fit-append [] ys (v ∷ vs) ws a b = absurd a
-fit-append (x ∷ xs) ys [] ws a b = absurd a
-fit-append (x ∷ xs) ys (v ∷ vs) ws a b = (a.0, fit-append xs ys vs ws a.1 b)
-
--- the numbers at the ports behind the first
-pub fit-behind : (xs ys : List (List Bit)) (vs : List ℕ) → FitPorts (xs ++ ys) vs → FitPorts ys (drop (length xs) vs)
-fit-behind [] ys vs fit = fit
-fit-behind (x ∷ xs) ys [] fit = absurd fit
-fit-behind (x ∷ xs) ys (v ∷ vs) fit = fit-behind xs ys vs fit.1
 
 pub fit-length : (ports : List (List Bit)) (vs : List ℕ) → FitPorts ports vs → length vs ≡ length ports
 fit-length [] [] fit = refl
@@ -98,7 +86,7 @@ narrow-q : (rs : List Register) → AllRegistersFit rs → AllNarrow (q_bits rs)
 narrow-q [] all = λ i d h. absurd (omega (arith, h))
 narrow-q (r ∷ rs) all = narrow-cons r.q (q_bits rs) (let few = r.start.narrow in let same = all.1 in omega (arith, few, same)) (narrow-q rs all.2)
 
-y-narrow : (ports : List (List Bit)) → AllWide ports → length (output_port ports) ≤ 128
+pub y-narrow : (ports : List (List Bit)) → AllWide ports → length (output_port ports) ≤ 128
 y-narrow [] wide = omega arith
 y-narrow (y ∷ []) wide = wide.1
 y-narrow (a ∷ b ∷ more) wide = y-narrow (b ∷ more) wide.2

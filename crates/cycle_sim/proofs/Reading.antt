@@ -6,7 +6,7 @@ use Rattle.netlist_core.specs.declared.cell.Cell.{Cell}
 use Rattle.netlist_core.specs.declared.port.Port as port
 use Rattle.netlist_core.specs.declared.port.Register.{Register}
 use Rattle.netlist_core.specs.declared.raw.RawNetlist.{RawNetlist}
-use Rattle.netlist_core.specs.Runs.{bits_at, d_bits, input_ports}
+use Rattle.netlist_core.specs.Runs.{bits_at, d_bits, input_ports, output_port}
 use Rattle.netlist_core.specs.Drivers.{times, times_at, cell_readers, readers}
 use Rattle.netlist_core.specs.Checked.{Plan, IsSound, AllWide, AllRegistersFit, AllCellsWide}
 use Rattle.netlist_core.specs.Solutions.{driving}
@@ -14,12 +14,13 @@ use Rattle.cycle_sim.specs.declared.parts.Place.{Place}
 use Rattle.cycle_sim.specs.declared.parts.Wires.{Wires}
 use Rattle.cycle_sim.specs.Parts.{IsWired, AllWired}
 use Rattle.cycle_sim.specs.Places.{place_of, IsAt, ArePortsPlaced}
-use Rattle.cycle_sim.specs.Simulated.{AllCellsWired}
+use Rattle.cycle_sim.specs.declared.parts.Gate.{Gate}
+use Rattle.cycle_sim.specs.Gates.{IsGate, AllGates}
 use Rattle.cycle_sim.proofs.Wired.{AllNarrow, wired-push}
 use Rattle.cycle_sim.proofs.Placed.{times_at-at}
-use Rattle.cycle_sim.proofs.Plans.{read-driven, driven-below, narrow-wide}
+use Rattle.cycle_sim.proofs.Plans.{read-driven, driven-below, narrow-wide, y-narrow}
 use Rattle.cycle_sim.proofs.CellShapes.{inputs-wide}
-use Rattle.cycle_sim.proofs.Computed.{cells-wired-push}
+use Rattle.cycle_sim.proofs.Computed.{gates-push}
 
 pub read-below : (plan : Plan) → IsSound plan → (n : ℕ) → 1 ≤ readers plan.raw n → n < plan.nets
 read-below plan sound n some = driven-below plan sound n (read-driven plan sound n some)
@@ -84,6 +85,9 @@ ports-wide (x ∷ more) (suc i) cell all inside is = ports-wide more i cell all.
 pub inputs-narrow : (plan : Plan) → IsSound plan → (i : ℕ) (cell : Cell) → i < length plan.raw.cells → cell ≡ get_or plan.raw.cells i cell → AllNarrow (input_ports cell.ports)
 inputs-narrow plan sound i cell inside is = narrow-wide (input_ports cell.ports) (inputs-wide cell.ports (ports-wide plan.raw.cells i cell sound.formed.cells inside is))
 
+pub y-few : (plan : Plan) → IsSound plan → (i : ℕ) (cell : Cell) → i < length plan.raw.cells → cell ≡ get_or plan.raw.cells i cell → length (output_port cell.ports) ≤ 128
+y-few plan sound i cell inside is = y-narrow cell.ports (ports-wide plan.raw.cells i cell sound.formed.cells inside is)
+
 -- One more.
 
 pub wired-more : (drivers : List (List Bit)) (old new : List Wires) (ports : List (List Bit)) (i : ℕ) (w : Wires) (bits : List Bit) → AllWired drivers old (take i ports) → new ≡ old ++ w ∷ [] → i < length ports → bits ≡ get_or ports i [] → IsWired drivers w bits → AllWired drivers new (take (i + 1) ports)
@@ -91,7 +95,7 @@ wired-more drivers old new ports i w bits wired grown inside at is =
     let more : take (i + 1) ports ≡ take i ports ++ bits ∷ [] = take_more ports i [] inside ∙ ap (λ (b : List Bit). take i ports ++ b ∷ []) (sym at) in
     subst (λ (l : List Wires). AllWired drivers l (take (i + 1) ports)) (sym grown) (subst (λ (p : List (List Bit)). AllWired drivers (old ++ w ∷ []) p) (sym more) (wired-push drivers old (take i ports) w bits wired is))
 
-pub cells-wired-more : (drivers : List (List Bit)) (old new : List (List Wires)) (cells : List Cell) (i : ℕ) (w : List Wires) (cell : Cell) → AllCellsWired drivers old (take i cells) → new ≡ old ++ w ∷ [] → i < length cells → cell ≡ get_or cells i cell → AllWired drivers w (input_ports cell.ports) → AllCellsWired drivers new (take (i + 1) cells)
-cells-wired-more drivers old new cells i w cell wired grown inside at is =
+pub gates-more : (drivers : List (List Bit)) (old new : List Gate) (cells : List Cell) (i : ℕ) (g : Gate) (cell : Cell) → AllGates drivers old (take i cells) → new ≡ old ++ g ∷ [] → i < length cells → cell ≡ get_or cells i cell → IsGate drivers g cell → AllGates drivers new (take (i + 1) cells)
+gates-more drivers old new cells i g cell are grown inside at is =
     let more : take (i + 1) cells ≡ take i cells ++ cell ∷ [] = take_more cells i cell inside ∙ ap (λ (x : Cell). take i cells ++ x ∷ []) (sym at) in
-    subst (λ (l : List (List Wires)). AllCellsWired drivers l (take (i + 1) cells)) (sym grown) (subst (λ (p : List Cell). AllCellsWired drivers (old ++ w ∷ []) p) (sym more) (cells-wired-push drivers old (take i cells) w cell wired is))
+    subst (λ (l : List Gate). AllGates drivers l (take (i + 1) cells)) (sym grown) (subst (λ (p : List Cell). AllGates drivers (old ++ g ∷ []) p) (sym more) (gates-push drivers old (take i cells) g cell are is))

@@ -1,21 +1,21 @@
 -- What wires read.
-use Rattle.std.proofs.Common.{◌≡◌, ℕ, zero, suc, ◌+◌, ◌*◌, ◌/◌, ◌%◌, ◌<◌, ◌≤◌, Bool, true, false, List, [], ◌∷◌, ◌++◌, length, drop, get_or, refl, sym, ◌∙◌, ap, inl, inr, arith}
+use Rattle.std.proofs.Common.{◌≡◌, ℕ, zero, suc, ◌+◌, ◌*◌, ◌/◌, ◌%◌, ◌^◌, ◌<◌, ◌≤◌, Bool, true, false, List, [], ◌∷◌, ◌++◌, map, length, drop, get_or, refl, sym, ◌∙◌, ap, subst, inl, inr, arith}
 use Rattle.std.specs.List.{All}
 use Rattle.std.proofs.lemmas.Bool.{cases_lt}
-use Rattle.std.proofs.lemmas.List.{length-append, length-take, length-drop, get_or_past}
-use Rattle.mcy_base.specs.declared.word.Word.{Word}
+use Rattle.std.proofs.lemmas.List.{length-append, length-map, length-take, length-drop, get_or_past}
 use Rattle.netlist_core.specs.declared.bit.Bit.{Bit}
 use Rattle.netlist_core.specs.Numbers.{number, low_bits}
 use Rattle.netlist_core.specs.Runs.{Nets, values, plain, ports_seen, port_numbers}
+use Rattle.netlist_core.proofs.Settles.{length-values, number-fits}
 use Rattle.netlist_core.specs.Checked.{AllWide}
-use Rattle.netlist_core.proofs.Settles.{length-values}
-use Rattle.cell_meaning.specs.Words.{word_bits, FitWords, bits_of}
 use Rattle.cycle_sim.specs.declared.parts.Source.{Source}
 use Rattle.cycle_sim.specs.declared.parts.Source.TheVariants.{Constant, Driver}
 use Rattle.cycle_sim.specs.declared.parts.Part.{Part}
+use Rattle.cycle_sim.specs.declared.parts.Reading.{Reading}
+use Rattle.cycle_sim.specs.declared.parts.Reading.TheVariants.{Number, Whole, Single, Several}
 use Rattle.cycle_sim.specs.declared.parts.Wires.{Wires}
-use Rattle.cycle_sim.specs.Parts.{source_bits, part_bits, all_bits, AllWhole, IsWired, AllWired, parts_number, total, IsInside, AllInside, IsReadable, AllReadable, AreWords}
-use Rattle.cycle_sim.proofs.PartNumbers.{parts-number}
+use Rattle.cycle_sim.specs.Parts.{source_bits, part_bits, all_bits, AllWhole, IsReading, IsWired, AllWired, parts_number, total, IsInside, AllInside, IsRead, IsReadable, AllReadable, wires_bits}
+use Rattle.cycle_sim.proofs.PartNumbers.{parts-number, driver-number}
 
 -- the drivers have at most 128 bits each
 abbrev pub AllNarrow : List (List Bit) → Type 0
@@ -44,19 +44,38 @@ all-inside : (drivers : List (List Bit)) (parts : List Part) → AllNarrow drive
 all-inside drivers [] narrow whole = tt
 all-inside drivers (part ∷ more) narrow whole = (whole.0, source-inside drivers part.first part.width narrow whole.0 whole.1, all-inside drivers more narrow whole.2)
 
-pub wired-readable : (drivers : List (List Bit)) (wires : Wires) (bits : List Bit) → AllNarrow drivers → IsWired drivers wires bits → 1 ≤ length bits → length bits ≤ 128 → IsReadable (length drivers) wires
-wired-readable drivers wires bits narrow wired some few = record {
+-- what is read is the number at the parts
+read-by : (drivers : List (List Bit)) (reading : Reading) (parts : List Part) (bits : List Bit) (w : ℕ) (nets : Nets) (table : List ℕ) → port_numbers nets drivers ≡ table → parts_number table parts ≡ number (values nets bits) → w ≡ length bits → 1 ≤ length bits → IsReading drivers reading bits parts → IsRead table reading w parts
+read-by drivers (Number n) parts bits w nets table is same wide some reads =
+    let fits : number (values nets bits) < 2 ^ w = subst (λ (k : ℕ). number (values nets bits) < 2 ^ k) (length-values nets bits ∙ sym wide) (number-fits (values nets bits)) in
+    (same ∙ reads nets, subst (λ (x : ℕ). x < 2 ^ w) (reads nets) fits)
+read-by drivers (Whole d) parts bits w nets table is same wide some reads =
+    let there : number (values nets bits) ≡ get_or table d 0 = ap (λ (b : List Bit). number (values nets b)) (sym reads) ∙ driver-number nets drivers d ∙ ap (λ (t : List ℕ). get_or t d 0) is in
+    let fits : number (values nets bits) < 2 ^ w = subst (λ (k : ℕ). number (values nets bits) < 2 ^ k) (length-values nets bits ∙ sym wide) (number-fits (values nets bits)) in
+    let long : length table ≡ length drivers = ap (λ (l : List ℕ). length l) (sym is) ∙ length-map drivers (λ (b : List Bit). number (values nets b)) in
+    let inside : d < length drivers = elim (cases_lt d (length drivers)) [
+      | inl low ↦ low
+      | inr past ↦ absurd (let none : length (get_or drivers d []) ≡ 0 = ap length (get_or_past drivers d [] past) in let e : length (get_or drivers d []) ≡ length bits = ap (λ (b : List Bit). length b) reads in omega (arith, none, e, some))
+    ] in
+    (omega (arith, inside, long), same ∙ there, subst (λ (x : ℕ). x < 2 ^ w) there fits)
+read-by drivers (Single part) parts bits w nets table is same wide some reads = reads
+read-by drivers Several parts bits w nets table is same wide some reads = tt
+
+pub wired-readable : (nets : Nets) (drivers : List (List Bit)) (table : List ℕ) → port_numbers nets drivers ≡ table → (wires : Wires) (bits : List Bit) → AllNarrow drivers → IsWired drivers wires bits → 1 ≤ length bits → length bits ≤ 128 → IsReadable table wires
+wired-readable nets drivers table is wires bits narrow wired some few = record {
   some = (let w = wired.width in omega (arith, w, some));
   narrow = (let w = wired.width in omega (arith, w, few));
   total = total-length drivers wires.parts wired.whole ∙ ap length wired.bits ∙ sym wired.width;
-  inside = all-inside drivers wires.parts narrow wired.whole;
+  inside = subst (λ (n : ℕ). AllInside n wires.parts) (sym (length-map drivers (λ (b : List Bit). number (values nets b))) ∙ ap (λ (l : List ℕ). length l) is) (all-inside drivers wires.parts narrow wired.whole);
+  read = read-by drivers wires.reading wires.parts bits wires.width nets table is (parts-number nets drivers table wires.parts is wired.whole ∙ ap (λ (b : List Bit). number (values nets b)) wired.bits) wired.width some wired.reading;
 }
 
-pub all-readable : (drivers : List (List Bit)) (wires : List Wires) (ports : List (List Bit)) → AllNarrow drivers → AllWired drivers wires ports → AllWide ports → AllReadable (length drivers) wires
-all-readable drivers [] [] narrow wired wide = tt
-all-readable drivers [] (bits ∷ ports) narrow wired wide = absurd wired
-all-readable drivers (w ∷ more) [] narrow wired wide = absurd wired
-all-readable drivers (w ∷ more) (bits ∷ ports) narrow wired wide = (wired-readable drivers w bits narrow wired.0 wide.0 wide.1, all-readable drivers more ports narrow wired.1 wide.2)
+pub all-readable : (nets : Nets) (drivers : List (List Bit)) (table : List ℕ) → port_numbers nets drivers ≡ table → (wires : List Wires) (ports : List (List Bit)) → AllNarrow drivers → AllWired drivers wires ports → AllWide ports → AllReadable table wires
+all-readable nets drivers table is [] [] narrow wired wide = tt
+all-readable nets drivers table is [] (bits ∷ ports) narrow wired wide = absurd wired
+all-readable nets drivers table is (w ∷ more) [] narrow wired wide = absurd wired
+all-readable nets drivers table is (w ∷ more) (bits ∷ ports) narrow wired wide =
+    (wired-readable nets drivers table is w bits narrow wired.0 wide.0 wide.1, all-readable nets drivers table is more ports narrow wired.1 wide.2)
 
 pub wired-length : (drivers : List (List Bit)) (wires : List Wires) (ports : List (List Bit)) → AllWired drivers wires ports → length wires ≡ length ports
 wired-length drivers [] [] wired = refl
@@ -93,25 +112,21 @@ bits-number (false ∷ more) =
     let half : (0 + 2 * number more) / 2 ≡ number more = omega arith in
     rw (even, half, bits-number more) refl
 
-word-is : (word : Word) (bits : List Bool) → word.width ≡ length bits → word.bits ≡ number bits → word_bits word ≡ bits
-word-is word bits w n = ap (λ (k : ℕ). low_bits k word.bits) w ∙ ap (low_bits (length bits)) n ∙ bits-number bits
+-- the bits at a gate's wires are what its cell sees
+pub wires-seen : (nets : Nets) (table : List ℕ) (drivers : List (List Bit)) (wires : List Wires) (ports : List (List Bit)) (c p : ℕ) → port_numbers nets drivers ≡ table → AllWired drivers wires ports → map (wires_bits table) wires ≡ ports_seen (plain nets) c p ports
+wires-seen nets table drivers [] [] c p is wired = refl
+wires-seen nets table drivers [] (bits ∷ ports) c p is wired = absurd wired
+wires-seen nets table drivers (w ∷ more) [] c p is wired = absurd wired
+wires-seen nets table drivers (w ∷ more) (bits ∷ ports) c p is wired =
+    let wide : w.width ≡ length (values nets bits) = wired.0.width ∙ sym (length-values nets bits) in
+    let same : parts_number table w.parts ≡ number (values nets bits) = wires-number nets drivers table w bits is wired.0 in
+    let here : wires_bits table w ≡ values nets bits = ap (λ (k : ℕ). low_bits k (parts_number table w.parts)) wide ∙ ap (low_bits (length (values nets bits))) same ∙ bits-number (values nets bits) in
+    let others : map (wires_bits table) more ≡ ports_seen (plain nets) c (p + 1) ports = wires-seen nets table drivers more ports c (p + 1) is wired.1 in
+    ap (λ (b : List Bool). b ∷ map (wires_bits table) more) here ∙ ap (λ (l : List (List Bool)). values nets bits ∷ l) others
 
-pub words-fit : (table : List ℕ) (drivers : List (List Bit)) (wires : List Wires) (ports : List (List Bit)) (words : List Word) → AllWired drivers wires ports → AreWords table wires words → FitWords ports words
-words-fit table drivers [] [] words wired are = tt
-words-fit table drivers [] (bits ∷ ports) words wired are = absurd wired
-words-fit table drivers (w ∷ more) [] words wired are = absurd wired
-words-fit table drivers (w ∷ more) (bits ∷ ports) [] wired are = absurd are
-words-fit table drivers (w ∷ more) (bits ∷ ports) (word ∷ rest) wired are = (are.0 ∙ wired.0.width, words-fit table drivers more ports rest wired.1 are.2)
-
--- the words at a cell's wires are what the cell sees
-pub words-seen : (nets : Nets) (table : List ℕ) (drivers : List (List Bit)) (wires : List Wires) (ports : List (List Bit)) (words : List Word) (c p : ℕ) → port_numbers nets drivers ≡ table → AllWired drivers wires ports → AreWords table wires words → bits_of ports words ≡ ports_seen (plain nets) c p ports
-words-seen nets table drivers [] [] words c p is wired are = refl
-words-seen nets table drivers [] (bits ∷ ports) words c p is wired are = absurd wired
-words-seen nets table drivers (w ∷ more) [] words c p is wired are = absurd wired
-words-seen nets table drivers (w ∷ more) (bits ∷ ports) [] c p is wired are = absurd are
-words-seen nets table drivers (w ∷ more) (bits ∷ ports) (word ∷ rest) c p is wired are =
-    let wide : word.width ≡ length (values nets bits) = are.0 ∙ wired.0.width ∙ sym (length-values nets bits) in
-    let same : word.bits ≡ number (values nets bits) = are.1 ∙ wires-number nets drivers table w bits is wired.0 in
-    let here : word_bits word ≡ values nets bits = word-is word (values nets bits) wide same in
-    let more_are : bits_of ports rest ≡ ports_seen (plain nets) c (p + 1) ports = words-seen nets table drivers more ports rest c (p + 1) is wired.1 are.2 in
-    ap (λ (b : List Bool). b ∷ bits_of ports rest) here ∙ ap (λ (l : List (List Bool)). values nets bits ∷ l) more_are
+pub wires-widths : (drivers : List (List Bit)) (wires : List Wires) (ports : List (List Bit)) → AllWired drivers wires ports → map (λ (w : Wires). w.width) wires ≡ map length ports
+wires-widths drivers [] [] wired = refl
+wires-widths drivers [] (bits ∷ ports) wired = absurd wired
+wires-widths drivers (w ∷ more) [] wired = absurd wired
+wires-widths drivers (w ∷ more) (bits ∷ ports) wired =
+    ap (λ (k : ℕ). k ∷ map (λ (x : Wires). x.width) more) wired.0.width ∙ ap (λ (l : List ℕ). length bits ∷ l) (wires-widths drivers more ports wired.1)

@@ -1,3 +1,4 @@
+pub mod Gates
 pub mod Kept
 pub mod Marks
 pub mod Parts

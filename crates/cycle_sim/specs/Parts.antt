@@ -1,11 +1,14 @@
 -- Bits of a port as parts of what drives them. Drivers are lists of bits, counted from 0.
-use Rattle.std.specs.Prelude.{◌≡◌, ℕ, ◌+◌, ◌-◌, ◌*◌, ◌/◌, ◌%◌, ◌^◌, ◌≤◌, ◌<◌, List, [], ◌∷◌, ◌++◌, length, take, drop, replicate, slice_index, slice_index_or, if◌then◌else◌}
-use Rattle.mcy_base.specs.declared.word.Word.{Word}
+use Rattle.std.specs.Prelude.{◌≡◌, ℕ, ◌+◌, ◌-◌, ◌*◌, ◌/◌, ◌%◌, ◌^◌, ◌≤◌, ◌<◌, Bool, List, [], ◌∷◌, ◌++◌, length, take, drop, replicate, slice_index, slice_index_or, if◌then◌else◌}
 use Rattle.netlist_core.specs.declared.bit.Bit.{Bit}
 use Rattle.netlist_core.specs.declared.bit.Bit.TheVariants.{Fixed}
+use Rattle.netlist_core.specs.Numbers.{number, low_bits}
+use Rattle.netlist_core.specs.Runs.{Nets, values}
 use Rattle.cycle_sim.specs.declared.parts.Source.{Source}
 use Rattle.cycle_sim.specs.declared.parts.Source.TheVariants.{Constant, Driver}
 use Rattle.cycle_sim.specs.declared.parts.Part.{Part}
+use Rattle.cycle_sim.specs.declared.parts.Reading.{Reading}
+use Rattle.cycle_sim.specs.declared.parts.Reading.TheVariants.{Number, Whole, Single, Several}
 use Rattle.cycle_sim.specs.declared.parts.Wires.{Wires}
 
 -- so many bits from a source on
@@ -26,11 +29,19 @@ abbrev pub AllWhole : List (List Bit) → List Part → Type 0
 AllWhole drivers [] = Unit {0}
 AllWhole drivers (part ∷ more) = (1 ≤ part.width) × (length (part_bits drivers part) ≡ part.width) × AllWhole drivers more
 
+-- how the number of a port of these bits and parts is read
+abbrev pub IsReading : List (List Bit) → Reading → List Bit → List Part → Type 0
+IsReading drivers (Number n) port parts = (nets : Nets) → number (values nets port) ≡ n
+IsReading drivers (Whole d) port parts = slice_index_or drivers d [] ≡ port
+IsReading drivers (Single part) port parts = parts ≡ part ∷ []
+IsReading drivers Several port parts = Unit {0}
+
 -- the wires have the bits
 pub record IsWired (drivers : List (List Bit)) (wires : Wires) (port : List Bit) : Type 0 where
   pub width : wires.width ≡ length port
   pub bits : all_bits drivers wires.parts ≡ port
   pub whole : AllWhole drivers wires.parts
+  pub reading : IsReading drivers wires.reading port wires.parts
 
 abbrev pub AllWired : List (List Bit) → List Wires → List (List Bit) → Type 0
 AllWired drivers [] [] = Unit {0}
@@ -64,19 +75,25 @@ abbrev pub AllInside : ℕ → List Part → Type 0
 AllInside count [] = Unit {0}
 AllInside count (part ∷ more) = (1 ≤ part.width) × IsInside count part.first × AllInside count more
 
--- wires of 1 to 128 bits that can be read from a table of so many numbers
-pub record IsReadable (count : ℕ) (wires : Wires) : Type 0 where
+-- what is read there is the number at the parts
+abbrev pub IsRead : List ℕ → Reading → ℕ → List Part → Type 0
+IsRead table (Number n) w parts = (parts_number table parts ≡ n) × (n < 2 ^ w)
+IsRead table (Whole d) w parts = (d < length table) × (parts_number table parts ≡ slice_index table d) × (slice_index table d < 2 ^ w)
+IsRead table (Single part) w parts = parts ≡ part ∷ []
+IsRead table Several w parts = Unit {0}
+
+-- wires of 1 to 128 bits that can be read from a table
+pub record IsReadable (table : List ℕ) (wires : Wires) : Type 0 where
   pub some : 1 ≤ wires.width
   pub narrow : wires.width ≤ 128
   pub total : total wires.parts ≡ wires.width
-  pub inside : AllInside count wires.parts
+  pub inside : AllInside (length table) wires.parts
+  pub read : IsRead table wires.reading wires.width wires.parts
 
-abbrev pub AllReadable : ℕ → List Wires → Type 0
-AllReadable count [] = Unit {0}
-AllReadable count (wires ∷ more) = IsReadable count wires × AllReadable count more
+abbrev pub AllReadable : List ℕ → List Wires → Type 0
+AllReadable table [] = Unit {0}
+AllReadable table (wires ∷ more) = IsReadable table wires × AllReadable table more
 
--- the words at wires; words past them play no part
-abbrev pub AreWords : List ℕ → List Wires → List Word → Type 0
-AreWords table [] words = Unit {0}
-AreWords table (wires ∷ more) [] = ⊥
-AreWords table (wires ∷ more) (word ∷ rest) = (word.width ≡ wires.width) × (word.bits ≡ parts_number table wires.parts) × AreWords table more rest
+-- the bits that are read at wires
+abbrev pub wires_bits : List ℕ → Wires → List Bool
+wires_bits table wires = low_bits wires.width (parts_number table wires.parts)

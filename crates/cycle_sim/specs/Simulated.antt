@@ -2,14 +2,11 @@
 use Rattle.std.specs.Prelude.{◌≡◌, ℕ, List, [], ◌∷◌, map, length}
 use Rattle.mcy_base.specs.declared.word.Word.{Word}
 use Rattle.netlist_core.specs.declared.bit.Bit.{Bit}
-use Rattle.netlist_core.specs.declared.cell.Cell.{Cell}
 use Rattle.netlist_core.specs.declared.raw.RawNetlist.{RawNetlist}
-use Rattle.netlist_core.specs.Runs.{Nets, input_ports}
+use Rattle.netlist_core.specs.Runs.{Nets}
 use Rattle.netlist_core.specs.Settled.{laid_all, all_zero}
 use Rattle.netlist_core.specs.Solutions.{driving}
 use Rattle.netlist_core.specs.Checked.{Plan}
-use Rattle.cycle_sim.specs.declared.parts.Wires.{Wires}
-use Rattle.cycle_sim.specs.Parts.{AllWired}
 
 -- A netlist, the numbers at inputs, Q's and Y's, in this order, as they were last settled, and the registers' values now.
 pub record Simulated : Type 0 where
@@ -38,9 +35,3 @@ numbers_of words = map (λ w. w.bits) words
 -- the start values
 abbrev pub starts_of : RawNetlist → List ℕ
 starts_of netlist = map (λ r. r.start.bits) netlist.registers
-
--- the wires of each cell's input ports
-abbrev pub AllCellsWired : List (List Bit) → List (List Wires) → List Cell → Type 0
-AllCellsWired drivers [] [] = Unit {0}
-AllCellsWired drivers (wires ∷ more) (cell ∷ cells) = AllWired drivers wires (input_ports cell.ports) × AllCellsWired drivers more cells
-AllCellsWired drivers wires cells = ⊥

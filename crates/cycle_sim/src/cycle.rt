@@ -1,30 +1,48 @@
 //! The numbers of a cycle: the cells that are marked are computed in the order of the netlist, and what changes marks its readers, which are further on.
-ghost use Rattle.std.specs.Prelude.{◌≡◌, ℕ, ◌<◌, ◌*◌, ◌%◌, ◌^◌, [], length, slice_get, slice_index_or, Some};
+ghost use Rattle.std.specs.Prelude.{◌≡◌, ℕ, ◌<◌, ◌*◌, ◌%◌, ◌^◌, [], length, slice_index_or};
 ghost use Rattle.std.specs.List.{All};
-ghost use Rattle.netlist_core.specs.declared.cell.Cell.{Cell as Gate};
-ghost use Rattle.netlist_core.specs.Runs.{plain, input_ports, output_port};
-ghost use Rattle.netlist_core.specs.Orders.{ports_of};
-ghost use Rattle.netlist_core.specs.Settled.{number_at};
-ghost use Rattle.netlist_core.specs.Solutions.{FitPorts, driving};
-ghost use Rattle.cycle_sim.specs.Parts.{AllWired};
-ghost use Rattle.cycle_sim.specs.Simulated.{nets_of, AllCellsWired};
+ghost use Rattle.netlist_core.specs.Solutions.{driving};
+ghost use Rattle.cycle_sim.specs.Gates.{AllGates, IsComputable, gate_number};
 ghost use Rattle.cycle_sim.specs.Marks.{mark_at, front, AreReaders, AreHeld, IsPut, IsComputed};
 
 use crate::marks::{mark_all, next_marked, unmark};
-use crate::parts::{Wires, words_at};
-use cell_meaning::cell_value;
+use crate::parts::{Gate, word_at};
+use cell_meaning::{number_of_one, number_of_three, number_of_two};
 use mcy_base::Items;
 use netlist_core::Netlist;
 
-/// The number at a cell's Y, from the wires of its input ports.
-fn compute(netlist: &Netlist, cell: u32, ports: &[Wires], table: &[u128]) -> u128
-    requires cell { cell < length netlist.now.raw.cells }
-    requires wired { AllWired (driving netlist.now.raw) ports.now (input_ports (ports_of (slice_get netlist.now.raw.cells cell))) }
-    requires numbers { FitPorts (driving netlist.now.raw) table.now }
-    ensures { (g : Gate) → slice_get netlist.now.raw.cells cell ≡ Some g → result ≡ number_at (plain (nets_of netlist.now.raw table.now)) cell g % 2 ^ length (output_port g.ports) }
+/// The number of a gate: its low bits are the value at Y.
+fn whole_number(gate: &Gate, table: &[u128]) -> u128
+    requires { IsComputable table.now gate.now }
+    ensures { result % 2 ^ gate.now.width ≡ gate_number table.now gate.now }
 {
-    let cells = netlist.raw().cells.as_slice();
-    cell_value(&cells[cell as usize], words_at(table, ports)).bits()
+    match gate.ports.as_slice() {
+        [only] => number_of_one(gate.kind, gate.is_signed, gate.width, word_at(table, only)),
+        [left, right] => number_of_two(
+            gate.kind,
+            gate.is_signed,
+            gate.width,
+            word_at(table, left),
+            word_at(table, right),
+        ),
+        [a, b, d] => number_of_three(
+            gate.kind,
+            gate.is_signed,
+            gate.width,
+            word_at(table, a),
+            word_at(table, b),
+            word_at(table, d),
+        ),
+        _ => 0,
+    }
+}
+
+/// The number at a gate's Y.
+fn compute(gate: &Gate, table: &[u128]) -> u128
+    requires { IsComputable table.now gate.now }
+    ensures { result ≡ gate_number table.now gate.now }
+{
+    whole_number(gate, table) & (u128::MAX >> (128 - gate.width))
 }
 
 /// Gives a driver a number, and marks the cells that read it where it had another one.
@@ -50,14 +68,14 @@ pub(crate) fn put(
 /// Computes the cell at a place of the order, and takes its mark.
 fn settle_cell(
     netlist: &Netlist,
-    wires: &[Items<Wires>],
+    gates: &[Gate],
     readers: &[Items<usize>],
     table: &mut Vec<u128>,
     marks: &mut Vec<u64>,
     place: usize,
 )
     requires inside { place < length netlist.now.order }
-    requires wired { AllCellsWired (driving netlist.now.raw) wires.now netlist.now.raw.cells }
+    requires gates { AllGates (driving netlist.now.raw) gates.now netlist.now.raw.cells }
     requires readers { AreReaders netlist.now readers.now }
     requires held { AreHeld netlist.now table.old.items marks.old.items }
     ensures held { AreHeld netlist.now table.new.items marks.new.items }
@@ -68,12 +86,7 @@ fn settle_cell(
     let raw = netlist.raw();
     let first = raw.inputs.as_slice().len() + raw.registers.as_slice().len();
     let cell = netlist.order()[place];
-    let number = compute(
-        netlist,
-        cell,
-        wires[cell as usize].as_slice(),
-        table.as_slice(),
-    );
+    let number = compute(&gates[cell as usize], table.as_slice());
     unmark(marks, place);
     put(readers, table, marks, first + cell as usize, number);
 }
@@ -81,12 +94,12 @@ fn settle_cell(
 /// Computes the cells that are marked, and those that read what changes.
 pub(crate) fn settle_cells(
     netlist: &Netlist,
-    wires: &[Items<Wires>],
+    gates: &[Gate],
     readers: &[Items<usize>],
     table: &mut Vec<u128>,
     marks: &mut Vec<u64>,
 )
-    requires wired { AllCellsWired (driving netlist.now.raw) wires.now netlist.now.raw.cells }
+    requires gates { AllGates (driving netlist.now.raw) gates.now netlist.now.raw.cells }
     requires readers { AreReaders netlist.now readers.now }
     requires held { AreHeld netlist.now table.old.items marks.old.items }
     ensures held { AreHeld netlist.now table.new.items marks.new.items }
@@ -96,7 +109,7 @@ pub(crate) fn settle_cells(
     let count = netlist.order().len();
     let mut place = next_marked(marks.as_slice(), 0);
     while place < count {
-        settle_cell(netlist, wires, readers, table, marks, place);
+        settle_cell(netlist, gates, readers, table, marks, place);
         place = next_marked(marks.as_slice(), place + 1);
     }
 }

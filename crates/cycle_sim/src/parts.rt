@@ -3,10 +3,11 @@
 //! The drivers of a netlist are its inputs, its registers' Q and its cells' Y, counted from 0 in this order. A table has
 //! one number for each. A part is some consecutive bits of one driver, or a constant some times over; the parts of a
 //! port stand side by side from its bit 0 on, so a port that reads a whole driver has one.
-ghost use Rattle.std.specs.Prelude.{◌≡◌, ℕ, ◌≤◌, ◌<◌, ◌^◌, length};
-ghost use Rattle.cycle_sim.specs.Parts.{part_number, parts_number, total, IsInside, AllInside, IsReadable, AllReadable, AreWords};
+ghost use Rattle.std.specs.Prelude.{◌≡◌, ◌≤◌, ◌<◌, ◌^◌, length};
+ghost use Rattle.cycle_sim.specs.Parts.{part_number, parts_number, total, IsInside, AllInside, IsReadable};
 
 use mcy_base::{Items, Word};
+use netlist_core::CellKind;
 
 /// Where a bit is driven: a driver, and the number of the bit there.
 #[derive(Clone, Copy)]
@@ -31,11 +32,34 @@ pub(crate) struct Part {
     pub(crate) width: u8,
 }
 
+/// How the number at parts is read.
+#[derive(Clone, Copy)]
+pub(crate) enum Reading {
+    /// It is this one, whatever the table has.
+    Number(u128),
+    /// It is that of a driver.
+    Whole(u32),
+    /// There is one part.
+    Single(Part),
+    /// Part by part.
+    Several,
+}
+
 /// The bits of a port: how many, and their parts from bit 0 on.
 #[derive(Drop)]
 pub(crate) struct Wires {
     pub(crate) width: u8,
+    pub(crate) reading: Reading,
     pub(crate) parts: Items<Part>,
+}
+
+/// A cell as it is computed: the width of its Y, and the wires of its input ports.
+#[derive(Drop)]
+pub(crate) struct Gate {
+    pub(crate) kind: CellKind,
+    pub(crate) is_signed: bool,
+    pub(crate) width: u8,
+    pub(crate) ports: Items<Wires>,
 }
 
 /// The number at a part.
@@ -81,38 +105,25 @@ pub(crate) fn word_of(width: u8, number: u128) -> Word
     Word::new(width, number).unwrap()
 }
 
+/// The number at wires.
+pub(crate) fn wires_number(table: &[u128], wires: &Wires) -> u128
+    requires { IsReadable table.now wires.now }
+    ensures value { result ≡ parts_number table.now wires.now.parts }
+    ensures fits { result < 2 ^ wires.now.width }
+{
+    match wires.reading {
+        Reading::Number(number) => number,
+        Reading::Whole(driver) => table[driver as usize],
+        Reading::Single(part) => number_at(table, part),
+        Reading::Several => number_of(table, wires.parts.as_slice()),
+    }
+}
+
 /// The word at wires.
 pub(crate) fn word_at(table: &[u128], wires: &Wires) -> Word
-    requires { IsReadable (length table.now) wires.now }
+    requires { IsReadable table.now wires.now }
     ensures width { result.width ≡ wires.now.width }
     ensures bits { result.bits ≡ parts_number table.now wires.now.parts }
 {
-    word_of(wires.width, number_of(table, wires.parts.as_slice()))
-}
-
-/// The words at the input ports of a cell. Where there are fewer than three, the last one stands for the others.
-pub(crate) fn words_at(table: &[u128], ports: &[Wires]) -> [Word; 3]
-    requires some { 1 ≤ length ports.now }
-    requires few { length ports.now ≤ 3 }
-    requires readable { AllReadable (length table.now) ports.now }
-    ensures { AreWords table.now ports.now result }
-{
-    match ports {
-        [a] => {
-            let a = word_at(table, a);
-            [a, a, a]
-        }
-        [a, b] => {
-            let a = word_at(table, a);
-            let b = word_at(table, b);
-            [a, b, b]
-        }
-        [a, b, d] => {
-            let a = word_at(table, a);
-            let b = word_at(table, b);
-            let d = word_at(table, d);
-            [a, b, d]
-        }
-        _ => [Word::new(1, 0).unwrap(); 3],
-    }
+    word_of(wires.width, wires_number(table, wires))
 }

@@ -1,6 +1,5 @@
 //! Where each net is driven.
-ghost use Rattle.std.specs.Prelude.{◌≡◌, ◌≤◌, ◌<◌, ◌+◌, ◌^◌, [], IfOk, length, slice_index_or};
-ghost use Rattle.std.specs.List.{All};
+ghost use Rattle.std.specs.Prelude.{◌≡◌, ◌≤◌, ◌<◌, ◌+◌, ◌^◌, [], IfOk, map, length, slice_index_or};
 ghost use Rattle.netlist_core.specs.Runs.{output_port};
 ghost use Rattle.netlist_core.specs.Solutions.{driving};
 ghost use Rattle.cycle_sim.specs.Places.{AreBelow, AreMarked, ArePortsPlaced};
@@ -10,7 +9,7 @@ use netlist_core::{Bit, BitList, Netlist, RawNetlist};
 use std::alloc::{AllocError, Global};
 
 /// The bits of Y, the last port.
-fn output(ports: &[BitList]) -> &[Bit]
+pub(crate) fn output(ports: &[BitList]) -> &[Bit]
     ensures { result.now ≡ output_port ports.now }
 {
     match ports {
@@ -21,7 +20,7 @@ fn output(ports: &[BitList]) -> &[Bit]
 }
 
 /// The bits of a driver: inputs, registers' Q and cells' Y, counted in this order.
-fn driver_bits(raw: &RawNetlist, driver: usize) -> &[Bit]
+pub(crate) fn driver_bits(raw: &RawNetlist, driver: usize) -> &[Bit]
     ensures { result.now ≡ slice_index_or (driving raw.now) driver [] }
 {
     let inputs = raw.inputs.as_slice();
@@ -81,4 +80,16 @@ pub(crate) fn places_of(alloc: Global, netlist: &Netlist) -> Result<Vec<Place>, 
         mark(&mut places, driver as u32, driver_bits(raw, driver));
     }
     Ok(places)
+}
+
+/// The width of each driver.
+pub(crate) fn widths_of(alloc: Global, netlist: &Netlist) -> Result<Vec<u8>, AllocError>
+    ensures { IfOk result (λ w. w.items ≡ map length (driving netlist.now.raw)) }
+{
+    let raw = netlist.raw();
+    let mut widths = Vec::new(alloc);
+    for driver in 0..driver_count(netlist) {
+        widths.push(driver_bits(raw, driver).len() as u8)?;
+    }
+    Ok(widths)
 }

@@ -2,7 +2,7 @@
 //!
 //! `table` has the numbers at inputs, registers' Q and cells' Y, in this order, as they were last settled, and
 //! `registers` those that the registers hold now. They part at a clock: the registers take their D, and the table stays
-//! as it is until the nets settle again. `cells`, `next` and `outputs` say where each reader finds its bits in the table:
+//! as it is until the nets settle again. `gates`, `next` and `outputs` say where each reader finds its bits in the table:
 //! the input ports of each cell, each register's D, and each output. `readers` has for each driver the cells that read it, and
 //! `marks` tells which cells are to be computed: each other one has its number. All memory is taken by `new`.
 ghost use Rattle.std.specs.Prelude.{◌≡◌, ℕ, ◌≤◌, ◌<◌, ◌↔◌, IsTrue, IfOk, Some, map, take, length, slice_index, slice_get};
@@ -14,7 +14,7 @@ ghost use Rattle.netlist_core.specs.Drivers.{drivers};
 ghost use Rattle.cycle_sim.specs.Simulated.{HaveWidths, numbers_of, starts_of, settled_nets};
 
 use crate::cycle::settle_cells;
-use crate::parts::{Wires, word_at, word_of};
+use crate::parts::{Gate, Wires, word_at, word_of};
 use crate::state::{
     first_numbers, have_widths, lay_named, lay_registers, lay_words, load_words, take_all,
 };
@@ -28,7 +28,7 @@ use std::marker::Model;
 #[derive(Drop)]
 pub struct Sim {
     netlist: Netlist,
-    cells: Vec<Items<Wires>>,
+    gates: Vec<Gate>,
     next: Vec<Wires>,
     outputs: Vec<Wires>,
     readers: Vec<Items<usize>>,
@@ -45,7 +45,7 @@ impl Model for Sim {
 
     ghost view = { λ s. record { plan = s.netlist; table = s.table.items; registers = s.registers.items } };
 
-    ghost invariant = { λ s. IsSimulated s.netlist s.cells.items s.next.items s.outputs.items s.readers.items s.table.items s.registers.items s.marks.items };
+    ghost invariant = { λ s. IsSimulated s.netlist s.gates.items s.next.items s.outputs.items s.readers.items s.table.items s.registers.items s.marks.items };
 }
 
 impl Sim {
@@ -58,7 +58,7 @@ impl Sim {
         let numbers = first_numbers(alloc, &netlist)?;
         Ok(Sim {
             netlist,
-            cells: wiring.cells,
+            gates: wiring.gates,
             next: wiring.next,
             outputs: wiring.outputs,
             readers: wiring.readers,
@@ -137,7 +137,7 @@ impl Sim {
         );
         settle_cells(
             &self.netlist,
-            self.cells.as_slice(),
+            self.gates.as_slice(),
             self.readers.as_slice(),
             &mut self.table,
             &mut self.marks,

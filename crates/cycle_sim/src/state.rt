@@ -8,7 +8,7 @@ ghost use Rattle.cycle_sim.specs.Simulated.{nets_of, numbers_of, starts_of, Have
 ghost use Rattle.cycle_sim.specs.Marks.{AreReaders, AreHeld, IsCurrent};
 
 use crate::cycle::put;
-use crate::parts::{Wires, word_at};
+use crate::parts::{Wires, wires_number};
 use crate::places::driver_count;
 use mcy_base::{Items, Word};
 use netlist_core::{Netlist, Port};
@@ -178,6 +178,6 @@ pub(crate) fn take_all(registers: &mut Vec<u128>, table: &[u128], next: &[Wires]
 {
     let count = netlist.raw().registers.as_slice().len();
     for i in 0..count {
-        registers[i] = word_at(table, &next[i]).bits();
+        registers[i] = wires_number(table, &next[i]);
     }
 }

@@ -1,16 +1,17 @@
 //! Which parts each reader reads.
-ghost use Rattle.std.specs.Prelude.{◌≡◌, ◌≤◌, ◌<◌, ◌+◌, ◌++◌, ◌∷◌, [], List, IfOk, OnOk, IsTrue, length};
+ghost use Rattle.std.specs.Prelude.{◌≡◌, ◌≤◌, ◌<◌, ◌+◌, ◌++◌, ◌∷◌, ◌^◌, [], List, IfOk, IfSome, OnOk, IsTrue, map, length};
 ghost use Rattle.std.specs.List.{All};
 ghost use Rattle.netlist_core.specs.declared.bit.Bit.{Bit as Wire};
-ghost use Rattle.netlist_core.specs.Runs.{bits_at, d_bits, input_ports};
+ghost use Rattle.netlist_core.specs.Numbers.{number};
+ghost use Rattle.netlist_core.specs.Runs.{Nets as Values, values, bits_at, d_bits, input_ports};
 ghost use Rattle.netlist_core.specs.Solutions.{driving};
-ghost use Rattle.cycle_sim.specs.Parts.{source_bits, part_bits, all_bits, AllWhole, IsWired, AllWired};
+ghost use Rattle.cycle_sim.specs.Parts.{source_bits, part_bits, all_bits, AllWhole, IsReading, IsWired, AllWired};
 ghost use Rattle.cycle_sim.specs.Places.{ArePlaced, ArePortsPlaced, AreBelow, ArePortsBelow};
-ghost use Rattle.cycle_sim.specs.Simulated.{AllCellsWired};
+ghost use Rattle.cycle_sim.specs.Gates.{AllGates};
 ghost use Rattle.cycle_sim.specs.Marks.{AreReaders};
 
-use crate::parts::{Part, Place, Source, Wires};
-use crate::places::places_of;
+use crate::parts::{Gate, Part, Place, Reading, Source, Wires};
+use crate::places::{output, places_of, widths_of};
 use crate::readers::readers_of;
 use mcy_base::Items;
 use netlist_core::{Bit, BitList, Netlist};
@@ -71,11 +72,69 @@ fn source_of(places: &[Place], bit: Bit) -> Source
     }
 }
 
+/// The number of bits that are all constants.
+fn fixed_number(bits: &[Bit]) -> Option<u128>
+    requires { length bits.now ≤ 128 }
+    ensures value { IfSome result (λ n. (nets : Values) → number (values nets bits.now) ≡ n) }
+    ensures fits { IfSome result (λ n. n < 2 ^ length bits.now) }
+{
+    match bits {
+        [] => Some(0),
+        [first, rest @ ..] => match *first {
+            Bit::Net(_) => None,
+            Bit::Fixed(bit) => {
+                let above = fixed_number(rest)?;
+                if bit {
+                    Some(2 * above + 1)
+                } else {
+                    Some(2 * above)
+                }
+            }
+        },
+    }
+}
+
+/// How the number at one part is read, where drivers have these widths.
+fn single(widths: &[u8], part: Part) -> Reading
+    ensures { (drivers : List (List Wire)) → map length drivers ≡ widths.now → IsReading drivers result (part_bits drivers part) (part ∷ []) }
+{
+    match part.first {
+        Source::Constant(_) => Reading::Single(part),
+        Source::Driver(place) => {
+            let driver = place.driver as usize;
+            if place.bit == 0 && driver < widths.len() && widths[driver] == part.width {
+                Reading::Whole(place.driver)
+            } else {
+                Reading::Single(part)
+            }
+        }
+    }
+}
+
+/// How the number at parts is read, where drivers have these widths.
+fn reading_of(widths: &[u8], bits: &[Bit], parts: &[Part]) -> Reading
+    requires { length bits.now ≤ 128 }
+    ensures { (drivers : List (List Wire)) → map length drivers ≡ widths.now → all_bits drivers parts.now ≡ bits.now → AllWhole drivers parts.now → IsReading drivers result bits.now parts.now }
+{
+    if let Some(number) = fixed_number(bits) {
+        return Reading::Number(number);
+    }
+    match parts {
+        [only] => single(widths, *only),
+        _ => Reading::Several,
+    }
+}
+
 /// The wires of bits.
-fn wires_of(alloc: Global, places: &[Place], bits: &[Bit]) -> Result<Wires, AllocError>
+fn wires_of(
+    alloc: Global,
+    places: &[Place],
+    widths: &[u8],
+    bits: &[Bit],
+) -> Result<Wires, AllocError>
     requires below { AreBelow (length places.now) bits.now }
     requires narrow { length bits.now ≤ 128 }
-    ensures { (drivers : List (List Wire)) → ArePlaced drivers places.now bits.now → IfOk result (λ w. IsWired drivers w bits.now) }
+    ensures { (drivers : List (List Wire)) → ArePlaced drivers places.now bits.now → map length drivers ≡ widths.now → IfOk result (λ w. IsWired drivers w bits.now) }
 {
     let mut parts = Vec::new(alloc);
     for bit in bits {
@@ -83,19 +142,25 @@ fn wires_of(alloc: Global, places: &[Place], bits: &[Bit]) -> Result<Wires, Allo
     }
     Ok(Wires {
         width: bits.len() as u8,
+        reading: reading_of(widths, bits, parts.as_slice()),
         parts: Items::from_vec(parts),
     })
 }
 
 /// The wires of ports.
-fn wires_at(alloc: Global, places: &[Place], ports: &[BitList]) -> Result<Items<Wires>, AllocError>
+fn wires_at(
+    alloc: Global,
+    places: &[Place],
+    widths: &[u8],
+    ports: &[BitList],
+) -> Result<Items<Wires>, AllocError>
     requires below { ArePortsBelow (length places.now) ports.now }
     requires narrow { All (λ bits. length bits ≤ 128) ports.now }
-    ensures { (drivers : List (List Wire)) → ArePortsPlaced drivers places.now ports.now → IfOk result (λ w. AllWired drivers w ports.now) }
+    ensures { (drivers : List (List Wire)) → ArePortsPlaced drivers places.now ports.now → map length drivers ≡ widths.now → IfOk result (λ w. AllWired drivers w ports.now) }
 {
     let mut wires = Vec::new(alloc);
     for port in ports {
-        wires.push(wires_of(alloc, places, port.as_slice())?)?;
+        wires.push(wires_of(alloc, places, widths, port.as_slice())?)?;
     }
     Ok(Items::from_vec(wires))
 }
@@ -107,32 +172,45 @@ pub(crate) fn inputs(ports: &[BitList]) -> &[BitList]
     &ports[..ports.len().saturating_sub(1)]
 }
 
-/// For each cell the wires of its input ports.
-fn cell_wires(
+/// The gate of each cell.
+fn gates(
     alloc: Global,
     places: &[Place],
+    widths: &[u8],
     netlist: &Netlist,
-) -> Result<Vec<Items<Wires>>, AllocError>
+) -> Result<Vec<Gate>, AllocError>
     requires long { length places.now ≡ netlist.now.nets }
     requires placed { ArePortsPlaced (driving netlist.now.raw) places.now (driving netlist.now.raw) }
-    ensures { IfOk result (λ w. AllCellsWired (driving netlist.now.raw) w.items netlist.now.raw.cells) }
+    requires widths { widths.now ≡ map length (driving netlist.now.raw) }
+    ensures { IfOk result (λ g. AllGates (driving netlist.now.raw) g.items netlist.now.raw.cells) }
 {
-    let mut wires = Vec::new(alloc);
+    let mut gates = Vec::new(alloc);
     for cell in netlist.raw().cells.as_slice() {
-        wires.push(wires_at(alloc, places, inputs(cell.ports.as_slice()))?)?;
+        gates.push(Gate {
+            kind: cell.kind,
+            is_signed: cell.is_signed,
+            width: output(cell.ports.as_slice()).len() as u8,
+            ports: wires_at(alloc, places, widths, inputs(cell.ports.as_slice()))?,
+        })?;
     }
-    Ok(wires)
+    Ok(gates)
 }
 
 /// For each register the wires of its D.
-fn next_wires(alloc: Global, places: &[Place], netlist: &Netlist) -> Result<Vec<Wires>, AllocError>
+fn next_wires(
+    alloc: Global,
+    places: &[Place],
+    widths: &[u8],
+    netlist: &Netlist,
+) -> Result<Vec<Wires>, AllocError>
     requires long { length places.now ≡ netlist.now.nets }
     requires placed { ArePortsPlaced (driving netlist.now.raw) places.now (driving netlist.now.raw) }
+    requires widths { widths.now ≡ map length (driving netlist.now.raw) }
     ensures { IfOk result (λ w. AllWired (driving netlist.now.raw) w.items (d_bits netlist.now.raw.registers)) }
 {
     let mut wires = Vec::new(alloc);
     for register in netlist.raw().registers.as_slice() {
-        wires.push(wires_of(alloc, places, register.d.as_slice())?)?;
+        wires.push(wires_of(alloc, places, widths, register.d.as_slice())?)?;
     }
     Ok(wires)
 }
@@ -141,15 +219,17 @@ fn next_wires(alloc: Global, places: &[Place], netlist: &Netlist) -> Result<Vec<
 fn output_wires(
     alloc: Global,
     places: &[Place],
+    widths: &[u8],
     netlist: &Netlist,
 ) -> Result<Vec<Wires>, AllocError>
     requires long { length places.now ≡ netlist.now.nets }
     requires placed { ArePortsPlaced (driving netlist.now.raw) places.now (driving netlist.now.raw) }
+    requires widths { widths.now ≡ map length (driving netlist.now.raw) }
     ensures { IfOk result (λ w. AllWired (driving netlist.now.raw) w.items (bits_at netlist.now.raw.outputs)) }
 {
     let mut wires = Vec::new(alloc);
     for port in netlist.raw().outputs.as_slice() {
-        wires.push(wires_of(alloc, places, port.bits.as_slice())?)?;
+        wires.push(wires_of(alloc, places, widths, port.bits.as_slice())?)?;
     }
     Ok(wires)
 }
@@ -157,7 +237,7 @@ fn output_wires(
 /// Where each reader finds its bits, and which cells read each driver.
 #[derive(Drop)]
 pub(crate) struct Wiring {
-    pub(crate) cells: Vec<Items<Wires>>,
+    pub(crate) gates: Vec<Gate>,
     pub(crate) next: Vec<Wires>,
     pub(crate) outputs: Vec<Wires>,
     pub(crate) readers: Vec<Items<usize>>,
@@ -165,18 +245,19 @@ pub(crate) struct Wiring {
 
 /// The wiring of a netlist.
 pub(crate) fn wiring_of(alloc: Global, netlist: &Netlist) -> Result<Wiring, AllocError>
-    ensures cells { IfOk result (λ w. AllCellsWired (driving netlist.now.raw) w.cells.items netlist.now.raw.cells) }
+    ensures gates { IfOk result (λ w. AllGates (driving netlist.now.raw) w.gates.items netlist.now.raw.cells) }
     ensures next { IfOk result (λ w. AllWired (driving netlist.now.raw) w.next.items (d_bits netlist.now.raw.registers)) }
     ensures outputs { IfOk result (λ w. AllWired (driving netlist.now.raw) w.outputs.items (bits_at netlist.now.raw.outputs)) }
     ensures readers { IfOk result (λ w. AreReaders netlist.now w.readers.items) }
 {
     let places = places_of(alloc, netlist)?;
-    let cells = cell_wires(alloc, places.as_slice(), netlist)?;
-    let next = next_wires(alloc, places.as_slice(), netlist)?;
-    let outputs = output_wires(alloc, places.as_slice(), netlist)?;
+    let widths = widths_of(alloc, netlist)?;
+    let gates = gates(alloc, places.as_slice(), widths.as_slice(), netlist)?;
+    let next = next_wires(alloc, places.as_slice(), widths.as_slice(), netlist)?;
+    let outputs = output_wires(alloc, places.as_slice(), widths.as_slice(), netlist)?;
     let readers = readers_of(alloc, places.as_slice(), netlist)?;
     Ok(Wiring {
-        cells,
+        gates,
         next,
         outputs,
         readers,

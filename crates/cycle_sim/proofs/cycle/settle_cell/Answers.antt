@@ -1,12 +1,15 @@
-use Rattle.std.proofs.Common.{◌≡◌, ℕ, ◌+◌, ◌*◌, ◌<◌, List, length, get_or, slice_get, sym, ◌∙◌, ap, subst, arith}
+use Rattle.std.proofs.Common.{◌≡◌, ℕ, ◌+◌, ◌*◌, ◌%◌, ◌^◌, ◌<◌, List, length, get_or, slice_get, Some, sym, ◌∙◌, ap, subst, arith}
+use Rattle.netlist_core.specs.declared.cell.Cell.{Cell}
 use Rattle.netlist_core.specs.declared.raw.RawNetlist.{RawNetlist}
-use Rattle.netlist_core.specs.Runs.{input_ports}
-use Rattle.netlist_core.specs.Orders.{ports_of}
+use Rattle.netlist_core.specs.Runs.{plain, output_port}
+use Rattle.netlist_core.specs.Settled.{number_at}
 use Rattle.netlist_core.specs.Checked.{Plan, IsSound}
 use Rattle.netlist_core.specs.Solutions.{FitPorts, driving}
-use Rattle.cycle_sim.specs.declared.parts.Wires.{Wires}
-use Rattle.cycle_sim.specs.Parts.{AllWired}
-use Rattle.cycle_sim.proofs.Computed.{place, place-inside, cells-wired-length, cells-wired-at}
+use Rattle.cycle_sim.specs.declared.parts.Gate.{Gate}
+use Rattle.cycle_sim.specs.Gates.{IsGateOf, AllGates, gate_number}
+use Rattle.cycle_sim.specs.Simulated.{nets_of}
+use Rattle.cycle_sim.proofs.Computed.{place, place-inside, gates-length, gates-at}
+use Rattle.cycle_sim.proofs.Gates.{gate-computable, gate-computes}
 use Rattle.cycle_sim.proofs.Plans.{fit-length}
 use Rattle.cycle_sim.proofs.Current.{IsSettled, cell-inside, readers-room, cell-settled}
 use Rattle.cycle_sim.proofs.cycle.settle_cell.Goals as goal
@@ -20,25 +23,26 @@ first-is raw read a b k same is_a is_b =
 cell-below : (plan : Plan) → IsSound plan → (read : List ℕ) (p : ℕ) → read ≡ plan.order → p < length plan.order → get_or read p 0 < length plan.raw.cells
 cell-below plan sound read p same inside = subst (λ (l : List ℕ). get_or l p 0 < length plan.raw.cells) (sym same) (cell-inside plan sound p inside)
 
-pub bounds-wires-cell : goal.bounds-wires-cell
-bounds-wires-cell c =
+gate-there : (plan : Plan) (gates : List Gate) (n : ℕ) (gate : Gate) → AllGates (driving plan.raw) gates plan.raw.cells → n < length plan.raw.cells → gate ≡ get_or gates n gate → IsGateOf (driving plan.raw) gate (slice_get plan.raw.cells n)
+gate-there plan gates n gate are inside is = subst (λ (g : Gate). IsGateOf (driving plan.raw) g (slice_get plan.raw.cells n)) (sym is) (gates-at (driving plan.raw) gates plan.raw.cells n gate are inside)
+
+computes : (plan : Plan) → IsSound plan → (gates : List Gate) (read table : List ℕ) (n : ℕ) (gate : Gate) (v : ℕ) → read ≡ table → FitPorts (driving plan.raw) table → AllGates (driving plan.raw) gates plan.raw.cells → n < length plan.raw.cells → gate ≡ get_or gates n gate → v ≡ gate_number read gate → (cell : Cell) → slice_get plan.raw.cells n ≡ Some cell → v ≡ number_at (plain (nets_of plan.raw read)) n cell % 2 ^ length (output_port cell.ports)
+computes plan sound gates read table n gate v same fit are inside is value = gate-computes plan sound read (subst (FitPorts (driving plan.raw)) (sym same) fit) n gate v (gate-there plan gates n gate are inside is) value
+
+pub bounds-gates-cell : goal.bounds-gates-cell
+bounds-gates-cell c =
     let plan = c.args.netlist.now in
     let inside = cell-below plan c.raw-raw.ensures.sound c.order.result.now c.args.place c.order.ensures.value c.requires.inside in
-    let long = cells-wired-length (driving plan.raw) c.args.wires.now plan.raw.cells c.requires.wired in
+    let long = gates-length (driving plan.raw) c.args.gates.now plan.raw.cells c.requires.gates in
     omega (arith, inside, long)
 
-pub compute-number-requires-clause-cell : goal.compute-number-requires-clause-cell
-compute-number-requires-clause-cell c = cell-below c.args.netlist.now c.raw-raw.ensures.sound c.order.result.now c.args.place c.order.ensures.value c.requires.inside
-
-pub compute-number-requires-clause-wired : goal.compute-number-requires-clause-wired
-compute-number-requires-clause-wired c =
+pub compute-number-requires : goal.compute-number-requires
+compute-number-requires c =
     let plan = c.args.netlist.now in
     let n : ℕ = get_or c.order.result.now c.args.place 0 in
     let inside = cell-below plan c.raw-raw.ensures.sound c.order.result.now c.args.place c.order.ensures.value c.requires.inside in
-    subst (λ (w : List Wires). AllWired (driving plan.raw) w (input_ports (ports_of (slice_get plan.raw.cells n)))) (sym (c.as_slice-3.ensures ∙ c.index-wires-cell.is)) (cells-wired-at (driving plan.raw) c.args.wires.now plan.raw.cells n c.index-wires-cell.result c.requires.wired inside)
-
-pub compute-number-requires-clause-numbers : goal.compute-number-requires-clause-numbers
-compute-number-requires-clause-numbers c = subst (FitPorts (driving c.args.netlist.now.raw)) (sym c.as_slice-4.ensures.value) c.requires.held.fit
+    let gate = gate-there plan c.args.gates.now n c.index-gates-cell.result c.requires.gates inside c.index-gates-cell.is in
+    gate-computable plan c.raw-raw.ensures.sound c.as_slice-3.result.now (subst (FitPorts (driving plan.raw)) (sym c.as_slice-3.ensures.value) c.requires.held.fit) n c.index-gates-cell.result inside gate
 
 pub unmark-requires : goal.unmark-requires
 unmark-requires c = (let room = c.requires.held.current.room in let inside = c.requires.inside in omega (arith, room, inside))
@@ -62,26 +66,26 @@ pub returns-clause-held : goal.returns-clause-held
 returns-clause-held c =
     let plan = c.args.netlist.now in
     let n : ℕ = get_or c.order.result.now c.args.place 0 in
-    let settled : IsSettled plan c.raw-raw.ensures.sound c.args.place c.args.table.now.items c.args.marks.now.items c.put.new.table.items c.put.new.marks.items = cell-settled plan c.raw-raw.ensures.sound c.args.readers.now c.requires.readers c.args.table.now.items c.args.marks.now.items c.unmark.new.marks.items c.put.new.table.items c.put.new.marks.items c.as_slice-4.result.now c.args.place n (length c.as_slice.result.now + length c.as_slice-2.result.now + n) c.compute-number.result c.requires.held c.requires.inside (ap (λ (l : List ℕ). get_or l c.args.place 0) c.order.ensures.value) (first-is plan.raw c.raw-raw.result.now (length c.as_slice.result.now) (length c.as_slice-2.result.now) n c.raw-raw.ensures.value (ap (λ l. length l) c.as_slice.ensures) (ap (λ l. length l) c.as_slice-2.ensures)) c.as_slice-4.ensures.value c.compute-number.ensures c.unmark.ensures.long c.unmark.ensures.here c.unmark.ensures.others c.put.ensures in
+    let settled : IsSettled plan c.raw-raw.ensures.sound c.args.place c.args.table.now.items c.args.marks.now.items c.put.new.table.items c.put.new.marks.items = cell-settled plan c.raw-raw.ensures.sound c.args.readers.now c.requires.readers c.args.table.now.items c.args.marks.now.items c.unmark.new.marks.items c.put.new.table.items c.put.new.marks.items c.as_slice-3.result.now c.args.place n (length c.as_slice.result.now + length c.as_slice-2.result.now + n) c.compute-number.result c.requires.held c.requires.inside (ap (λ (l : List ℕ). get_or l c.args.place 0) c.order.ensures.value) (first-is plan.raw c.raw-raw.result.now (length c.as_slice.result.now) (length c.as_slice-2.result.now) n c.raw-raw.ensures.value (ap (λ l. length l) c.as_slice.ensures) (ap (λ l. length l) c.as_slice-2.ensures)) c.as_slice-3.ensures.value (computes c.args.netlist.now c.raw-raw.ensures.sound c.args.gates.now c.as_slice-3.result.now c.args.table.now.items n c.index-gates-cell.result c.compute-number.result c.as_slice-3.ensures.value c.requires.held.fit c.requires.gates (cell-below c.args.netlist.now c.raw-raw.ensures.sound c.order.result.now c.args.place c.order.ensures.value c.requires.inside) c.index-gates-cell.is c.compute-number.ensures) c.unmark.ensures.long c.unmark.ensures.here c.unmark.ensures.others c.put.ensures in
     settled.held
 
 pub returns-clause-front : goal.returns-clause-front
 returns-clause-front c =
     let plan = c.args.netlist.now in
     let n : ℕ = get_or c.order.result.now c.args.place 0 in
-    let settled : IsSettled plan c.raw-raw.ensures.sound c.args.place c.args.table.now.items c.args.marks.now.items c.put.new.table.items c.put.new.marks.items = cell-settled plan c.raw-raw.ensures.sound c.args.readers.now c.requires.readers c.args.table.now.items c.args.marks.now.items c.unmark.new.marks.items c.put.new.table.items c.put.new.marks.items c.as_slice-4.result.now c.args.place n (length c.as_slice.result.now + length c.as_slice-2.result.now + n) c.compute-number.result c.requires.held c.requires.inside (ap (λ (l : List ℕ). get_or l c.args.place 0) c.order.ensures.value) (first-is plan.raw c.raw-raw.result.now (length c.as_slice.result.now) (length c.as_slice-2.result.now) n c.raw-raw.ensures.value (ap (λ l. length l) c.as_slice.ensures) (ap (λ l. length l) c.as_slice-2.ensures)) c.as_slice-4.ensures.value c.compute-number.ensures c.unmark.ensures.long c.unmark.ensures.here c.unmark.ensures.others c.put.ensures in
+    let settled : IsSettled plan c.raw-raw.ensures.sound c.args.place c.args.table.now.items c.args.marks.now.items c.put.new.table.items c.put.new.marks.items = cell-settled plan c.raw-raw.ensures.sound c.args.readers.now c.requires.readers c.args.table.now.items c.args.marks.now.items c.unmark.new.marks.items c.put.new.table.items c.put.new.marks.items c.as_slice-3.result.now c.args.place n (length c.as_slice.result.now + length c.as_slice-2.result.now + n) c.compute-number.result c.requires.held c.requires.inside (ap (λ (l : List ℕ). get_or l c.args.place 0) c.order.ensures.value) (first-is plan.raw c.raw-raw.result.now (length c.as_slice.result.now) (length c.as_slice-2.result.now) n c.raw-raw.ensures.value (ap (λ l. length l) c.as_slice.ensures) (ap (λ l. length l) c.as_slice-2.ensures)) c.as_slice-3.ensures.value (computes c.args.netlist.now c.raw-raw.ensures.sound c.args.gates.now c.as_slice-3.result.now c.args.table.now.items n c.index-gates-cell.result c.compute-number.result c.as_slice-3.ensures.value c.requires.held.fit c.requires.gates (cell-below c.args.netlist.now c.raw-raw.ensures.sound c.order.result.now c.args.place c.order.ensures.value c.requires.inside) c.index-gates-cell.is c.compute-number.ensures) c.unmark.ensures.long c.unmark.ensures.here c.unmark.ensures.others c.put.ensures in
     settled.same
 
 pub returns-clause-here : goal.returns-clause-here
 returns-clause-here c =
     let plan = c.args.netlist.now in
     let n : ℕ = get_or c.order.result.now c.args.place 0 in
-    let settled : IsSettled plan c.raw-raw.ensures.sound c.args.place c.args.table.now.items c.args.marks.now.items c.put.new.table.items c.put.new.marks.items = cell-settled plan c.raw-raw.ensures.sound c.args.readers.now c.requires.readers c.args.table.now.items c.args.marks.now.items c.unmark.new.marks.items c.put.new.table.items c.put.new.marks.items c.as_slice-4.result.now c.args.place n (length c.as_slice.result.now + length c.as_slice-2.result.now + n) c.compute-number.result c.requires.held c.requires.inside (ap (λ (l : List ℕ). get_or l c.args.place 0) c.order.ensures.value) (first-is plan.raw c.raw-raw.result.now (length c.as_slice.result.now) (length c.as_slice-2.result.now) n c.raw-raw.ensures.value (ap (λ l. length l) c.as_slice.ensures) (ap (λ l. length l) c.as_slice-2.ensures)) c.as_slice-4.ensures.value c.compute-number.ensures c.unmark.ensures.long c.unmark.ensures.here c.unmark.ensures.others c.put.ensures in
+    let settled : IsSettled plan c.raw-raw.ensures.sound c.args.place c.args.table.now.items c.args.marks.now.items c.put.new.table.items c.put.new.marks.items = cell-settled plan c.raw-raw.ensures.sound c.args.readers.now c.requires.readers c.args.table.now.items c.args.marks.now.items c.unmark.new.marks.items c.put.new.table.items c.put.new.marks.items c.as_slice-3.result.now c.args.place n (length c.as_slice.result.now + length c.as_slice-2.result.now + n) c.compute-number.result c.requires.held c.requires.inside (ap (λ (l : List ℕ). get_or l c.args.place 0) c.order.ensures.value) (first-is plan.raw c.raw-raw.result.now (length c.as_slice.result.now) (length c.as_slice-2.result.now) n c.raw-raw.ensures.value (ap (λ l. length l) c.as_slice.ensures) (ap (λ l. length l) c.as_slice-2.ensures)) c.as_slice-3.ensures.value (computes c.args.netlist.now c.raw-raw.ensures.sound c.args.gates.now c.as_slice-3.result.now c.args.table.now.items n c.index-gates-cell.result c.compute-number.result c.as_slice-3.ensures.value c.requires.held.fit c.requires.gates (cell-below c.args.netlist.now c.raw-raw.ensures.sound c.order.result.now c.args.place c.order.ensures.value c.requires.inside) c.index-gates-cell.is c.compute-number.ensures) c.unmark.ensures.long c.unmark.ensures.here c.unmark.ensures.others c.put.ensures in
     settled.here
 
 pub returns-clause-before : goal.returns-clause-before
 returns-clause-before c =
     let plan = c.args.netlist.now in
     let n : ℕ = get_or c.order.result.now c.args.place 0 in
-    let settled : IsSettled plan c.raw-raw.ensures.sound c.args.place c.args.table.now.items c.args.marks.now.items c.put.new.table.items c.put.new.marks.items = cell-settled plan c.raw-raw.ensures.sound c.args.readers.now c.requires.readers c.args.table.now.items c.args.marks.now.items c.unmark.new.marks.items c.put.new.table.items c.put.new.marks.items c.as_slice-4.result.now c.args.place n (length c.as_slice.result.now + length c.as_slice-2.result.now + n) c.compute-number.result c.requires.held c.requires.inside (ap (λ (l : List ℕ). get_or l c.args.place 0) c.order.ensures.value) (first-is plan.raw c.raw-raw.result.now (length c.as_slice.result.now) (length c.as_slice-2.result.now) n c.raw-raw.ensures.value (ap (λ l. length l) c.as_slice.ensures) (ap (λ l. length l) c.as_slice-2.ensures)) c.as_slice-4.ensures.value c.compute-number.ensures c.unmark.ensures.long c.unmark.ensures.here c.unmark.ensures.others c.put.ensures in
+    let settled : IsSettled plan c.raw-raw.ensures.sound c.args.place c.args.table.now.items c.args.marks.now.items c.put.new.table.items c.put.new.marks.items = cell-settled plan c.raw-raw.ensures.sound c.args.readers.now c.requires.readers c.args.table.now.items c.args.marks.now.items c.unmark.new.marks.items c.put.new.table.items c.put.new.marks.items c.as_slice-3.result.now c.args.place n (length c.as_slice.result.now + length c.as_slice-2.result.now + n) c.compute-number.result c.requires.held c.requires.inside (ap (λ (l : List ℕ). get_or l c.args.place 0) c.order.ensures.value) (first-is plan.raw c.raw-raw.result.now (length c.as_slice.result.now) (length c.as_slice-2.result.now) n c.raw-raw.ensures.value (ap (λ l. length l) c.as_slice.ensures) (ap (λ l. length l) c.as_slice-2.ensures)) c.as_slice-3.ensures.value (computes c.args.netlist.now c.raw-raw.ensures.sound c.args.gates.now c.as_slice-3.result.now c.args.table.now.items n c.index-gates-cell.result c.compute-number.result c.as_slice-3.ensures.value c.requires.held.fit c.requires.gates (cell-below c.args.netlist.now c.raw-raw.ensures.sound c.order.result.now c.args.place c.order.ensures.value c.requires.inside) c.index-gates-cell.is c.compute-number.ensures) c.unmark.ensures.long c.unmark.ensures.here c.unmark.ensures.others c.put.ensures in
     settled.before

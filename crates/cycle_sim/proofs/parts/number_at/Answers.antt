@@ -1,9 +1,9 @@
-use Rattle.std.proofs.Common.{◌≡◌, ℕ, ◌-◌, ◌/◌, ◌%◌, ◌^◌, ◌<◌, ◌≤◌, Bool, true, List, bit_and, get_or, sym, ◌∙◌, ap, subst, arith}
-use Rattle.std.proofs.lemmas.Nat.{and_mask, mod_below, pow_pos}
+use Rattle.std.proofs.Common.{◌≡◌, ℕ, ◌-◌, ◌/◌, ◌^◌, ◌<◌, Bool, true, List, get_or, sym, subst, arith}
+use Rattle.std.proofs.lemmas.Nat.{mod_below, pow_pos}
 use Rattle.cycle_sim.specs.declared.parts.Source.{Source}
 use Rattle.cycle_sim.specs.declared.parts.Source.TheVariants.{Constant}
 use Rattle.cycle_sim.specs.Parts.{source_number}
-use Rattle.cycle_sim.proofs.PartNumbers.{ones-down}
+use Rattle.cycle_sim.proofs.PartNumbers.{ones-down, masked}
 use Rattle.cycle_sim.proofs.parts.number_at.Goals as goal
 
 constant-true : (table : List ℕ) (source : Source) (b : Bool) (n w : ℕ) → source ≡ Constant b → b ≡ true → n ≡ 2 ^ w - 1 → n ≡ source_number table source w
@@ -15,14 +15,11 @@ returns-then-bit-clause-value c = constant-true c.args.table.now c.args.part.fir
 pub returns-then-bit-clause-fits : goal.returns-then-bit-clause-fits
 returns-then-bit-clause-fits c = (let ones = ones-down c.args.part.width c.requires.narrow in let some = pow_pos c.args.part.width in omega (arith, ones, some))
 
-read-is : (n w : ℕ) → w ≤ 128 → bit_and n (340282366920938463463374607431768211455 / 2 ^ (128 - w)) ≡ n % 2 ^ w
-read-is n w le = ap (bit_and n) (ones-down w le) ∙ and_mask n w
-
 pub returns-in-Driver-clause-value : goal.returns-in-Driver-clause-value
-returns-in-Driver-clause-value c = rw c.in-Driver.is (read-is (get_or c.args.table.now c.in-Driver.place.driver 0 / 2 ^ c.in-Driver.place.bit) c.args.part.width c.requires.narrow)
+returns-in-Driver-clause-value c = rw c.in-Driver.is (masked (get_or c.args.table.now c.in-Driver.place.driver 0 / 2 ^ c.in-Driver.place.bit) c.args.part.width c.requires.narrow)
 
 pub returns-in-Driver-clause-fits : goal.returns-in-Driver-clause-fits
 returns-in-Driver-clause-fits c =
     let w : ℕ = c.args.part.width in
     let n : ℕ = get_or c.args.table.now c.in-Driver.place.driver 0 / 2 ^ c.in-Driver.place.bit in
-    subst (λ (x : ℕ). x < 2 ^ w) (sym (read-is n w c.requires.narrow)) (mod_below n (2 ^ w) (pow_pos w))
+    subst (λ (x : ℕ). x < 2 ^ w) (sym (masked n w c.requires.narrow)) (mod_below n (2 ^ w) (pow_pos w))

@@ -25,8 +25,8 @@ bounds-next-i c =
     let within = d-inside plan.raw.registers i inside in
     omega (arith, long, within)
 
-pub word_at-requires : goal.word_at-requires
-word_at-requires c =
+pub wires_number-requires : goal.wires_number-requires
+wires_number-requires c =
     let plan = c.args.netlist.now in
     let i : ℕ = c.loop-i.i in
     let inside = inside-of plan.raw c.raw.result.now c.as_slice-count.result.now i c.raw.ensures.value c.as_slice-count.ensures c.loop-i-test.true in
@@ -43,9 +43,9 @@ loop-i-preserved c =
     let long = wired-length (driving plan.raw) c.args.next.now (d_bits rs) c.requires.wired in
     let within = d-inside rs i inside in
     let some = item-some rs i inside in
-    let is : c.bits.result ≡ number (values (nets_of plan.raw c.args.table.now) (get_or rs i some.0).d) = c.bits.ensures.bits ∙ c.word_at.ensures.bits ∙ next-number plan c.raw.ensures.sound c.args.table.now c.requires.numbers c.args.next.now c.requires.wired i c.index-next-i.result some.0 inside (omega (arith, long, within)) c.index-next-i.is in
+    let is : c.wires_number.result ≡ number (values (nets_of plan.raw c.args.table.now) (get_or rs i some.0).d) = c.wires_number.ensures.value ∙ next-number plan c.raw.ensures.sound c.args.table.now c.requires.numbers c.args.next.now c.requires.wired i c.index-next-i.result some.0 inside (omega (arith, long, within)) c.index-next-i.is in
     record {
       inside = omega (arith, inside);
-      long = length-set c.loop-i.registers.items i c.bits.result ∙ c.loop-i.invariant.long;
-      taken = took (nets_of plan.raw c.args.table.now) i c.bits.result rs some.0 c.loop-i.registers.items c.args.registers.now.items c.loop-i.invariant.taken c.requires.long inside is;
+      long = length-set c.loop-i.registers.items i c.wires_number.result ∙ c.loop-i.invariant.long;
+      taken = took (nets_of plan.raw c.args.table.now) i c.wires_number.result rs some.0 c.loop-i.registers.items c.args.registers.now.items c.loop-i.invariant.taken c.requires.long inside is;
     }

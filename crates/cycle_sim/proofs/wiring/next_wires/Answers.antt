@@ -48,4 +48,4 @@ loop-register-preserved c =
     let inside = inside-of plan.raw.registers c.as_slice-register-items.result.now i items c.loop-register-test.true in
     let at = at-of plan.raw.registers c.as_slice-register-items.result.now i r items c.register-item.is in
     let is : bits ≡ get_or (d_bits plan.raw.registers) i [] = c.as_slice.ensures ∙ d-at plan.raw.registers i r inside at in
-    wired-more (driving plan.raw) c.loop-register.wires.items c.push.new.self.items (d_bits plan.raw.registers) i c.in_ok-wires_of.field-0 bits c.loop-register.invariant c.in_ok-push.ensures.items (d-inside plan.raw.registers i inside) is (c.in_ok-wires_of.ensures (driving plan.raw) (λ n some. read-placed plan c.raw.ensures.sound c.args.places.now c.requires.placed n (d-read plan.raw i r inside at n (subst (λ (b : List Bit). 1 ≤ times n b) c.as_slice.ensures some))))
+    wired-more (driving plan.raw) c.loop-register.wires.items c.push.new.self.items (d_bits plan.raw.registers) i c.in_ok-wires_of.field-0 bits c.loop-register.invariant c.in_ok-push.ensures.items (d-inside plan.raw.registers i inside) is (c.in_ok-wires_of.ensures (driving plan.raw) (λ n some. read-placed plan c.raw.ensures.sound c.args.places.now c.requires.placed n (d-read plan.raw i r inside at n (subst (λ (b : List Bit). 1 ≤ times n b) c.as_slice.ensures some))) (sym c.requires.widths))

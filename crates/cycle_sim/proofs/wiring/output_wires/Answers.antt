@@ -48,4 +48,4 @@ loop-port-preserved c =
     let inside = inside-of plan.raw.outputs c.as_slice-port-items.result.now i items c.loop-port-test.true in
     let at = at-of plan.raw.outputs c.as_slice-port-items.result.now i r items c.port-item.is in
     let is : bits ≡ get_or (bits_at plan.raw.outputs) i [] = c.as_slice.ensures ∙ output-at plan.raw.outputs i r inside at in
-    wired-more (driving plan.raw) c.loop-port.wires.items c.push.new.self.items (bits_at plan.raw.outputs) i c.in_ok-wires_of.field-0 bits c.loop-port.invariant c.in_ok-push.ensures.items (output-inside plan.raw.outputs i inside) is (c.in_ok-wires_of.ensures (driving plan.raw) (λ n some. read-placed plan c.raw.ensures.sound c.args.places.now c.requires.placed n (output-read plan.raw i r inside at n (subst (λ (b : List Bit). 1 ≤ times n b) c.as_slice.ensures some))))
+    wired-more (driving plan.raw) c.loop-port.wires.items c.push.new.self.items (bits_at plan.raw.outputs) i c.in_ok-wires_of.field-0 bits c.loop-port.invariant c.in_ok-push.ensures.items (output-inside plan.raw.outputs i inside) is (c.in_ok-wires_of.ensures (driving plan.raw) (λ n some. read-placed plan c.raw.ensures.sound c.args.places.now c.requires.placed n (output-read plan.raw i r inside at n (subst (λ (b : List Bit). 1 ≤ times n b) c.as_slice.ensures some))) (sym c.requires.widths))

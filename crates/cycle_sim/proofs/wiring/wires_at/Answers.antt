@@ -21,8 +21,8 @@ wires_of-requires-clause-below c = λ n some.
     c.requires.below n (among c.args.ports.now c.loop-port.port-index c.as_slice.result.now n c.loop-port-test.true is some)
 
 pub loop-port-preserved : goal.loop-port-preserved
-loop-port-preserved c = λ drivers placed.
+loop-port-preserved c = λ drivers placed widths_are.
     let ports : List (List Bit) = c.args.ports.now in
     let i : ℕ = c.loop-port.port-index in
     let is = port-is ports i c.as_slice.result.now c.port-item.result c.loop-port-test.true c.as_slice.ensures c.port-item.is in
-    wired-more drivers c.loop-port.wires.items c.push.new.self.items ports i c.in_ok-wires_of.field-0 c.as_slice.result.now (c.loop-port.invariant drivers placed) c.in_ok-push.ensures.items c.loop-port-test.true is (c.in_ok-wires_of.ensures drivers (λ n some. placed n (among ports i c.as_slice.result.now n c.loop-port-test.true is some)))
+    wired-more drivers c.loop-port.wires.items c.push.new.self.items ports i c.in_ok-wires_of.field-0 c.as_slice.result.now (c.loop-port.invariant drivers placed widths_are) c.in_ok-push.ensures.items c.loop-port-test.true is (c.in_ok-wires_of.ensures drivers (λ n some. placed n (among ports i c.as_slice.result.now n c.loop-port-test.true is some)) widths_are)

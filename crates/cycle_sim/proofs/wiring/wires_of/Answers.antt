@@ -3,7 +3,8 @@ use Rattle.std.proofs.lemmas.List.{take_more, take_all}
 use Rattle.netlist_core.specs.declared.bit.Bit.{Bit}
 use Rattle.netlist_core.specs.declared.bit.Bit.TheVariants.{Fixed}
 use Rattle.netlist_core.specs.Drivers.{times}
-use Rattle.cycle_sim.specs.Parts.{all_bits, AllWhole}
+use Rattle.cycle_sim.specs.declared.parts.Part.{Part}
+use Rattle.cycle_sim.specs.Parts.{all_bits, AllWhole, IsReading}
 use Rattle.cycle_sim.proofs.Placed.{times-at}
 use Rattle.cycle_sim.proofs.wiring.wires_of.Goals as goal
 
@@ -24,12 +25,14 @@ loop-bit-preserved c = λ drivers placed.
     (grown.0, grown.1 ∙ ap (λ (l : List Bit). l ++ bit ∷ []) was.1 ∙ sym (take_more bits i (Fixed false) c.loop-bit-test.true))
 
 pub returns : goal.returns
-returns c = λ drivers placed.
+returns c = λ drivers placed widths_are.
     let bits : List Bit = c.args.bits.now in
     let was = c.loop-bit.invariant drivers placed in
     let all : take c.loop-bit.bit-index bits ≡ bits = take_all c.loop-bit.bit-index bits c.loop-bit-test.false in
+    let read = subst (λ (p : List Part). all_bits drivers p ≡ bits → AllWhole drivers p → IsReading drivers c.reading_of.result bits p) c.as_slice.ensures.value (c.reading_of.ensures drivers widths_are) in
     record {
       width = refl;
       bits = ap (all_bits drivers) c.from_vec.ensures ∙ was.1 ∙ all;
       whole = subst (AllWhole drivers) (sym c.from_vec.ensures) was.0;
+      reading = subst (IsReading drivers c.reading_of.result bits) (sym c.from_vec.ensures) (read (was.1 ∙ all) was.0);
     }

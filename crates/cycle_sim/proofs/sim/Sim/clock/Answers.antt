@@ -17,7 +17,7 @@ invariant_of-self c =
     let raw = c.self.inside.netlist.raw in
     record {
       sound = c.self.invariant.sound;
-      cells = c.self.invariant.cells;
+      gates = c.self.invariant.gates;
       next = c.self.invariant.next;
       outputs = c.self.invariant.outputs;
       reading = c.self.invariant.reading;

@@ -32,7 +32,7 @@ invariant_of-self c =
     let long = as-long plan c.args.words.now c.self.inside.registers.items have c.self.invariant.stored in
     record {
       sound = c.self.invariant.sound;
-      cells = c.self.invariant.cells;
+      gates = c.self.invariant.gates;
       next = c.self.invariant.next;
       outputs = c.self.invariant.outputs;
       reading = c.self.invariant.reading;

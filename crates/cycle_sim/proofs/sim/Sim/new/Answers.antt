@@ -11,7 +11,7 @@ invariant_of-result c =
     let sound : IsSound c.args.netlist = subst IsSound c.netlist.view_is c.netlist.invariant in
     record {
       sound = sound;
-      cells = c.in_ok-wiring.ensures.cells;
+      gates = c.in_ok-wiring.ensures.gates;
       next = c.in_ok-wiring.ensures.next;
       outputs = c.in_ok-wiring.ensures.outputs;
       reading = c.in_ok-wiring.ensures.readers;

@@ -30,7 +30,7 @@ word_at-requires c =
     let inside = inside-of plan c.args.self.now.plan c.args.port (ap (λ (s : Simulated). s.plan) c.self.view_is) c.requires in
     let long = wired-length (driving plan.raw) c.self.inside.outputs.items (bits_at plan.raw.outputs) c.self.invariant.outputs in
     let within = output-inside plan.raw.outputs c.args.port inside in
-    subst (λ (t : List ℕ). IsReadable (length t) c.index.result.now) (sym c.as_slice.ensures.value) (output-readable plan c.self.invariant.sound c.self.inside.table.items c.self.invariant.numbers c.self.inside.outputs.items c.self.invariant.outputs c.args.port c.index.result.now inside (omega (arith, long, within)) c.index.ensures)
+    subst (λ (t : List ℕ). IsReadable t c.index.result.now) (sym c.as_slice.ensures.value) (output-readable plan c.self.invariant.sound c.self.inside.table.items c.self.invariant.numbers c.self.inside.outputs.items c.self.invariant.outputs c.args.port c.index.result.now inside (omega (arith, long, within)) c.index.ensures)
 
 pub returns-clause-width : goal.returns-clause-width
 returns-clause-width c = λ p is.

@@ -27,7 +27,7 @@ lay_words-requires-clause-readers c = subst (AreReaders c.self.inside.netlist) (
 pub invariant_of-self : goal.invariant_of-self
 invariant_of-self c = record {
   sound = c.self.invariant.sound;
-  cells = c.self.invariant.cells;
+  gates = c.self.invariant.gates;
   next = c.self.invariant.next;
   outputs = c.self.invariant.outputs;
   reading = c.self.invariant.reading;

@@ -2,8 +2,9 @@ use Rattle.std.proofs.Common.{◌≡◌, ℕ, ◌≤◌, List, length, take, sym
 use Rattle.netlist_core.specs.Runs.{Nets, plain, q_bits, Holds}
 use Rattle.netlist_core.specs.Drivers.{drivers}
 use Rattle.netlist_core.specs.Solutions.{FitPorts, driving}
-use Rattle.cycle_sim.specs.declared.parts.Wires.{Wires}
-use Rattle.cycle_sim.specs.Simulated.{Simulated, nets_of, AllCellsWired}
+use Rattle.cycle_sim.specs.declared.parts.Gate.{Gate}
+use Rattle.cycle_sim.specs.Simulated.{Simulated, nets_of}
+use Rattle.cycle_sim.specs.Gates.{AllGates}
 use Rattle.cycle_sim.specs.Marks.{AreReaders}
 use Rattle.cycle_sim.proofs.Settling.{settled-holds, settled-alone}
 use Rattle.cycle_sim.proofs.sim.Sim.settle_nets.Goals as goal
@@ -17,8 +18,8 @@ lay_registers-requires-clause-held c = record { fit = c.self.invariant.numbers; 
 pub lay_registers-requires-clause-readers : goal.lay_registers-requires-clause-readers
 lay_registers-requires-clause-readers c = subst (AreReaders c.self.inside.netlist) (sym c.as_slice.ensures.value) c.self.invariant.reading
 
-pub settle_cells-requires-clause-wired : goal.settle_cells-requires-clause-wired
-settle_cells-requires-clause-wired c = subst (λ (w : List (List Wires)). AllCellsWired (driving c.self.inside.netlist.raw) w c.self.inside.netlist.raw.cells) (sym c.as_slice-3.ensures.value) c.self.invariant.cells
+pub settle_cells-requires-clause-gates : goal.settle_cells-requires-clause-gates
+settle_cells-requires-clause-gates c = subst (λ (g : List Gate). AllGates (driving c.self.inside.netlist.raw) g c.self.inside.netlist.raw.cells) (sym c.as_slice-3.ensures.value) c.self.invariant.gates
 
 pub settle_cells-requires-clause-readers : goal.settle_cells-requires-clause-readers
 settle_cells-requires-clause-readers c = subst (AreReaders c.self.inside.netlist) (sym c.as_slice-4.ensures.value) c.self.invariant.reading
@@ -35,7 +36,7 @@ returns-clause-registers c = ap (λ (s : Simulated). s.registers) c.self.view_is
 pub invariant_of-self : goal.invariant_of-self
 invariant_of-self c = record {
   sound = c.self.invariant.sound;
-  cells = c.self.invariant.cells;
+  gates = c.self.invariant.gates;
   next = c.self.invariant.next;
   outputs = c.self.invariant.outputs;
   reading = c.self.invariant.reading;

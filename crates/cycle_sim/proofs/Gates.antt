@@ -1,0 +1,147 @@
+-- What a gate computes is the number of its cell.
+use Rattle.std.proofs.Common.{◌≡◌, ℕ, zero, suc, ◌%◌, ◌^◌, ◌<◌, ◌≤◌, Bool, List, [], ◌∷◌, ◌++◌, map, length, get_or, slice_get, Option, Some, refl, sym, ◌∙◌, ap, subst, arith}
+use Rattle.std.proofs.lemmas.List.{map-append}
+use Rattle.mcy_base.specs.declared.word.Word.{Word}
+use Rattle.netlist_core.specs.declared.bit.Bit.{Bit}
+use Rattle.netlist_core.specs.declared.cell.Cell.{Cell}
+use Rattle.netlist_core.specs.declared.cell.CellKind.{CellKind}
+use Rattle.netlist_core.specs.Numbers.{low_bits}
+use Rattle.netlist_core.specs.Cells.{cell_value}
+use Rattle.netlist_core.specs.Shapes.{shape_of, HasWidths, HasShape}
+use Rattle.netlist_core.specs.Runs.{Nets, plain, input_ports, output_port, ports_seen}
+use Rattle.netlist_core.specs.Checked.{Plan, IsSound, AllWide}
+use Rattle.netlist_core.specs.Settled.{number_at}
+use Rattle.netlist_core.specs.Solutions.{FitPorts, driving}
+use Rattle.cell_meaning.specs.Words.{word_bits}
+use Rattle.cycle_sim.specs.declared.parts.Wires.{Wires}
+use Rattle.cycle_sim.specs.declared.parts.Gate.{Gate}
+use Rattle.cycle_sim.specs.Parts.{IsReadable, AllReadable, parts_number, wires_bits}
+use Rattle.cycle_sim.specs.Gates.{IsGate, IsGateOf, IsComputable, gate_number}
+use Rattle.cycle_sim.specs.Simulated.{nets_of}
+use Rattle.cycle_sim.proofs.CellShapes.{cell-shape, cell-wide, input-count, inputs-wide}
+use Rattle.cycle_sim.proofs.Wired.{wired-length, wires-seen, wires-widths, all-readable}
+use Rattle.cycle_sim.proofs.Plans.{driving-narrow, table-numbers, y-narrow}
+use Rattle.cycle_sim.proofs.Computed.{item-some}
+
+-- Words at the ports of a gate. Ports are read from `list`, which is theirs.
+
+readable-at : (table : List ℕ) (ports : List Wires) (i : ℕ) (d : Wires) → AllReadable table ports → i < length ports → IsReadable table (get_or ports i d)
+readable-at table [] i d all inside = absurd (omega (arith, inside))
+readable-at table (x ∷ more) zero d all inside = all.0
+readable-at table (x ∷ more) (suc i) d all inside = readable-at table more i d all.1 (omega (arith, inside))
+
+pub item-readable : (table : List ℕ) (ports list : List Wires) (i : ℕ) (x : Wires) → AllReadable table ports → list ≡ ports → i < length list → x ≡ get_or list i x → IsReadable table x
+item-readable table ports list i x all same inside is =
+    subst (IsReadable table) (sym is) (readable-at table list i x (subst (AllReadable table) (sym same) all) inside)
+
+abbrev IsWordAt : List ℕ → Wires → Word → Type 0
+IsWordAt table wires word = (word.width ≡ wires.width) × (word.bits ≡ parts_number table wires.parts)
+
+-- the words are those at the wires
+abbrev pub AreWords : List ℕ → List Wires → List Word → Type 0
+AreWords table [] [] = Unit {0}
+AreWords table (wires ∷ more) (word ∷ rest) = IsWordAt table wires word × AreWords table more rest
+AreWords table wires words = ⊥
+
+pub one-word : (table : List ℕ) (ports list : List Wires) (x : Wires) (a : Word) → list ≡ ports → length list ≡ 1 → x ≡ get_or list 0 x → a.width ≡ x.width → a.bits ≡ parts_number table x.parts → AreWords table ports (a ∷ [])
+one-word table ports [] x a same long is w b = absurd (omega (arith, long))
+one-word table ports (p ∷ []) x a same long is w b = subst (λ (l : List Wires). AreWords table l (a ∷ [])) same (subst (λ (z : Wires). IsWordAt table z a) is (w, b), tt)
+one-word table ports (p ∷ q ∷ more) x a same long is w b = absurd (omega (arith, long))
+
+pub two-words : (table : List ℕ) (ports list : List Wires) (x y : Wires) (a b : Word) → list ≡ ports → length list ≡ 2 → x ≡ get_or list 0 x → y ≡ get_or list 1 y → a.width ≡ x.width → a.bits ≡ parts_number table x.parts → b.width ≡ y.width → b.bits ≡ parts_number table y.parts → AreWords table ports (a ∷ b ∷ [])
+two-words table ports [] x y a b same long is_x is_y aw ab bw bb = absurd (omega (arith, long))
+two-words table ports (p ∷ []) x y a b same long is_x is_y aw ab bw bb = absurd (omega (arith, long))
+two-words table ports (p ∷ q ∷ []) x y a b same long is_x is_y aw ab bw bb =
+    subst (λ (l : List Wires). AreWords table l (a ∷ b ∷ [])) same (subst (λ (z : Wires). IsWordAt table z a) is_x (aw, ab), (subst (λ (z : Wires). IsWordAt table z b) is_y (bw, bb), tt))
+two-words table ports (p ∷ q ∷ r ∷ more) x y a b same long is_x is_y aw ab bw bb = absurd (omega (arith, long))
+
+pub three-words : (table : List ℕ) (ports list : List Wires) (x y z : Wires) (a b e : Word) → list ≡ ports → length list ≡ 3 → x ≡ get_or list 0 x → y ≡ get_or list 1 y → z ≡ get_or list 2 z → a.width ≡ x.width → a.bits ≡ parts_number table x.parts → b.width ≡ y.width → b.bits ≡ parts_number table y.parts → e.width ≡ z.width → e.bits ≡ parts_number table z.parts → AreWords table ports (a ∷ b ∷ e ∷ [])
+three-words table ports [] x y z a b e same long is_x is_y is_z aw ab bw bb ew eb = absurd (omega (arith, long))
+three-words table ports (p ∷ []) x y z a b e same long is_x is_y is_z aw ab bw bb ew eb = absurd (omega (arith, long))
+three-words table ports (p ∷ q ∷ []) x y z a b e same long is_x is_y is_z aw ab bw bb ew eb = absurd (omega (arith, long))
+three-words table ports (p ∷ q ∷ r ∷ []) x y z a b e same long is_x is_y is_z aw ab bw bb ew eb =
+    subst (λ (l : List Wires). AreWords table l (a ∷ b ∷ e ∷ [])) same (subst (λ (v : Wires). IsWordAt table v a) is_x (aw, ab), (subst (λ (v : Wires). IsWordAt table v b) is_y (bw, bb), (subst (λ (v : Wires). IsWordAt table v e) is_z (ew, eb), tt)))
+three-words table ports (p ∷ q ∷ r ∷ s ∷ more) x y z a b e same long is_x is_y is_z aw ab bw bb ew eb = absurd (omega (arith, long))
+
+words-widths : (table : List ℕ) (wires : List Wires) (words : List Word) → AreWords table wires words → map (λ (w : Wires). w.width) wires ≡ map (λ (w : Word). w.width) words
+words-widths table [] [] are = refl
+words-widths table [] (a ∷ words) are = absurd are
+words-widths table (w ∷ more) [] are = absurd are
+words-widths table (w ∷ more) (a ∷ words) are =
+    ap (λ (k : ℕ). k ∷ map (λ (x : Wires). x.width) more) (sym are.0.0) ∙ ap (λ (l : List ℕ). a.width ∷ l) (words-widths table more words are.1)
+
+words-bits : (table : List ℕ) (wires : List Wires) (words : List Word) → AreWords table wires words → map word_bits words ≡ map (wires_bits table) wires
+words-bits table [] [] are = refl
+words-bits table [] (a ∷ words) are = absurd are
+words-bits table (w ∷ more) [] are = absurd are
+words-bits table (w ∷ more) (a ∷ words) are =
+    let here : word_bits a ≡ wires_bits table w = ap (λ (k : ℕ). low_bits k a.bits) are.0.0 ∙ ap (low_bits w.width) are.0.1 in
+    ap (λ (b : List Bool). b ∷ map word_bits words) here ∙ ap (λ (l : List (List Bool)). wires_bits table w ∷ l) (words-bits table more words are.1)
+
+-- they have the widths of its kind, and its number is that of their bits
+pub words-shape : (table : List ℕ) (gate : Gate) (words : List Word) → IsComputable table gate → AreWords table gate.ports words → HasWidths (shape_of gate.kind) (map (λ (w : Word). w.width) words ++ gate.width ∷ [])
+words-shape table gate words computable are = subst (λ (l : List ℕ). HasWidths (shape_of gate.kind) (l ++ gate.width ∷ [])) (words-widths table gate.ports words are) computable.shape
+
+pub words-number : (table : List ℕ) (gate : Gate) (words : List Word) (n : ℕ) → AreWords table gate.ports words → n ≡ cell_value gate.kind gate.is_signed gate.width (map word_bits words) → n ≡ gate_number table gate
+words-number table gate words n are is = is ∙ ap (λ (l : List (List Bool)). cell_value gate.kind gate.is_signed gate.width l) (words-bits table gate.ports words are)
+
+-- The gate of a cell.
+
+ports-split : (ports : List (List Bit)) → 1 ≤ length (input_ports ports) → ports ≡ input_ports ports ++ output_port ports ∷ []
+ports-split [] some = absurd (omega (arith, some))
+ports-split (y ∷ []) some = absurd (omega (arith, some))
+ports-split (a ∷ y ∷ []) some = refl
+ports-split (a ∷ b ∷ e ∷ more) some = ap (λ (l : List (List Bit)). a ∷ l) (ports-split (b ∷ e ∷ more) (omega arith))
+
+y-some : (ports : List (List Bit)) → AllWide ports → 1 ≤ length (input_ports ports) → 1 ≤ length (output_port ports)
+y-some [] wide some = absurd (omega (arith, some))
+y-some (y ∷ []) wide some = wide.0
+y-some (a ∷ y ∷ []) wide some = wide.2.0
+y-some (a ∷ b ∷ e ∷ more) wide some = y-some (b ∷ e ∷ more) wide.2 (omega arith)
+
+module _ (plan : Plan) (sound : IsSound plan) (table : List ℕ) (fit : FitPorts (driving plan.raw) table) (c : ℕ) (cell : Cell) (found : slice_get plan.raw.cells c ≡ Some cell) (gate : Gate) (is : IsGate (driving plan.raw) gate cell) where
+  abbrev ins : List (List Bit)
+  ins = input_ports cell.ports
+
+  abbrev y : List Bit
+  y = output_port cell.ports
+
+  gate-shape : HasWidths (shape_of gate.kind) (map (λ (w : Wires). w.width) gate.ports ++ gate.width ∷ [])
+  gate-shape =
+      let shape : HasShape cell = cell-shape plan sound c cell found in
+      let split : map length cell.ports ≡ map length ins ++ length y ∷ [] = ap (map length) (ports-split cell.ports (input-count cell shape).0) ∙ map-append (λ (b : List Bit). length b) ins (y ∷ []) in
+      let all : map length cell.ports ≡ map (λ (w : Wires). w.width) gate.ports ++ gate.width ∷ [] = split
+      ∙ ap (λ (l : List ℕ). l ++ length y ∷ []) (sym (wires-widths (driving plan.raw) gate.ports ins is.ports))
+      ∙ ap (λ (k : ℕ). map (λ (w : Wires). w.width) gate.ports ++ k ∷ []) (sym is.width) in
+      subst (λ (k : CellKind). HasWidths (shape_of k) (map (λ (w : Wires). w.width) gate.ports ++ gate.width ∷ [])) (sym is.kind) (subst (λ (l : List ℕ). HasWidths (shape_of cell.kind) l) all shape)
+
+  computable : IsComputable table gate
+  computable =
+      let count = input-count cell (cell-shape plan sound c cell found) in
+      let wide = cell-wide plan sound c cell found in
+      let long = wired-length (driving plan.raw) gate.ports ins is.ports in
+      let w = is.width in
+      record {
+        some = (let s = y-some cell.ports wide count.0 in omega (arith, s, w));
+        narrow = (let n = y-narrow cell.ports wide in omega (arith, n, w));
+        ports = omega (arith, count.0, long);
+        few = omega (arith, count.1, long);
+        shape = gate-shape;
+        readable = all-readable (nets_of plan.raw table) (driving plan.raw) table (table-numbers plan sound table fit) gate.ports ins (driving-narrow plan sound) is.ports (inputs-wide cell.ports wide);
+      }
+
+  computed : gate_number table gate ≡ number_at (plain (nets_of plan.raw table)) c cell % 2 ^ length (output_port cell.ports)
+  computed =
+      let nets : Nets = nets_of plan.raw table in
+      ap (λ (ports : List (List Bool)). cell_value gate.kind gate.is_signed gate.width ports) (wires-seen nets table (driving plan.raw) gate.ports ins c 0 (table-numbers plan sound table fit) is.ports)
+      ∙ ap (λ (k : CellKind). cell_value k gate.is_signed gate.width (ports_seen (plain nets) c 0 ins)) is.kind
+      ∙ ap (λ (s : Bool). cell_value cell.kind s gate.width (ports_seen (plain nets) c 0 ins)) is.is_signed
+      ∙ ap (λ (w : ℕ). cell_value cell.kind cell.is_signed w (ports_seen (plain nets) c 0 ins)) is.width
+
+pub gate-computable : (plan : Plan) → IsSound plan → (table : List ℕ) → FitPorts (driving plan.raw) table → (c : ℕ) (gate : Gate) → c < length plan.raw.cells → IsGateOf (driving plan.raw) gate (slice_get plan.raw.cells c) → IsComputable table gate
+gate-computable plan sound table fit c gate inside is =
+    let cell = item-some plan.raw.cells c inside in
+    computable plan sound table fit c cell.0 cell.1 gate (subst (λ (o : Option Cell). IsGateOf (driving plan.raw) gate o) cell.1 is)
+
+pub gate-computes : (plan : Plan) → IsSound plan → (table : List ℕ) → FitPorts (driving plan.raw) table → (c : ℕ) (gate : Gate) (n : ℕ) → IsGateOf (driving plan.raw) gate (slice_get plan.raw.cells c) → n ≡ gate_number table gate → (cell : Cell) → slice_get plan.raw.cells c ≡ Some cell → n ≡ number_at (plain (nets_of plan.raw table)) c cell % 2 ^ length (output_port cell.ports)
+gate-computes plan sound table fit c gate n is value cell found = value ∙ computed plan sound table fit c cell found gate (subst (λ (o : Option Cell). IsGateOf (driving plan.raw) gate o) found is)
