@@ -58,7 +58,7 @@ selection_is names kind selector items size s is value all default = record {
       let v : ℕ = formula_value s.selector store in
       sym (chosen_is names phase kind selector (map choice_labels items) store size g g g v (first_arm store v 0 s.arms) (selection_taken s store) is (sym (value.means phase store g)) (sym (first_match_is m v 0 items s.arms g all)) (ap (or_default (first_arm store v 0 s.arms)) default));
   fits = λ widths has. record {
-    selector = value.fits widths has;
-    arms = zip_all (IsItemArm names kind size) (ArmFits widths) items s.arms (arm_fits names kind size widths (λ x l is. is.value.fits widths has)) all;
+    selector = (size.width, value.fits widths has);
+    arms = zip_all (IsItemArm names kind size) (ArmFits widths) items s.arms (arm_fits names kind size widths (λ x l is. (size.width, is.value.fits widths has))) all;
   };
 }

@@ -1,15 +1,18 @@
 -- Targets of left sides of one part.
-use Rattle.std.proofs.Common.{◌≡◌, ℕ, ◌/◌, ◌^◌, List, [], ◌∷◌, ◌++◌, ap, sym, ◌∙◌, arith, Option, Some}
+use Rattle.std.proofs.Common.{◌≡◌, zero, suc, ℕ, ◌<◌, ◌≤◌, ◌/◌, ◌^◌, List, [], ◌∷◌, ◌++◌, ap, sym, ◌∙◌, arith, Option, Some}
 use Rattle.std.specs.Prelude.{ℤ, pos}
+use Rattle.std.proofs.Math.Nat.{mod-eq_of_lt}
 use Rattle.rand_pcg.specs.Lcg.{Lcg}
 use Rattle.vlog_syntax.specs.declared.expr.Expr.{Expr}
 use Rattle.vlog_meaning.specs.Scopes.{Names, Store}
 use Rattle.vlog_meaning.specs.Senses.{sense}
 use Rattle.vlog_effects.specs.LeftSides.{Part, Vector, part_vector, select_width}
 use Rattle.tb_machine.specs.declared.update.Update.{Update}
+use Rattle.tb_assigns.specs.declared.clip.Clip.{Clip}
+use Rattle.tb_assigns.specs.declared.piece.Piece.{Piece}
 use Rattle.tb_assigns.specs.declared.piece.Vector as code
-use Rattle.tb_assigns.specs.Pieces.{vector_is}
-use Rattle.tb_assigns.specs.Updates.{window_update, updates_of, window_drawn, base_drawn, index_drawn}
+use Rattle.tb_assigns.specs.Pieces.{vector_is, window_of, IsDrawn, listed, clip_update}
+use Rattle.tb_assigns.specs.Updates.{Window, some_bits, window_update, updates_of, window_drawn, base_drawn, index_drawn}
 use Rattle.tb_formulas.specs.declared.formula.Formula.{Formula}
 use Rattle.tb_formulas.specs.declared.formula.Formula.TheOpen as o
 use Rattle.tb_formulas.specs.declared.formula.Formula.TheVariants as v
@@ -27,8 +30,25 @@ whole v = omega arith
 pub number_is : (f : Formula) (n : ℕ) (store : Store) → f ≡ Number n → formula_value f store ≡ n
 number_is f n store is = valued (o.Number n) f store (v.rolls-Number n ∙ sym is)
 
-pub index_target : (names : Names) (p : Part) (vector : code.Vector) (size : ℕ) (x : Expr) (f : Formula) (t : Target) → part_vector names p ≡ Some (vector_is vector) → size ≡ select_width names (vector_is vector) p.select → ((phase : ℕ) (store : Store) (g : Lcg) → base_drawn names phase store (vector_is vector) p.select g ≡ index_drawn names phase store x g) → IsValueOf names x (sense names x).shape f → ((store : Store) (v : ℕ) → target_updates t store v ≡ window_update (record { vector = vector_is vector; base = pos (formula_value f store); size = size }) v) → ((widths : List ℕ) → FormulaFits widths f → TargetFits widths t) → IsTargetOf names (p ∷ []) t
-index_target names p vector size x f t known sized based value written fits = record {
+-- a value that has no more bits than its place is written as it is
+pub filled : (signal low width v : ℕ) → 1 ≤ width → v < 2 ^ width → listed (Some (record { signal = signal; low = low; width = width; value = v })) ≡ some_bits signal low width v
+filled signal low zero v some fits = absurd (omega (arith, some))
+filled signal low (suc n) v some fits =
+    let made : ℕ → List Update = λ x. record { signal = signal; low = low; width = suc n; value = x } ∷ [] in
+    sym (ap made (mod-eq_of_lt fits))
+
+pub piece_target : (names : Names) (p : Part) (piece : Piece) (clip : Clip) (bits : ℕ) (t : Target) → ((phase : ℕ) (store : Store) (g : Lcg) → IsDrawn names phase store p g g piece) → ((v : ℕ) → clip_update clip v ≡ window_update (window_of piece) v) → ((store : Store) (v : ℕ) → target_updates t store v ≡ clip_update clip v) → ((widths : List ℕ) → TargetFits widths bits t) → IsTargetOf names (p ∷ []) bits t
+piece_target names p piece clip bits t drawn clipped written fits = record {
+  means = λ phase store v g.
+      let joined : List Window × Lcg → List Update × Lcg = λ a. (updates_of (a.0 ++ []) v, a.1) in
+      ap joined (sym (drawn phase store g))
+      ∙ ap (λ (n : ℕ). (window_update (window_of piece) n, g)) (whole v)
+      ∙ ap (λ (us : List Update). (us, g)) (sym (written store v ∙ clipped v));
+  fits = λ widths has. fits widths;
+}
+
+pub index_target : (names : Names) (p : Part) (vector : code.Vector) (size : ℕ) (x : Expr) (f : Formula) (bits : ℕ) (t : Target) → part_vector names p ≡ Some (vector_is vector) → size ≡ select_width names (vector_is vector) p.select → ((phase : ℕ) (store : Store) (g : Lcg) → base_drawn names phase store (vector_is vector) p.select g ≡ index_drawn names phase store x g) → IsValueOf names x (sense names x).shape f → ((store : Store) (v : ℕ) → target_updates t store v ≡ window_update (record { vector = vector_is vector; base = pos (formula_value f store); size = size }) v) → ((widths : List ℕ) → FormulaFits widths f → TargetFits widths bits t) → IsTargetOf names (p ∷ []) bits t
+index_target names p vector size x f bits t known sized based value written fits = record {
   means = λ phase store v g.
       let joined : Option Vector → List Update × Lcg = λ o. let a = window_drawn names phase store p.select o g in (updates_of (a.0 ++ []) v, a.1) in
       let from : ℤ × Lcg → List Update × Lcg = λ b. (window_update (record { vector = vector_is vector; base = b.0; size = select_width names (vector_is vector) p.select }) (v / 2 ^ 0), b.1) in
@@ -38,5 +58,5 @@ index_target names p vector size x f t known sized based value written fits = re
       ∙ ap (λ (n : ℕ). (window_update (record { vector = vector_is vector; base = pos (formula_value f store); size = select_width names (vector_is vector) p.select }) n, g)) (whole v)
       ∙ ap (λ (n : ℕ). (window_update (record { vector = vector_is vector; base = pos (formula_value f store); size = n }) v, g)) (sym sized)
       ∙ ap (λ (us : List Update). (us, g)) (sym (written store v));
-  fits = λ widths has. fits widths (value.fits widths has);
+  fits = λ widths has. fits widths ((sense names x).shape.width, value.fits widths has);
 }

@@ -9,12 +9,12 @@ use Rattle.vlog_meaning.specs.Senses.{sense}
 use Rattle.tb_values.specs.Draws.{changes}
 use Rattle.tb_values.proofs.Evaluating.{same_value}
 use Rattle.tb_formulas.specs.declared.formula.Formula.{Formula}
-use Rattle.tb_formulas.specs.Formulas.{formula_value}
+use Rattle.tb_formulas.specs.Formulas.{formula_value, FitsIn}
 use Rattle.tb_formulas.specs.Signals.{HasSignals}
 use Rattle.tb_plans.specs.Selections.{OfCondition}
-use Rattle.tb_plans.specs.Values.{FormulaFits, IsValueOf, OfValue}
+use Rattle.tb_plans.specs.Values.{IsValueOf, OfValue}
 
-pub still_value : (names : Names) (x : Expr) (context : Shape) (f : Formula) → changes x ≡ false → ((store : Store) → formula_value f store ≡ (sense names x).value store context) → ((widths : List ℕ) → HasSignals names widths → FormulaFits widths f) → IsValueOf names x context f
+pub still_value : (names : Names) (x : Expr) (context : Shape) (f : Formula) → changes x ≡ false → ((store : Store) → formula_value f store ≡ (sense names x).value store context) → ((widths : List ℕ) → HasSignals names widths → FitsIn widths f context.width) → IsValueOf names x context f
 still_value names x context f quiet is fits = record {
   means = λ phase store g. sym (same_value names phase x g context store (formula_value f store) quiet (is store));
   fits = fits;
@@ -24,5 +24,5 @@ pub condition_value : (names : Names) (x : Expr) (f : Option Formula) → OfValu
 condition_value names x None is = tt
 condition_value names x (Some f) is = record {
   means = λ phase store g. ap (λ (p : ℕ × Lcg). (not (p.0 == 0), p.1)) (is.means phase store g);
-  fits = is.fits;
+  fits = λ widths has. ((sense names x).shape.width, is.fits widths has);
 }

@@ -4,13 +4,12 @@ use Rattle.rand_pcg.specs.Lcg.{Lcg}
 use Rattle.vlog_syntax.specs.declared.stmt.Assignment.{Assignment}
 use Rattle.vlog_meaning.specs.declared.shapes.Shape.{Shape}
 use Rattle.vlog_meaning.specs.Scopes.{Names, Store}
-use Rattle.vlog_meaning.specs.Senses.{sense, assigned}
-use Rattle.vlog_effects.specs.LeftSides.{parts_of, parts_width}
+use Rattle.vlog_effects.specs.LeftSides.{parts_of}
 use Rattle.tb_machine.specs.declared.update.Update.{Update}
 use Rattle.tb_values.specs.Values.{evaluated}
 use Rattle.tb_formulas.specs.Formulas.{formula_value}
 use Rattle.tb_plans.specs.declared.transfer.Transfer.{Transfer}
-use Rattle.tb_plans.specs.Making.{parts_written, IsTargetOf}
+use Rattle.tb_plans.specs.Making.{context_is, parts_written, IsTargetOf}
 use Rattle.tb_plans.specs.Transfers.{IsTransferOf}
 use Rattle.tb_plans.specs.Values.{IsValueOf}
 
@@ -18,15 +17,11 @@ use Rattle.tb_plans.specs.Values.{IsValueOf}
 abbrev with_right : Names → ℕ → Store → Assignment → ℕ × Lcg → List Update × Lcg
 with_right names phase store a r = parts_written names phase store (parts_of a.left) r.0 r.1
 
--- the size of an assignment
-abbrev pub context_is : Names → Assignment → Shape
-context_is names a = assigned (sense names a.value) (parts_width names (parts_of a.left))
-
-pub transfer_is : (names : Names) (a : Assignment) (t : Transfer) (context : Shape) → context ≡ context_is names a → IsValueOf names a.value context t.value → IsTargetOf names (parts_of a.left) t.target → IsTransferOf names a t
+pub transfer_is : (names : Names) (a : Assignment) (t : Transfer) (context : Shape) → context ≡ context_is names a → IsValueOf names a.value context t.value → IsTargetOf names (parts_of a.left) context.width t.target → IsTransferOf names a t
 transfer_is names a t context is value target = record {
   means = λ phase store g.
       ap (λ (c : Shape). with_right names phase store a (evaluated names phase a.value store c g)) (sym is)
       ∙ ap (with_right names phase store a) (value.means phase store g)
       ∙ target.means phase store (formula_value t.value store) g;
-  fits = λ widths has. record { value = value.fits widths has; target = target.fits widths has };
+  fits = λ widths has. record { bits = context.width; value = value.fits widths has; target = target.fits widths has };
 }

@@ -3,10 +3,12 @@ use Rattle.std.specs.Prelude.{◌≡◌, ℕ, List, Option, Some, None}
 use Rattle.std.specs.List.{AllZip}
 use Rattle.rand_pcg.specs.Lcg.{Lcg}
 use Rattle.vlog_syntax.specs.declared.expr.Expr.{Expr}
+use Rattle.vlog_syntax.specs.declared.stmt.Assignment.{Assignment}
 use Rattle.vlog_syntax.specs.declared.stmt.CaseKind.{CaseKind}
 use Rattle.vlog_meaning.specs.declared.shapes.Shape.{Shape}
 use Rattle.vlog_meaning.specs.Scopes.{Names, Store}
-use Rattle.vlog_effects.specs.LeftSides.{Part}
+use Rattle.vlog_meaning.specs.Senses.{sense, assigned}
+use Rattle.vlog_effects.specs.LeftSides.{Part, parts_of, parts_width}
 use Rattle.vlog_effects.specs.Steps.{dont_care}
 use Rattle.tb_machine.specs.declared.node.Choice.{Choice}
 use Rattle.tb_machine.specs.declared.node.Node.{Node}
@@ -26,17 +28,22 @@ use Rattle.tb_plans.specs.Plans.{IsPlanned}
 use Rattle.tb_plans.specs.Transfers.{target_updates, TargetFits, OfTransfer}
 use Rattle.tb_plans.specs.Values.{IsValueOf}
 
+-- the width and sign of an assignment
+abbrev pub context_is : Names → Assignment → Shape
+context_is names a = assigned (sense names a.value) (parts_width names (parts_of a.left))
+
 -- what the parts of a left side write of a value, and the generator after their indices
 abbrev pub parts_written : Names → ℕ → Store → List Part → ℕ → Lcg → List Update × Lcg
 parts_written names phase store parts v g = let d = windows_drawn names phase store parts g in (updates_of d.0 v, d.1)
 
-pub record IsTargetOf (names : Names) (parts : List Part) (t : Target) : Type 0 where
+-- the target of these parts, for values of so many bits
+pub record IsTargetOf (names : Names) (parts : List Part) (bits : ℕ) (t : Target) : Type 0 where
   pub means : (phase : ℕ) (store : Store) (v : ℕ) (g : Lcg) → parts_written names phase store parts v g ≡ (target_updates t store v, g)
-  pub fits : (widths : List ℕ) → HasSignals names widths → TargetFits widths t
+  pub fits : (widths : List ℕ) → HasSignals names widths → TargetFits widths bits t
 
-abbrev pub OfTarget : Names → List Part → Option Target → Type 0
-OfTarget names parts None = Unit {0}
-OfTarget names parts (Some t) = IsTargetOf names parts t
+abbrev pub OfTarget : Names → List Part → ℕ → Option Target → Type 0
+OfTarget names parts bits None = Unit {0}
+OfTarget names parts bits (Some t) = IsTargetOf names parts bits t
 
 -- a label, brought to the size of its case
 pub record IsLabelOf (names : Names) (kind : CaseKind) (size : Shape) (x : Expr) (l : Label) : Type 0 where

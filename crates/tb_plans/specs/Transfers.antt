@@ -1,6 +1,6 @@
 -- Plans of assignments: the value is a formula, or a word of `$random` alone, and goes to bits of one signal. A plan is one of an
 -- assignment where it brings the same updates in each phase.
-use Rattle.std.specs.Prelude.{◌≡◌, ◌≤◌, ℕ, pos, List, Option, Some, None}
+use Rattle.std.specs.Prelude.{◌≡◌, ◌<◌, ◌≤◌, ◌^◌, ℕ, pos, List, Option, Some, None}
 use Rattle.rand_pcg.specs.Lcg.{Lcg}
 use Rattle.rand_pcg.specs.Pcg.{pcg32}
 use Rattle.vlog_syntax.specs.declared.stmt.Assignment.{Assignment}
@@ -9,12 +9,12 @@ use Rattle.vlog_meaning.specs.Senses.{taken}
 use Rattle.tb_machine.specs.declared.update.Update.{Update}
 use Rattle.tb_values.specs.Draws.{random_shape}
 use Rattle.tb_assigns.specs.Pieces.{vector_is, clip_update}
-use Rattle.tb_assigns.specs.Updates.{window_update, updates}
-use Rattle.tb_formulas.specs.Formulas.{formula_value}
+use Rattle.tb_assigns.specs.Updates.{some_bits, window_update, updates}
+use Rattle.tb_formulas.specs.Formulas.{formula_value, FitsIn}
 use Rattle.tb_formulas.specs.Signals.{HasSignals}
 use Rattle.tb_plans.specs.Values.{FormulaFits}
 use Rattle.tb_plans.specs.declared.target.Target.{Target}
-use Rattle.tb_plans.specs.declared.target.Target.TheVariants.{Fixed, Indexed}
+use Rattle.tb_plans.specs.declared.target.Target.TheVariants.{Filled, Fixed, Indexed}
 use Rattle.tb_plans.specs.declared.transfer.Transfer.{Transfer}
 use Rattle.tb_plans.specs.declared.transfer.Draw.{Draw}
 use Rattle.tb_plans.specs.declared.transfer.Writing.{Writing}
@@ -22,6 +22,7 @@ use Rattle.tb_plans.specs.declared.transfer.Writing.TheVariants as w
 
 -- the updates of a target with a value; an index is read as unsigned
 abbrev pub target_updates : Target → Store → ℕ → List Update
+target_updates (Filled signal low width) store v = some_bits signal low width v
 target_updates (Fixed clip) store v = clip_update clip v
 target_updates (Indexed vector size index) store v = window_update (record { vector = vector_is vector; base = pos (formula_value index store); size = size }) v
 
@@ -34,18 +35,27 @@ draw_updates d store g = (target_updates d.target store (taken random_shape d.co
 
 -- formulas over signals of these widths
 
-abbrev pub TargetFits : List ℕ → Target → Type 0
-TargetFits widths (Fixed clip) = Unit {0}
-TargetFits widths (Indexed vector size index) = FormulaFits widths index
+-- a target takes values of so many bits
+abbrev pub TargetFits : List ℕ → ℕ → Target → Type 0
+TargetFits widths bits (Filled signal low width) = (1 ≤ width) × (bits ≤ width)
+TargetFits widths bits (Fixed clip) = Unit {0}
+TargetFits widths bits (Indexed vector size index) = FormulaFits widths index
+
+-- it takes this value
+pub record Takes (widths : List ℕ) (t : Target) (v : ℕ) : Type 0 where
+  pub bits : ℕ
+  pub value : v < 2 ^ bits
+  pub target : TargetFits widths bits t
 
 pub record TransferFits (widths : List ℕ) (t : Transfer) : Type 0 where
-  pub value : FormulaFits widths t.value
-  pub target : TargetFits widths t.target
+  pub bits : ℕ
+  pub value : FitsIn widths t.value bits
+  pub target : TargetFits widths bits t.target
 
 pub record DrawFits (widths : List ℕ) (d : Draw) : Type 0 where
   pub wide : 32 ≤ d.context.width
   pub narrow : d.context.width ≤ 128
-  pub target : TargetFits widths d.target
+  pub target : TargetFits widths d.context.width d.target
 
 -- the plan of an assignment
 

@@ -17,10 +17,11 @@ use Rattle.tb_formulas.specs.Signals.{HasSignals}
 abbrev pub FormulaFits : List ℕ → Formula → Type 0
 FormulaFits widths f = (n : ℕ) × FitsIn widths f n
 
--- each evaluation of the expression at a width and sign has the formula's value, and leaves the generator as it is
+-- each evaluation of the expression at a width and sign has the formula's value, which has no more bits, and leaves the generator
+-- as it is
 pub record IsValueOf (names : Names) (x : Expr) (context : Shape) (f : Formula) : Type 0 where
   pub means : (phase : ℕ) (store : Store) (g : Lcg) → evaluated names phase x store context g ≡ (formula_value f store, g)
-  pub fits : (widths : List ℕ) → HasSignals names widths → FormulaFits widths f
+  pub fits : (widths : List ℕ) → HasSignals names widths → FitsIn widths f context.width
 
 abbrev pub OfValue : Names → Expr → Shape → Option Formula → Type 0
 OfValue names x context None = Unit {0}

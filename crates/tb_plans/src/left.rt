@@ -20,29 +20,36 @@ use vlog_meaning::Scope;
 use vlog_syntax::{Expr, Identifier, LeftSide};
 
 /// A whole signal.
-fn whole_target(name: &Identifier, scope: &Scope) -> Target
+fn whole_target(name: &Identifier, bits: u8, scope: &Scope) -> Target
     requires { (v : Known) × IsPart (names_of scope.now) (record { name = name.now; select = Whole }) v }
-    ensures { IsTargetOf (names_of scope.now) (record { name = name.now; select = Whole } ∷ []) result }
+    ensures { IsTargetOf (names_of scope.now) (record { name = name.now; select = Whole } ∷ []) bits result }
 {
-    Target::Fixed(clip_of(whole_piece(name, scope)))
+    Target::of_clip(clip_of(whole_piece(name, scope)), bits)
 }
 
 /// `name[msb:lsb]`
-fn range_target(name: &Identifier, span: Span, msb: &Expr, lsb: &Expr, scope: &Scope) -> Target
+fn range_target(
+    name: &Identifier,
+    span: Span,
+    msb: &Expr,
+    lsb: &Expr,
+    bits: u8,
+    scope: &Scope,
+) -> Target
     requires { (v : Known) × IsPart (names_of scope.now) (record { name = name.now; select = Range span msb.now lsb.now }) v }
-    ensures { IsTargetOf (names_of scope.now) (record { name = name.now; select = Range span msb.now lsb.now } ∷ []) result }
+    ensures { IsTargetOf (names_of scope.now) (record { name = name.now; select = Range span msb.now lsb.now } ∷ []) bits result }
 {
-    Target::Fixed(clip_of(range_piece(name, span, msb, lsb, scope)))
+    Target::of_clip(clip_of(range_piece(name, span, msb, lsb, scope)), bits)
 }
 
 /// So many bits from an index on. They are fixed where the index is a number.
-fn indexed(vector: Vector, size: u8, index: Formula) -> Target
+fn indexed(vector: Vector, size: u8, index: Formula, bits: u8) -> Target
     ensures updates { (store : Store) (v : ℕ) → target_updates result store v ≡ window_update (record { vector = vector_is vector; base = pos (formula_value index store); size = size }) v }
-    ensures fits { (widths : List ℕ) → FormulaFits widths index → TargetFits widths result }
+    ensures fits { (widths : List ℕ) → FormulaFits widths index → TargetFits widths bits result }
 {
     if let Formula::Number(at) = index {
         let base = positive(at);
-        return Target::Fixed(clip_of(Piece { vector, base, size }));
+        return Target::of_clip(clip_of(Piece { vector, base, size }), bits);
     }
     Target::Indexed(vector, size, index)
 }
@@ -53,14 +60,15 @@ fn bit_target(
     name: &Identifier,
     span: Span,
     index: &Expr,
+    bits: u8,
     scope: &Scope,
 ) -> Result<Option<Target>, AllocError>
     requires { (v : Known) × IsPart (names_of scope.now) (record { name = name.now; select = Bit span index.now }) v }
-    ensures { IfOk result (λ t. OfTarget (names_of scope.now) (record { name = name.now; select = Bit span index.now } ∷ []) t) }
+    ensures { IfOk result (λ t. OfTarget (names_of scope.now) (record { name = name.now; select = Bit span index.now } ∷ []) bits t) }
 {
     let vector = vector_of(name, scope);
     match own_value_of(alloc, index, scope)? {
-        Some(at) => Ok(Some(indexed(vector, 1, at))),
+        Some(at) => Ok(Some(indexed(vector, 1, at, bits))),
         None => Ok(None),
     }
 }
@@ -72,42 +80,45 @@ fn part_target(
     span: Span,
     base: &Expr,
     count: &Expr,
+    bits: u8,
     scope: &Scope,
 ) -> Result<Option<Target>, AllocError>
     requires { (v : Known) × IsPart (names_of scope.now) (record { name = name.now; select = FromIndex span base.now count.now }) v }
-    ensures { IfOk result (λ t. OfTarget (names_of scope.now) (record { name = name.now; select = FromIndex span base.now count.now } ∷ []) t) }
+    ensures { IfOk result (λ t. OfTarget (names_of scope.now) (record { name = name.now; select = FromIndex span base.now count.now } ∷ []) bits t) }
 {
     let vector = vector_of(name, scope);
     let size = count_of(count, scope);
     match own_value_of(alloc, base, scope)? {
-        Some(at) => Ok(Some(indexed(vector, size, at))),
+        Some(at) => Ok(Some(indexed(vector, size, at, bits))),
         None => Ok(None),
     }
 }
 
-/// The target of a left side that is no concatenation, and whose index draws nothing.
+/// The target of a left side that is no concatenation and whose index draws nothing, for values of so many bits.
 pub(crate) fn target_of(
     alloc: Global,
     left: &LeftSide,
+    bits: u8,
     scope: &Scope,
 ) -> Result<Option<Target>, AllocError>
     requires { AreParts (names_of scope.now) (parts_of left.now) }
-    ensures { IfOk result (λ t. OfTarget (names_of scope.now) (parts_of left.now) t) }
+    ensures { IfOk result (λ t. OfTarget (names_of scope.now) (parts_of left.now) bits t) }
 {
     match left {
-        LeftSide::Name(name) => Ok(Some(whole_target(name, scope))),
+        LeftSide::Name(name) => Ok(Some(whole_target(name, bits, scope))),
         LeftSide::BitSelect(name, span, index) => {
-            bit_target(alloc, name, *span, index.get(), scope)
+            bit_target(alloc, name, *span, index.get(), bits, scope)
         }
         LeftSide::PartSelect(name, span, msb, lsb) => Ok(Some(range_target(
             name,
             *span,
             msb.get(),
             lsb.get(),
+            bits,
             scope,
         ))),
         LeftSide::IndexedPartSelect(name, span, base, count) => {
-            part_target(alloc, name, *span, base.get(), count.get(), scope)
+            part_target(alloc, name, *span, base.get(), count.get(), bits, scope)
         }
         LeftSide::Concatenation(..) => Ok(None),
     }

@@ -5,6 +5,7 @@
 #![tactic(auto)]
 
 mod choices;
+mod copy;
 mod left;
 mod nets;
 mod nodes;
@@ -15,6 +16,7 @@ mod target;
 mod transfer;
 mod value;
 
+pub use copy::Copied;
 pub use nets::plan_nets;
 pub use nodes::plan_all;
 pub use plan::{Loop, Plan};

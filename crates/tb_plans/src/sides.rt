@@ -3,9 +3,10 @@ ghost use Rattle.std.specs.Prelude.{◌≡◌, IfOk, Some, true};
 ghost use Rattle.vlog_meaning.specs.declared.function.Function.TheVariants.{Random};
 ghost use Rattle.vlog_meaning.specs.Functions.{function_of as function_named};
 ghost use Rattle.vlog_meaning.specs.Scopes.{names_of};
+ghost use Rattle.vlog_meaning.specs.Senses.{sense, IsContext};
 ghost use Rattle.vlog_effects.specs.LeftSides.{parts_of};
 ghost use Rattle.tb_assigns.specs.Updates.{CanAssign};
-ghost use Rattle.tb_plans.specs.Making.{IsTargetOf};
+ghost use Rattle.tb_plans.specs.Making.{context_is, IsTargetOf};
 ghost use Rattle.tb_plans.specs.Transfers.{OfTransfer, OfWriting};
 ghost use Rattle.tb_plans.specs.Values.{IsRandom};
 
@@ -15,7 +16,7 @@ use crate::transfer::{Draw, Transfer, Writing};
 use crate::value::value_of;
 use std::alloc::{AllocError, Global};
 use tb_assigns::{context_of, left_width};
-use vlog_meaning::{Function, Scope, function_of};
+use vlog_meaning::{Function, Scope, Shape, function_of};
 use vlog_syntax::{Assignment, Expr, Identifier};
 
 /// Whether a name is `$random`.
@@ -38,20 +39,31 @@ fn is_random(expr: &Expr) -> bool
     }
 }
 
-/// The plan of an assignment to a target.
+/// The width and sign of an assignment.
+fn assignment_context(assignment: &Assignment, scope: &Scope) -> Shape
+    requires { CanAssign (names_of scope.now) assignment.now }
+    ensures size { result ≡ context_is (names_of scope.now) assignment.now }
+    ensures context { IsContext (sense (names_of scope.now) assignment.now.value).shape result }
+{
+    let width = left_width(&assignment.left, scope);
+    context_of(assignment.value.get(), width, scope)
+}
+
+/// The plan of an assignment to a target, at its width and sign.
 fn writing_to(
     alloc: Global,
     assignment: &Assignment,
+    context: Shape,
     target: Target,
     scope: &Scope,
 ) -> Result<Option<Writing>, AllocError>
     requires can { CanAssign (names_of scope.now) assignment.now }
-    requires target { IsTargetOf (names_of scope.now) (parts_of assignment.now.left) target }
+    requires size { context ≡ context_is (names_of scope.now) assignment.now }
+    requires context { IsContext (sense (names_of scope.now) assignment.now.value).shape context }
+    requires target { IsTargetOf (names_of scope.now) (parts_of assignment.now.left) context.width target }
     ensures { IfOk result (λ w. OfWriting (names_of scope.now) assignment.now w) }
 {
     let right = assignment.value.get();
-    let width = left_width(&assignment.left, scope);
-    let context = context_of(right, width, scope);
     if is_random(right) {
         return Ok(Some(Writing::Draw(Draw { context, target })));
     }
@@ -70,8 +82,9 @@ pub(crate) fn writing_of(
     requires { CanAssign (names_of scope.now) assignment.now }
     ensures { IfOk result (λ w. OfWriting (names_of scope.now) assignment.now w) }
 {
-    match target_of(alloc, &assignment.left, scope)? {
-        Some(target) => writing_to(alloc, assignment, target, scope),
+    let context = assignment_context(assignment, scope);
+    match target_of(alloc, &assignment.left, context.width, scope)? {
+        Some(target) => writing_to(alloc, assignment, context, target, scope),
         None => Ok(None),
     }
 }

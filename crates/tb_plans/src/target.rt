@@ -1,8 +1,11 @@
 //! The bits that an assignment writes.
-ghost use Rattle.std.specs.Prelude.{◌≡◌, map};
-ghost use Rattle.vlog_meaning.specs.Scopes.{store_of};
-ghost use Rattle.tb_assigns.specs.Pieces.{listed};
-ghost use Rattle.tb_plans.specs.Transfers.{target_updates, TargetFits};
+ghost use Rattle.std.specs.Prelude.{◌≡◌, ℕ, pos, List, map};
+ghost use Rattle.vlog_meaning.specs.Scopes.{Store, store_of};
+ghost use Rattle.tb_assigns.specs.Pieces.{vector_is, listed, clip_update};
+ghost use Rattle.tb_assigns.specs.Updates.{window_update};
+ghost use Rattle.tb_formulas.specs.Formulas.{formula_value};
+ghost use Rattle.tb_plans.specs.Values.{FormulaFits};
+ghost use Rattle.tb_plans.specs.Transfers.{target_updates, TargetFits, Takes};
 
 use mcy_base::Word;
 use tb_assigns::{Clip, Piece, Vector, positive, update_of};
@@ -12,28 +15,62 @@ use tb_machine::Update;
 /// Where an assignment writes: bits of one signal.
 #[derive(Drop)]
 pub enum Target {
+    /// Always the same ones, and a value has no more: it is written as it is.
+    Filled { signal: u32, low: u8, width: u8 },
     /// Always the same ones.
     Fixed(Clip),
     /// So many, from an index on.
     Indexed(Vector, u8, Formula),
 }
 
+/// The update of so many bits of a signal, from an index on, with a value.
+#[inline(never)]
+fn update_from(
+    vector: Vector,
+    size: u8,
+    index: &Formula,
+    store: &[Word],
+    value: u128,
+) -> Option<Update>
+    requires { FormulaFits (map (λ w. w.width) store.now) index.now }
+    ensures { listed result ≡ window_update (record { vector = vector_is vector; base = pos (formula_value index.now (store_of store.now)); size = size }) value }
+{
+    let base = positive(index.value(store));
+    update_of(Piece { vector, base, size }, value)
+}
+
 impl Target {
+    /// The bits of a clip, for values of so many bits.
+    pub(crate) fn of_clip(clip: Clip, bits: u8) -> Target
+        ensures updates { (store : Store) (v : ℕ) → target_updates result store v ≡ clip_update clip v }
+        ensures fits { (widths : List ℕ) → TargetFits widths bits result }
+    {
+        if clip.skipped == 0 && clip.width >= 1 && bits <= clip.width {
+            return Target::Filled {
+                signal: clip.signal,
+                low: clip.low,
+                width: clip.width,
+            };
+        }
+        Target::Fixed(clip)
+    }
+
     /// The update with a value, if there is one.
+    #[inline]
     pub(crate) fn update(&self, store: &[Word], value: u128) -> Option<Update>
-        requires { TargetFits (map (λ w. w.width) store.now) self.now }
+        requires { Takes (map (λ w. w.width) store.now) self.now value }
         ensures { listed result ≡ target_updates self.now (store_of store.now) value }
     {
         match self {
+            Target::Filled { signal, low, width } => Some(Update {
+                signal: *signal,
+                low: *low,
+                width: *width,
+                value,
+            }),
             Target::Fixed(clip) => clip.update(value),
             Target::Indexed(vector, size, index) => {
-                let base = positive(index.value(store));
-                let piece = Piece {
-                    vector: *vector,
-                    base,
-                    size: *size,
-                };
-                update_of(piece, value)
+                update_from(*vector, *size, index, store, value)
             }
         }
     }

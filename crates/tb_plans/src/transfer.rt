@@ -1,5 +1,5 @@
 //! Assignments with a plan.
-ghost use Rattle.std.specs.Prelude.{◌≡◌, ◌≤◌, map};
+ghost use Rattle.std.specs.Prelude.{◌≡◌, ◌<◌, ◌≤◌, ◌^◌, map};
 ghost use Rattle.rand_pcg.specs.Pcg.{pcg32};
 ghost use Rattle.vlog_meaning.specs.Scopes.{store_of};
 ghost use Rattle.vlog_meaning.specs.Senses.{taken};
@@ -38,6 +38,7 @@ pub enum Writing {
 
 impl Transfer {
     /// The update, if a bit of the target lies in its signal.
+    #[inline]
     pub fn update(&self, store: &[Word]) -> Option<Update>
         requires { TransferFits (map (λ w. w.width) store.now) self.now }
         ensures { listed result ≡ transfer_updates self.now (store_of store.now) }
@@ -52,6 +53,7 @@ fn drawn(context: Shape, words: &mut Lcg64Xsh32) -> u128
     requires wide { 32 ≤ context.width }
     requires narrow { context.width ≤ 128 }
     ensures value { result ≡ taken random_shape context (pcg32 words.old).0 }
+    ensures fits { result < 2 ^ context.width }
     ensures words { words.new ≡ (pcg32 words.old).1 }
 {
     let word = words.next_word();

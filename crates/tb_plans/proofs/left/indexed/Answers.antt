@@ -7,5 +7,9 @@ use Rattle.tb_plans.proofs.left.indexed.Goals as goal
 
 pub returns-in-Number-clause-updates : goal.returns-in-Number-clause-updates
 returns-in-Number-clause-updates c store v =
-    c.clip_of.ensures v
+    c.of_clip.ensures.updates store v
+    ∙ c.clip_of.ensures v
     ∙ ap (λ (z : ℤ). window_update (record { vector = vector_is c.args.vector; base = z; size = c.args.size }) v) (c.positive-base.ensures ∙ ap pos (sym (number_is c.args.index c.in-Number.at store c.in-Number.is)))
+
+pub returns-in-Number-clause-fits : goal.returns-in-Number-clause-fits
+returns-in-Number-clause-fits c = λ widths fits. c.of_clip.ensures.fits widths
