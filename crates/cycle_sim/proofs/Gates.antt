@@ -55,13 +55,15 @@ two-words table ports (p ∷ q ∷ []) x y a b same long is_x is_y aw ab bw bb =
     subst (λ (l : List Wires). AreWords table l (a ∷ b ∷ [])) same (subst (λ (z : Wires). IsWordAt table z a) is_x (aw, ab), (subst (λ (z : Wires). IsWordAt table z b) is_y (bw, bb), tt))
 two-words table ports (p ∷ q ∷ r ∷ more) x y a b same long is_x is_y aw ab bw bb = absurd (omega (arith, long))
 
-pub three-words : (table : List ℕ) (ports list : List Wires) (x y z : Wires) (a b e : Word) → list ≡ ports → length list ≡ 3 → x ≡ get_or list 0 x → y ≡ get_or list 1 y → z ≡ get_or list 2 z → a.width ≡ x.width → a.bits ≡ parts_number table x.parts → b.width ≡ y.width → b.bits ≡ parts_number table y.parts → e.width ≡ z.width → e.bits ≡ parts_number table z.parts → AreWords table ports (a ∷ b ∷ e ∷ [])
-three-words table ports [] x y z a b e same long is_x is_y is_z aw ab bw bb ew eb = absurd (omega (arith, long))
-three-words table ports (p ∷ []) x y z a b e same long is_x is_y is_z aw ab bw bb ew eb = absurd (omega (arith, long))
-three-words table ports (p ∷ q ∷ []) x y z a b e same long is_x is_y is_z aw ab bw bb ew eb = absurd (omega (arith, long))
-three-words table ports (p ∷ q ∷ r ∷ []) x y z a b e same long is_x is_y is_z aw ab bw bb ew eb =
-    subst (λ (l : List Wires). AreWords table l (a ∷ b ∷ e ∷ [])) same (subst (λ (v : Wires). IsWordAt table v a) is_x (aw, ab), (subst (λ (v : Wires). IsWordAt table v b) is_y (bw, bb), (subst (λ (v : Wires). IsWordAt table v e) is_z (ew, eb), tt)))
-three-words table ports (p ∷ q ∷ r ∷ s ∷ more) x y z a b e same long is_x is_y is_z aw ab bw bb ew eb = absurd (omega (arith, long))
+pub three-items : (ports list : List Wires) (x y z : Wires) → list ≡ ports → length list ≡ 3 → x ≡ get_or list 0 x → y ≡ get_or list 1 y → z ≡ get_or list 2 z → ports ≡ x ∷ y ∷ z ∷ []
+three-items ports [] x y z same long is_x is_y is_z = absurd (omega (arith, long))
+three-items ports (p ∷ []) x y z same long is_x is_y is_z = absurd (omega (arith, long))
+three-items ports (p ∷ q ∷ []) x y z same long is_x is_y is_z = absurd (omega (arith, long))
+three-items ports (p ∷ q ∷ r ∷ []) x y z same long is_x is_y is_z = sym same ∙ (λ i. sym is_x i ∷ sym is_y i ∷ sym is_z i ∷ [])
+three-items ports (p ∷ q ∷ r ∷ s ∷ more) x y z same long is_x is_y is_z = absurd (omega (arith, long))
+
+pub word-is : (table : List ℕ) (wires : Wires) (word : Word) → word.width ≡ wires.width → word.bits ≡ parts_number table wires.parts → word_bits word ≡ wires_bits table wires
+word-is table wires word wide same = ap (λ (k : ℕ). low_bits k word.bits) wide ∙ ap (low_bits wires.width) same
 
 words-widths : (table : List ℕ) (wires : List Wires) (words : List Word) → AreWords table wires words → map (λ (w : Wires). w.width) wires ≡ map (λ (w : Word). w.width) words
 words-widths table [] [] are = refl
@@ -75,7 +77,7 @@ words-bits table [] [] are = refl
 words-bits table [] (a ∷ words) are = absurd are
 words-bits table (w ∷ more) [] are = absurd are
 words-bits table (w ∷ more) (a ∷ words) are =
-    let here : word_bits a ≡ wires_bits table w = ap (λ (k : ℕ). low_bits k a.bits) are.0.0 ∙ ap (low_bits w.width) are.0.1 in
+    let here = word-is table w a are.0.0 are.0.1 in
     ap (λ (b : List Bool). b ∷ map word_bits words) here ∙ ap (λ (l : List (List Bool)). wires_bits table w ∷ l) (words-bits table more words are.1)
 
 -- they have the widths of its kind, and its number is that of their bits

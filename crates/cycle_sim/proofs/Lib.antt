@@ -16,3 +16,4 @@ mod Fronts
 mod Few
 mod Settling
 mod Gates
+mod Selected

@@ -28,6 +28,9 @@ ones-at w k e =
 pub ones-down : (w : ℕ) → w ≤ 128 → 340282366920938463463374607431768211455 / 2 ^ (128 - w) ≡ 2 ^ w - 1
 ones-down w le = ones-at w (128 - w) (omega (arith, le))
 
+pub pow-next : (k : ℕ) → 2 ^ suc k ≡ 2 * 2 ^ k
+pow-next k = (let next : 1 + k ≡ suc k = omega arith in ap (λ (j : ℕ). 2 ^ j) (sym next) ∙ pow-add 2 1 k)
+
 -- the low bits, by a mask
 pub masked : (n w : ℕ) → w ≤ 128 → bit_and n (340282366920938463463374607431768211455 / 2 ^ (128 - w)) ≡ n % 2 ^ w
 masked n w le = ap (bit_and n) (ones-down w le) ∙ and_mask n w

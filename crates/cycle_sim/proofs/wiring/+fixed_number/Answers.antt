@@ -1,11 +1,12 @@
-use Rattle.std.proofs.Common.{◌≡◌, ℕ, suc, ◌+◌, ◌-◌, ◌*◌, ◌^◌, ◌<◌, ◌≤◌, Bool, false, List, [], ◌∷◌, length, take, drop, get_or, refl, sym, ◌∙◌, ap, subst, arith}
-use Rattle.std.proofs.lemmas.Nat.{pow_pos, pow-add}
+use Rattle.std.proofs.Common.{◌≡◌, ℕ, ◌+◌, ◌-◌, ◌*◌, ◌^◌, ◌<◌, ◌≤◌, Bool, false, List, [], ◌∷◌, length, take, drop, get_or, refl, ap, subst, arith}
+use Rattle.std.proofs.lemmas.Nat.{pow_pos}
 use Rattle.std.proofs.lemmas.List.{take_all}
 use Rattle.std.proofs.Math.Nat.{pow-le-pow_right}
 use Rattle.netlist_core.specs.declared.bit.Bit.{Bit}
 use Rattle.netlist_core.specs.declared.bit.Bit.TheVariants.{Fixed}
 use Rattle.netlist_core.specs.Numbers.{digit, number}
 use Rattle.netlist_core.specs.Runs.{Nets, bit_value, values}
+use Rattle.cycle_sim.proofs.PartNumbers.{pow-next}
 use Rattle.cycle_sim.proofs.wiring.+fixed_number.Goals as goal
 
 abbrev rest : List Bit → List Bit
@@ -29,8 +30,7 @@ fits-all : (bits : List Bit) (n : ℕ) → 1 ≤ length bits → n < 2 ^ length 
 fits-all [] n some small = absurd (omega (arith, some))
 fits-all (x ∷ more) n some small =
     let low : n < 2 ^ length more = subst (λ (l : List Bit). n < 2 ^ length l) (rest-is x more) small in
-    let next : 1 + length more ≡ suc (length more) = omega arith in
-    let twice : 2 ^ suc (length more) ≡ 2 * 2 ^ length more = ap (λ (k : ℕ). 2 ^ k) (sym next) ∙ pow-add 2 1 (length more) in
+    let twice = pow-next (length more) in
     omega (arith, low, twice)
 
 small-all : (bits : List Bit) (n : ℕ) → 1 ≤ length bits → length bits ≤ 128 → n < 2 ^ length (rest bits) → 2 * n + 1 < 340282366920938463463374607431768211456
