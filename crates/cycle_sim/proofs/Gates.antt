@@ -34,26 +34,16 @@ pub item-readable : (table : List ℕ) (ports list : List Wires) (i : ℕ) (x : 
 item-readable table ports list i x all same inside is =
     subst (IsReadable table) (sym is) (readable-at table list i x (subst (AllReadable table) (sym same) all) inside)
 
-abbrev IsWordAt : List ℕ → Wires → Word → Type 0
-IsWordAt table wires word = (word.width ≡ wires.width) × (word.bits ≡ parts_number table wires.parts)
+pub one-item : (ports list : List Wires) (x : Wires) → list ≡ ports → length list ≡ 1 → x ≡ get_or list 0 x → ports ≡ x ∷ []
+one-item ports [] x same long is = absurd (omega (arith, long))
+one-item ports (p ∷ []) x same long is = sym same ∙ (λ i. sym is i ∷ [])
+one-item ports (p ∷ q ∷ more) x same long is = absurd (omega (arith, long))
 
--- the words are those at the wires
-abbrev pub AreWords : List ℕ → List Wires → List Word → Type 0
-AreWords table [] [] = Unit {0}
-AreWords table (wires ∷ more) (word ∷ rest) = IsWordAt table wires word × AreWords table more rest
-AreWords table wires words = ⊥
-
-pub one-word : (table : List ℕ) (ports list : List Wires) (x : Wires) (a : Word) → list ≡ ports → length list ≡ 1 → x ≡ get_or list 0 x → a.width ≡ x.width → a.bits ≡ parts_number table x.parts → AreWords table ports (a ∷ [])
-one-word table ports [] x a same long is w b = absurd (omega (arith, long))
-one-word table ports (p ∷ []) x a same long is w b = subst (λ (l : List Wires). AreWords table l (a ∷ [])) same (subst (λ (z : Wires). IsWordAt table z a) is (w, b), tt)
-one-word table ports (p ∷ q ∷ more) x a same long is w b = absurd (omega (arith, long))
-
-pub two-words : (table : List ℕ) (ports list : List Wires) (x y : Wires) (a b : Word) → list ≡ ports → length list ≡ 2 → x ≡ get_or list 0 x → y ≡ get_or list 1 y → a.width ≡ x.width → a.bits ≡ parts_number table x.parts → b.width ≡ y.width → b.bits ≡ parts_number table y.parts → AreWords table ports (a ∷ b ∷ [])
-two-words table ports [] x y a b same long is_x is_y aw ab bw bb = absurd (omega (arith, long))
-two-words table ports (p ∷ []) x y a b same long is_x is_y aw ab bw bb = absurd (omega (arith, long))
-two-words table ports (p ∷ q ∷ []) x y a b same long is_x is_y aw ab bw bb =
-    subst (λ (l : List Wires). AreWords table l (a ∷ b ∷ [])) same (subst (λ (z : Wires). IsWordAt table z a) is_x (aw, ab), (subst (λ (z : Wires). IsWordAt table z b) is_y (bw, bb), tt))
-two-words table ports (p ∷ q ∷ r ∷ more) x y a b same long is_x is_y aw ab bw bb = absurd (omega (arith, long))
+pub two-items : (ports list : List Wires) (x y : Wires) → list ≡ ports → length list ≡ 2 → x ≡ get_or list 0 x → y ≡ get_or list 1 y → ports ≡ x ∷ y ∷ []
+two-items ports [] x y same long is_x is_y = absurd (omega (arith, long))
+two-items ports (p ∷ []) x y same long is_x is_y = absurd (omega (arith, long))
+two-items ports (p ∷ q ∷ []) x y same long is_x is_y = sym same ∙ (λ i. sym is_x i ∷ sym is_y i ∷ [])
+two-items ports (p ∷ q ∷ r ∷ more) x y same long is_x is_y = absurd (omega (arith, long))
 
 pub three-items : (ports list : List Wires) (x y z : Wires) → list ≡ ports → length list ≡ 3 → x ≡ get_or list 0 x → y ≡ get_or list 1 y → z ≡ get_or list 2 z → ports ≡ x ∷ y ∷ z ∷ []
 three-items ports [] x y z same long is_x is_y is_z = absurd (omega (arith, long))
@@ -65,27 +55,12 @@ three-items ports (p ∷ q ∷ r ∷ s ∷ more) x y z same long is_x is_y is_z 
 pub word-is : (table : List ℕ) (wires : Wires) (word : Word) → word.width ≡ wires.width → word.bits ≡ parts_number table wires.parts → word_bits word ≡ wires_bits table wires
 word-is table wires word wide same = ap (λ (k : ℕ). low_bits k word.bits) wide ∙ ap (low_bits wires.width) same
 
-words-widths : (table : List ℕ) (wires : List Wires) (words : List Word) → AreWords table wires words → map (λ (w : Wires). w.width) wires ≡ map (λ (w : Word). w.width) words
-words-widths table [] [] are = refl
-words-widths table [] (a ∷ words) are = absurd are
-words-widths table (w ∷ more) [] are = absurd are
-words-widths table (w ∷ more) (a ∷ words) are =
-    ap (λ (k : ℕ). k ∷ map (λ (x : Wires). x.width) more) (sym are.0.0) ∙ ap (λ (l : List ℕ). a.width ∷ l) (words-widths table more words are.1)
+-- the gate with these ports
+pub shape-is : (gate : Gate) (ports : List Wires) → gate.ports ≡ ports → HasWidths (shape_of gate.kind) (map (λ (w : Wires). w.width) gate.ports ++ gate.width ∷ []) → HasWidths (shape_of gate.kind) (map (λ (w : Wires). w.width) ports ++ gate.width ∷ [])
+shape-is gate ports is shape = subst (λ (l : List Wires). HasWidths (shape_of gate.kind) (map (λ (w : Wires). w.width) l ++ gate.width ∷ [])) is shape
 
-words-bits : (table : List ℕ) (wires : List Wires) (words : List Word) → AreWords table wires words → map word_bits words ≡ map (wires_bits table) wires
-words-bits table [] [] are = refl
-words-bits table [] (a ∷ words) are = absurd are
-words-bits table (w ∷ more) [] are = absurd are
-words-bits table (w ∷ more) (a ∷ words) are =
-    let here = word-is table w a are.0.0 are.0.1 in
-    ap (λ (b : List Bool). b ∷ map word_bits words) here ∙ ap (λ (l : List (List Bool)). wires_bits table w ∷ l) (words-bits table more words are.1)
-
--- they have the widths of its kind, and its number is that of their bits
-pub words-shape : (table : List ℕ) (gate : Gate) (words : List Word) → IsComputable table gate → AreWords table gate.ports words → HasWidths (shape_of gate.kind) (map (λ (w : Word). w.width) words ++ gate.width ∷ [])
-words-shape table gate words computable are = subst (λ (l : List ℕ). HasWidths (shape_of gate.kind) (l ++ gate.width ∷ [])) (words-widths table gate.ports words are) computable.shape
-
-pub words-number : (table : List ℕ) (gate : Gate) (words : List Word) (n : ℕ) → AreWords table gate.ports words → n ≡ cell_value gate.kind gate.is_signed gate.width (map word_bits words) → n ≡ gate_number table gate
-words-number table gate words n are is = is ∙ ap (λ (l : List (List Bool)). cell_value gate.kind gate.is_signed gate.width l) (words-bits table gate.ports words are)
+pub number-is : (table : List ℕ) (gate : Gate) (ports : List Wires) (n : ℕ) → gate.ports ≡ ports → n ≡ cell_value gate.kind gate.is_signed gate.width (map (wires_bits table) ports) → n ≡ gate_number table gate
+number-is table gate ports n is value = value ∙ sym (ap (λ (l : List Wires). cell_value gate.kind gate.is_signed gate.width (map (wires_bits table) l)) is)
 
 -- The gate of a cell.
 

@@ -16,4 +16,4 @@ mod Fronts
 mod Few
 mod Settling
 mod Gates
-mod Selected
+mod ByNumbers

@@ -1,78 +1,15 @@
 //! The numbers of a cycle: the cells that are marked are computed in the order of the netlist, and what changes marks its readers, which are further on.
-ghost use Rattle.std.specs.Prelude.{◌≡◌, ℕ, ◌<◌, ◌*◌, ◌%◌, ◌^◌, Bool, [], ◌∷◌, length, slice_index_or};
+ghost use Rattle.std.specs.Prelude.{◌≡◌, ℕ, ◌<◌, ◌*◌, [], length, slice_index_or};
 ghost use Rattle.std.specs.List.{All};
-ghost use Rattle.netlist_core.specs.Shapes.{shape_of, HasWidths};
 ghost use Rattle.netlist_core.specs.Solutions.{driving};
-ghost use Rattle.cell_meaning.specs.Words.{HasValue};
-ghost use Rattle.cycle_sim.specs.Parts.{IsReadable, wires_bits};
-ghost use Rattle.cycle_sim.specs.Gates.{AllGates, IsComputable, gate_number};
+ghost use Rattle.cycle_sim.specs.Gates.{AllGates};
 ghost use Rattle.cycle_sim.specs.Marks.{mark_at, front, AreReaders, AreHeld, IsPut, IsComputed};
 
+use crate::computing::compute;
 use crate::marks::{mark_all, next_marked, unmark};
-use crate::parts::{Gate, Wires, wires_number, word_at};
-use cell_meaning::{number_of_one, number_of_three, number_of_two};
+use crate::parts::Gate;
 use mcy_base::Items;
-use netlist_core::{CellKind, Netlist};
-
-/// The number at B where the one at S is not 0, and else that at A. The other one is not read.
-fn selected(table: &[u128], s: &Wires, a: &Wires, b: &Wires) -> u128
-    requires select { IsReadable table.now s.now }
-    requires first { IsReadable table.now a.now }
-    requires second { IsReadable table.now b.now }
-    ensures { (signed : Bool) (w : ℕ) → HasValue result CellKind.Mux signed w (wires_bits table.now s.now ∷ wires_bits table.now a.now ∷ wires_bits table.now b.now ∷ []) }
-{
-    let select = wires_number(table, s);
-    if select == 0 {
-        return wires_number(table, a);
-    }
-    wires_number(table, b)
-}
-
-/// The number of a gate with three ports.
-fn of_three(gate: &Gate, table: &[u128], a: &Wires, b: &Wires, d: &Wires) -> u128
-    requires first { IsReadable table.now a.now }
-    requires second { IsReadable table.now b.now }
-    requires third { IsReadable table.now d.now }
-    requires shape { HasWidths (shape_of gate.now.kind) (a.now.width ∷ b.now.width ∷ d.now.width ∷ gate.now.width ∷ []) }
-    ensures { HasValue result gate.now.kind gate.now.is_signed gate.now.width (wires_bits table.now a.now ∷ wires_bits table.now b.now ∷ wires_bits table.now d.now ∷ []) }
-{
-    match gate.kind {
-        CellKind::Mux => selected(table, a, b, d),
-        _ => {
-            let first = word_at(table, a);
-            let second = word_at(table, b);
-            let third = word_at(table, d);
-            number_of_three(gate.kind, gate.is_signed, gate.width, first, second, third)
-        }
-    }
-}
-
-/// The number of a gate: its low bits are the value at Y.
-fn whole_number(gate: &Gate, table: &[u128]) -> u128
-    requires { IsComputable table.now gate.now }
-    ensures { result % 2 ^ gate.now.width ≡ gate_number table.now gate.now }
-{
-    match gate.ports.as_slice() {
-        [only] => number_of_one(gate.kind, gate.is_signed, gate.width, word_at(table, only)),
-        [left, right] => number_of_two(
-            gate.kind,
-            gate.is_signed,
-            gate.width,
-            word_at(table, left),
-            word_at(table, right),
-        ),
-        [a, b, d] => of_three(gate, table, a, b, d),
-        _ => 0,
-    }
-}
-
-/// The number at a gate's Y.
-fn compute(gate: &Gate, table: &[u128]) -> u128
-    requires { IsComputable table.now gate.now }
-    ensures { result ≡ gate_number table.now gate.now }
-{
-    whole_number(gate, table) & (u128::MAX >> (128 - gate.width))
-}
+use netlist_core::Netlist;
 
 /// Gives a driver a number, and marks the cells that read it where it had another one.
 pub(crate) fn put(

@@ -1,6 +1,7 @@
 //! A simulator of netlists, cycle by cycle.
 #![tactic(auto)]
 
+mod computing;
 mod cycle;
 mod laws;
 mod marks;

@@ -4,7 +4,7 @@ use Rattle.netlist_core.specs.Shapes.{shape_of, HasWidths}
 use Rattle.cell_meaning.specs.Words.{HasValue}
 use Rattle.cycle_sim.specs.Parts.{wires_bits}
 use Rattle.cycle_sim.proofs.Gates.{word-is}
-use Rattle.cycle_sim.proofs.cycle.of_three.Goals as goal
+use Rattle.cycle_sim.proofs.computing.of_three.Goals as goal
 
 pub number_of_three-requires : goal.number_of_three-requires
 number_of_three-requires c = subst (λ (l : List ℕ). HasWidths (shape_of c.args.gate.now.kind) l) (λ i. sym c.word_at-first.ensures.width i ∷ sym c.word_at-second.ensures.width i ∷ sym c.word_at-third.ensures.width i ∷ c.args.gate.now.width ∷ []) c.requires.shape

@@ -1,7 +1,7 @@
 use Rattle.std.proofs.Common.{◌∙◌, sym}
 use Rattle.cycle_sim.specs.Parts.{wires_bits}
-use Rattle.cycle_sim.proofs.Selected.{read-bits, first-selected, second-selected}
-use Rattle.cycle_sim.proofs.cycle.selected.Goals as goal
+use Rattle.cycle_sim.proofs.ByNumbers.{read-bits, first-selected, second-selected}
+use Rattle.cycle_sim.proofs.computing.selected.Goals as goal
 
 pub returns-then-select-eq0 : goal.returns-then-select-eq0
 returns-then-select-eq0 c = λ signed w.

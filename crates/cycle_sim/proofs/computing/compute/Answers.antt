@@ -1,6 +1,6 @@
 use Rattle.std.proofs.Common.{◌∙◌}
 use Rattle.cycle_sim.proofs.PartNumbers.{masked}
-use Rattle.cycle_sim.proofs.cycle.compute.Goals as goal
+use Rattle.cycle_sim.proofs.computing.compute.Goals as goal
 
 pub returns : goal.returns
 returns c = masked c.whole_number.result c.args.gate.now.width c.requires.narrow ∙ c.whole_number.ensures

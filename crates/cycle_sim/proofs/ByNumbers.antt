@@ -1,0 +1,59 @@
+-- What cells come to by the numbers at their ports.
+use Rattle.std.proofs.Common.{◌≡◌, ◌≢◌, ℕ, zero, suc, ◌+◌, ◌/◌, ◌%◌, ◌^◌, ◌<◌, ◌≤◌, Bool, true, false, List, [], ◌∷◌, bit_and, bit_or, nat_eq, refl, sym, ◌∙◌, ap, subst, inl, inr, arith}
+use Rattle.std.specs.Prelude.{bit_xor}
+use Rattle.std.proofs.lemmas.Bool.Decides.{eqb_tells}
+use Rattle.netlist_core.specs.declared.cell.CellKind.{CellKind}
+use Rattle.netlist_core.specs.declared.cell.CellKind.TheVariants.{And, Or, Xor, Add, Eq, Mux}
+use Rattle.netlist_core.specs.Numbers.{digit, number, low_bits}
+use Rattle.netlist_core.specs.Cells.{some_one}
+use Rattle.cell_meaning.specs.Words.{HasValue}
+use Rattle.cell_meaning.proofs.Parts.{wrapped}
+use Rattle.cycle_sim.specs.declared.parts.Wires.{Wires}
+use Rattle.cycle_sim.specs.Parts.{parts_number, wires_bits}
+use Rattle.cycle_sim.proofs.PartNumbers.{pow-next}
+
+number-low : (w n : ℕ) → n < 2 ^ w → number (low_bits w n) ≡ n
+unfolding low_bits
+number-low zero n small = omega (arith, small)
+number-low (suc w) n small =
+    let twice = pow-next w in
+    let above : number (low_bits w (n / 2)) ≡ n / 2 = number-low w (n / 2) (omega (arith, small, twice)) in
+    elim (eqb_tells (n % 2) 1) [ inl h ↦ rw h.0 (let odd : n % 2 ≡ 1 = h.1 in omega (arith, above, odd)) | inr h ↦ rw h.0 (let even : n % 2 ≢ 1 = h.1 in omega (arith, above, even)) ]
+
+-- the number that was read is that of the bits
+pub read-bits : (table : List ℕ) (wires : Wires) (n : ℕ) → n ≡ parts_number table wires.parts → n < 2 ^ wires.width → number (wires_bits table wires) ≡ n
+read-bits table wires n is fits = ap (λ (k : ℕ). number (low_bits wires.width k)) (sym is) ∙ number-low wires.width n fits
+
+none-set : (bits : List Bool) → number bits ≡ 0 → some_one bits ≡ false
+none-set [] none = refl
+none-set (true ∷ more) none = absurd (omega (arith, none))
+none-set (false ∷ more) none = none-set more (omega (arith, none))
+
+one-set : (bits : List Bool) → number bits ≢ 0 → some_one bits ≡ true
+one-set [] some = absurd (some refl)
+one-set (true ∷ more) some = refl
+one-set (false ∷ more) some = one-set more (omega (arith, some))
+
+pub first-selected : (s a b : List Bool) (n : ℕ) (signed : Bool) (w : ℕ) → number s ≡ 0 → number a ≡ n → HasValue n Mux signed w (s ∷ a ∷ b ∷ [])
+first-selected s a b n signed w none is = (let e : some_one s ≡ false = none-set s none in rw e (ap (λ (k : ℕ). k % 2 ^ w) (sym is)))
+
+pub second-selected : (s a b : List Bool) (n : ℕ) (signed : Bool) (w : ℕ) → number s ≢ 0 → number b ≡ n → HasValue n Mux signed w (s ∷ a ∷ b ∷ [])
+second-selected s a b n signed w some is = (let e : some_one s ≡ true = one-set s some in rw e (ap (λ (k : ℕ). k % 2 ^ w) (sym is)))
+
+pub of-kind : (kind known : CellKind) (n : ℕ) (signed : Bool) (w : ℕ) (ports : List (List Bool)) → kind ≡ known → HasValue n known signed w ports → HasValue n kind signed w ports
+of-kind kind known n signed w ports is value = subst (λ (k : CellKind). HasValue n k signed w ports) (sym is) value
+
+pub by-and : (a b : List Bool) (m n : ℕ) (signed : Bool) (w : ℕ) → number a ≡ m → number b ≡ n → HasValue (bit_and m n) And signed w (a ∷ b ∷ [])
+by-and a b m n signed w x y = λ i. bit_and (sym x i) (sym y i) % 2 ^ w
+
+pub by-or : (a b : List Bool) (m n : ℕ) (signed : Bool) (w : ℕ) → number a ≡ m → number b ≡ n → HasValue (bit_or m n) Or signed w (a ∷ b ∷ [])
+by-or a b m n signed w x y = λ i. bit_or (sym x i) (sym y i) % 2 ^ w
+
+pub by-xor : (a b : List Bool) (m n : ℕ) (signed : Bool) (w : ℕ) → number a ≡ m → number b ≡ n → HasValue (bit_xor m n) Xor signed w (a ∷ b ∷ [])
+by-xor a b m n signed w x y = λ i. bit_xor (sym x i) (sym y i) % 2 ^ w
+
+pub by-add : (a b : List Bool) (m n : ℕ) (signed : Bool) (w : ℕ) → number a ≡ m → number b ≡ n → w ≤ 128 → HasValue ((m + n) % 2 ^ 128) Add signed w (a ∷ b ∷ [])
+by-add a b m n signed w x y narrow = wrapped ((m + n) % 2 ^ 128) (number a + number b) w narrow (λ i. (sym x i + sym y i) % 2 ^ 128)
+
+pub by-eq : (a b : List Bool) (m n : ℕ) (signed : Bool) (w : ℕ) → number a ≡ m → number b ≡ n → (v : ℕ) → v ≡ digit (nat_eq m n) → HasValue v Eq signed w (a ∷ b ∷ [])
+by-eq a b m n signed w x y v is = ap (λ (k : ℕ). k % 2 ^ w) is ∙ (λ i. digit (nat_eq (sym x i) (sym y i)) % 2 ^ w)
