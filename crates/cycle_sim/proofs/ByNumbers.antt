@@ -1,5 +1,5 @@
 -- What cells come to by the numbers at their ports.
-use Rattle.std.proofs.Common.{◌≡◌, ◌≢◌, ℕ, zero, suc, ◌+◌, ◌/◌, ◌%◌, ◌^◌, ◌<◌, ◌≤◌, Bool, true, false, List, [], ◌∷◌, bit_and, bit_or, nat_eq, refl, sym, ◌∙◌, ap, subst, inl, inr, arith}
+use Rattle.std.proofs.Common.{◌≡◌, ◌≢◌, ℕ, zero, suc, ◌+◌, ◌/◌, ◌%◌, ◌^◌, ◌<◌, ◌≤◌, Bool, true, false, List, [], ◌∷◌, bit_and, bit_or, not, nat_eq, refl, sym, ◌∙◌, ap, subst, inl, inr, arith}
 use Rattle.std.specs.Prelude.{bit_xor}
 use Rattle.std.proofs.lemmas.Bool.Decides.{eqb_tells}
 use Rattle.netlist_core.specs.declared.cell.CellKind.{CellKind}
@@ -34,11 +34,18 @@ one-set [] some = absurd (some refl)
 one-set (true ∷ more) some = refl
 one-set (false ∷ more) some = one-set more (omega (arith, some))
 
-pub first-selected : (s a b : List Bool) (n : ℕ) (signed : Bool) (w : ℕ) → number s ≡ 0 → number a ≡ n → HasValue n Mux signed w (s ∷ a ∷ b ∷ [])
-first-selected s a b n signed w none is = (let e : some_one s ≡ false = none-set s none in rw e (ap (λ (k : ℕ). k % 2 ^ w) (sym is)))
+-- one of the bits is set where the number is not 0
+pub set-is : (bits : List Bool) (n : ℕ) → number bits ≡ n → some_one bits ≡ not (nat_eq n 0)
+set-is bits n is = elim (eqb_tells n 0) [
+  | inl h ↦ rw h.0 (none-set bits (is ∙ h.1))
+  | inr h ↦ rw h.0 (one-set bits (λ none. h.1 (sym is ∙ none)))
+]
 
-pub second-selected : (s a b : List Bool) (n : ℕ) (signed : Bool) (w : ℕ) → number s ≢ 0 → number b ≡ n → HasValue n Mux signed w (s ∷ a ∷ b ∷ [])
-second-selected s a b n signed w some is = (let e : some_one s ≡ true = one-set s some in rw e (ap (λ (k : ℕ). k % 2 ^ w) (sym is)))
+pub first-selected : (s a b : List Bool) (n : ℕ) (signed : Bool) (w : ℕ) → some_one s ≡ false → number a ≡ n → HasValue n Mux signed w (s ∷ a ∷ b ∷ [])
+first-selected s a b n signed w none is = rw none (ap (λ (k : ℕ). k % 2 ^ w) (sym is))
+
+pub second-selected : (s a b : List Bool) (n : ℕ) (signed : Bool) (w : ℕ) → some_one s ≡ true → number b ≡ n → HasValue n Mux signed w (s ∷ a ∷ b ∷ [])
+second-selected s a b n signed w some is = rw some (ap (λ (k : ℕ). k % 2 ^ w) (sym is))
 
 pub of-kind : (kind known : CellKind) (n : ℕ) (signed : Bool) (w : ℕ) (ports : List (List Bool)) → kind ≡ known → HasValue n known signed w ports → HasValue n kind signed w ports
 of-kind kind known n signed w ports is value = subst (λ (k : CellKind). HasValue n k signed w ports) (sym is) value

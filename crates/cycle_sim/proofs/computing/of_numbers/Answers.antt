@@ -6,7 +6,7 @@ use Rattle.cell_meaning.specs.Words.{HasValue}
 use Rattle.cycle_sim.specs.Parts.{wires_bits}
 use Rattle.cycle_sim.proofs.Gates.{word-is}
 use Rattle.cycle_sim.proofs.ByNumbers.{read-bits, of-kind, by-and, by-or, by-xor, by-add, by-eq}
-use Rattle.cycle_sim.proofs.computing.of_two.Goals as goal
+use Rattle.cycle_sim.proofs.computing.of_numbers.Goals as goal
 
 pub number_of_two-requires : goal.number_of_two-requires
 number_of_two-requires c = subst (λ (l : List ℕ). HasWidths (shape_of c.args.gate.now.kind) l) (λ i. sym c.word_of-left.ensures.width i ∷ sym c.word_of-right.ensures.width i ∷ c.args.gate.now.width ∷ []) c.requires.shape
