@@ -1,5 +1,5 @@
 -- What plans of assigns give, and signals that get values whole.
-use Rattle.std.proofs.Common.{◌≡◌, zero, suc, ℕ, ◌+◌, ◌*◌, ◌/◌, ◌%◌, ◌^◌, ◌<◌, List, [], ◌∷◌, map, Option, Some, None, sym, ap, ◌∙◌, subst, zero-add, arith}
+use Rattle.std.proofs.Common.{◌≡◌, zero, suc, ℕ, ◌+◌, ◌*◌, ◌/◌, ◌%◌, ◌^◌, ◌<◌, List, [], ◌∷◌, map, length, Option, Some, None, sym, ap, ◌∙◌, subst, zero-add, arith}
 use Rattle.std.specs.Prelude.{slice_index, slice_set}
 use Rattle.std.proofs.Math.Nat.{div-eq_of_lt, mod-one}
 use Rattle.std.specs.List.{All}
@@ -14,7 +14,9 @@ use Rattle.tb_assigns.specs.Pieces.{listed}
 use Rattle.tb_assigns.proofs.Fitting.{all_fit}
 use Rattle.tb_evaluator.specs.Meanings.{store_in, HasSignals}
 use Rattle.tb_evaluator.proofs.Served.{same_store, updates_fit}
+use Rattle.tb_plans.specs.declared.copy.Copied.{Copied}
 use Rattle.tb_plans.specs.declared.transfer.Transfer.{Transfer}
+use Rattle.tb_plans.specs.Copies.{IsCopied}
 use Rattle.tb_plans.specs.Transfers.{IsTransferOf, transfer_updates}
 use Rattle.tb_settling.specs.Settling.{assign_updates, still}
 
@@ -32,6 +34,18 @@ module _ (t : Transfer) (ws : List Word) (w : World) (values : map (λ x. x.bits
 
   pub none_applies : o ≡ None → w ≡ assigned w (transfer_updates t (store_in w))
   none_applies is = ap (assigned w) (sym (given ∙ ap listed is))
+
+-- A copy of a whole signal is one update of it.
+
+module _ (t : Transfer) (ws : List Word) (w : World) (values : map (λ x. x.bits) ws ≡ w.store) (widths : map (λ x. x.width) ws ≡ w.widths) (c : Copied) (is : IsCopied (map (λ x. x.width) ws) (transfer_updates t (store_of ws)) c) where
+  pub copied_known : c.signal < length w.widths
+  copied_known = subst (λ (l : List ℕ). c.signal < length l) widths is.known
+
+  pub copied_wide : c.word.width ≡ slice_index w.widths c.signal
+  copied_wide = is.width ∙ ap (λ (l : List ℕ). slice_index l c.signal) widths
+
+  pub copied_applies : (after : World) → after ≡ assigned w (record { signal = c.signal; low = 0; width = c.word.width; value = c.word.bits } ∷ []) → after ≡ assigned w (transfer_updates t (store_in w))
+  copied_applies after goes = goes ∙ ap (assigned w) (sym is.updates_are ∙ ap (transfer_updates t) (same_store ws w values))
 
 -- The plan of an assign gives what the assign does, which fits.
 

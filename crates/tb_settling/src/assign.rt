@@ -8,6 +8,7 @@ ghost use Rattle.tb_evaluator.specs.Meanings.{HasSignals};
 ghost use Rattle.tb_plans.specs.Transfers.{TransferFits, transfer_updates, OfTransfer};
 ghost use Rattle.tb_settling.specs.Settling.{assign_updates};
 
+use crate::design::set_whole;
 use rand_pcg::Lcg64Xsh32;
 use std::alloc::{AllocError, Global};
 use tb_assigns::updates;
@@ -17,8 +18,8 @@ use tb_values::Moment;
 use vlog_meaning::Scope;
 use vlog_syntax::Assignment;
 
-/// What a plan gives applies.
-fn transfer(plan: &Transfer, scene: &mut Scene)
+/// The update that a plan gives applies.
+fn update(plan: &Transfer, scene: &mut Scene)
     requires fits { TransferFits scene.old.widths plan.now }
     requires inside { All (Fits scene.old.widths) (transfer_updates plan.now (λ n. slice_index scene.old.store n)) }
     ensures { scene.new ≡ assigned scene.old (transfer_updates plan.now (λ n. slice_index scene.old.store n)) }
@@ -29,7 +30,20 @@ fn transfer(plan: &Transfer, scene: &mut Scene)
     }
 }
 
+/// What a plan gives applies. Most are copies of whole signals.
+fn transfer(plan: &Transfer, scene: &mut Scene)
+    requires fits { TransferFits scene.old.widths plan.now }
+    requires inside { All (Fits scene.old.widths) (transfer_updates plan.now (λ n. slice_index scene.old.store n)) }
+    ensures { scene.new ≡ assigned scene.old (transfer_updates plan.now (λ n. slice_index scene.old.store n)) }
+{
+    match plan.copied(scene.store()) {
+        Some(copied) => set_whole(copied.signal, copied.word, scene),
+        None => update(plan, scene),
+    }
+}
+
 /// The updates of an assign without a plan apply. It draws nothing, so any generator serves.
+#[inline(never)]
 fn evaluate_assign(
     alloc: Global,
     assignment: &Assignment,

@@ -11,7 +11,7 @@ use mcy_base::Word;
 use tb_machine::Scene;
 
 /// A signal gets a value, whole.
-fn set_whole(signal: u32, word: Word, scene: &mut Scene)
+pub(crate) fn set_whole(signal: u32, word: Word, scene: &mut Scene)
     requires known { signal < length scene.old.widths }
     requires width { word.width ≡ slice_index scene.old.widths signal }
     ensures { scene.new ≡ assigned scene.old (record { signal = signal; low = 0; width = word.width; value = word.bits } ∷ []) }
