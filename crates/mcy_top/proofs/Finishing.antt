@@ -10,7 +10,8 @@ use Rattle.result_book.specs.Scripts.{Answer, ask, is_ended}
 use Rattle.result_book.specs.Rows.{answers_of, AreRows, IsFinished, IsWellFormed}
 use Rattle.mcy_top.specs.Rows.{AreRight, IsGivenUpAt, IsRightWord, IsTrueWord, IsTrueWordAt}
 use Rattle.result_book.specs.Rows.{groups, groups_from}
-use Rattle.source_report.specs.Texts.{status_text}
+use Rattle.command_words.specs.declared.command.Command.{Command}
+use Rattle.mcy_top.specs.Texts.{text_of}
 use Rattle.tb_turns.specs.declared.verdict.SimVerdict.{SimVerdict}
 use Rattle.tb_turns.specs.declared.verdict.SimVerdict.TheVariants as v
 use Rattle.mcy_top.specs.declared.trial.Trial.{Trial}
@@ -90,9 +91,10 @@ all_answers : (c : Prepared) (pairs : List Pair) (m n : ℕ) (rows : List Entry)
 all_answers c pairs m zero rows whole each = let e : m ≡ length c.campaign.mutations = omega (arith, whole) in e
 all_answers c pairs m (suc n) rows whole each = (each m (omega (arith, whole)), all_answers c pairs (m + 1) n rows (omega (arith, whole)) each)
 
-pub final_is : (c : Prepared) (book : Book) → IsWellFormed c.campaign book → AreRight c book.journal → IsFinished c.campaign book → IsFinalText c (given_up book.journal) (status_text c.campaign book.journal)
-final_is c book form right finished = record {
-  all = groups c.campaign book.journal;
-  defined = all_answers c (given_up book.journal) 0 (length c.campaign.mutations) book.journal (omega arith) (λ k below. answers_are c k book.journal [] book.journal refl form.rows right (finished k below));
-  is = refl;
-}
+-- the answers by mutations are those that the campaign defines
+groups_are : (c : Prepared) (book : Book) → IsWellFormed c.campaign book → AreRight c book.journal → IsFinished c.campaign book → AreAllAnswers c (given_up book.journal) 0 (groups c.campaign book.journal)
+groups_are c book form right finished =
+    all_answers c (given_up book.journal) 0 (length c.campaign.mutations) book.journal (omega arith) (λ k below. answers_are c k book.journal [] book.journal refl form.rows right (finished k below))
+
+pub final_is : (command : Command) (c : Prepared) (book : Book) → IsWellFormed c.campaign book → AreRight c book.journal → IsFinished c.campaign book → IsFinalText command c (given_up book.journal) (text_of command c book)
+final_is command c book form right finished = record { all = groups c.campaign book.journal; defined = groups_are c book form right finished; is = refl }

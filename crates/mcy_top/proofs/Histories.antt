@@ -4,17 +4,18 @@ use Rattle.mcy_keeper.specs.declared.book.Book.{Book}
 use Rattle.mcy_keeper.specs.Books.{blank, IsBlank, LeavesSome}
 use Rattle.mcy_top.specs.declared.prepared.Prepared.{Prepared}
 use Rattle.mcy_top.specs.declared.outcome.Outcome.TheVariants.{Done}
-use Rattle.mcy_top.specs.Commands.{Runs}
 use Rattle.mcy_top.specs.Campaigns.{IsPlan}
 use Rattle.mcy_top.specs.Changes.{Course, IsNear}
-use Rattle.mcy_top.specs.Rows.{IsBlankOrGood}
+use Rattle.mcy_top.specs.Rows.{AreRight, IsBlankOrGood}
 use Rattle.mcy_top.specs.Crashes.{LeavesBooks}
 use Rattle.mcy_top.specs.Texts.{text_of}
-use Rattle.mcy_top.specs.Life.{Answers, IsWhole, Wrote}
+use Rattle.mcy_top.specs.Life.{Answers, Wrote}
 use Rattle.mcy_top.specs.Lives.{AreSafe, IsHistory}
-use Rattle.mcy_top.specs.Histories.{AllFindBooks, AllTellTrue, AreTurns, Call, Cut, CutEarly, Ended, entry_of, IsNew, IsTurn, last_of, Left, lives_of, Loads, TellsTrue, Turn, WroteFinalText}
+use Rattle.mcy_top.specs.Histories.{AllFindBooks, AllTellTrue, AreTurns, Call, Cut, CutEarly, Ended, entry_of, IsNew, IsTurn, last_of, Left, lives_of, Loads, TellsFinal, TellsTrue, Turn}
 use Rattle.mcy_top.proofs.Crashes.{weaker_books}
+use Rattle.mcy_top.proofs.Finishing.{final_is}
 use Rattle.mcy_top.proofs.Living.{course_good, lives_safe, near_good}
+use Rattle.mcy_top.proofs.Once.{right_of}
 
 -- the changes up to a cut lead to the book at that moment
 cut_course : (c : Prepared) (start : Book) (changes : List Book) (end : Book) (count : ℕ) → Course c start changes end → Course c start (take count changes) (last_of start (take count changes))
@@ -68,29 +69,31 @@ calls_safe holds leaves turns are = lives_safe (lives_of holds leaves IsNew turn
 
 -- Texts.
 
-tells_true : {K : Type 0} (holds : K → Book → Type 0) (leaves : K → Option Book → Type 0) (call : Call K) (life : Loads holds leaves call) → IsBlankOrGood life.loaded
-    → call.outcome ≡ Done → Runs life.command → WroteFinalText call.written_before call.written_after life.prepared life.work.sure
-tells_true holds leaves call life was done runs =
+end_good : {K : Type 0} (holds : K → Book → Type 0) (leaves : K → Option Book → Type 0) (call : Call K) (life : Loads holds leaves call) → IsBlankOrGood life.loaded → IsBlankOrGood life.work.sure
+end_good holds leaves call life was = course_good life.prepared life.loaded life.work.book.changes life.work.sure (plan_of holds leaves call life) life.work.book.course was
+
+tells_final : {K : Type 0} (holds : K → Book → Type 0) (leaves : K → Option Book → Type 0) (call : Call K) (life : Loads holds leaves call) → IsBlankOrGood life.loaded
+    → call.outcome ≡ Done → TellsFinal call.written_before call.written_after life.command life.prepared life.work.sure
+tells_final holds leaves call life was done =
     let answer : Answers life.command life.prepared life.loaded life.work.sure Done = subst (Answers life.command life.prepared life.loaded life.work.sure) done life.work.answer in
+    let right : AreRight life.prepared life.work.sure.journal = right_of life.prepared life.work.sure (plan_of holds leaves call life) answer.1 (end_good holds leaves call life was) in
     let text : List ℕ = text_of life.command life.prepared life.work.sure in
-    let whole : IsWhole life.prepared life.loaded life.work.sure text = answer.2 runs in
     record {
-      finished = whole.finished;
-      text = text;
-      wrote = subst (Wrote call.written_before call.written_after text) done life.work.text;
-      final = whole.final was;
+      finished = λ runs. (answer.2 runs).finished;
+      told = λ finished. record {
+        text = text;
+        wrote = subst (Wrote call.written_before call.written_after text) done life.work.text;
+        final = final_is life.command life.prepared life.work.sure answer.1 right finished;
+      };
     }
 
 turn_tells : {K : Type 0} (holds : K → Book → Type 0) (leaves : K → Option Book → Type 0) (turn : Turn K) (is : IsTurn holds leaves turn) → LeavesBooks (leaves (entry_of turn)) IsBlankOrGood → TellsTrue holds leaves turn is
 turn_tells holds leaves (Ended call) (inl early) was = tt
-turn_tells holds leaves (Ended call) (inr life) was = tells_true holds leaves call life (was (Some life.loaded) life.allowed)
+turn_tells holds leaves (Ended call) (inr life) was = tells_final holds leaves call life (was (Some life.loaded) life.allowed)
 turn_tells holds leaves (CutEarly call) cut was = tt
 turn_tells holds leaves (Cut call count) life was = tt
 
 -- What is found stays empty or good.
-
-end_good : {K : Type 0} (holds : K → Book → Type 0) (leaves : K → Option Book → Type 0) (call : Call K) (life : Loads holds leaves call) → IsBlankOrGood life.loaded → IsBlankOrGood life.work.sure
-end_good holds leaves call life was = course_good life.prepared life.loaded life.work.book.changes life.work.sure (plan_of holds leaves call life) life.work.book.course was
 
 cut_good : {K : Type 0} (holds : K → Book → Type 0) (leaves : K → Option Book → Type 0) (call : Call K) (count : ℕ) (life : Loads holds leaves call) → IsBlankOrGood life.loaded → IsBlankOrGood (last_of life.loaded (take count life.work.book.changes))
 cut_good holds leaves call count life was =

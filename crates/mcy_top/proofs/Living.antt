@@ -15,7 +15,7 @@ use Rattle.result_book.specs.Rows.{AreRows}
 use Rattle.mcy_top.specs.Rows.{AreRight, GoesOn, IsBlankOrGood, IsGood, IsPrefix, IsWithinOne}
 use Rattle.mcy_top.specs.Crashes.{LeavesBooks}
 use Rattle.mcy_top.specs.Life.{Life}
-use Rattle.mcy_top.specs.Lives.{books_of, AreSafe, HasFinalText, HasPairsOnce, IsHistory, Lived}
+use Rattle.mcy_top.specs.Lives.{books_of, AreSafe, HasFinalTexts, HasPairsOnce, IsHistory, Lived}
 use Rattle.mcy_top.specs.Calls.{IsCovered, IsLived, IsSureBook}
 use Rattle.mcy_top.proofs.Crashes.{weaker_books}
 use Rattle.mcy_top.proofs.Growing.{form_more, right_more}
@@ -122,13 +122,13 @@ book_pairs_once : (book : Book) → IsBlankOrGood book → HasPairsOnce book
 book_pairs_once book (inl empty) = subst HasPairsOnce (sym empty) (λ i j d lt within. absurd (omega (arith, within)))
 book_pairs_once book (inr good) = pairs_once good.prepared.campaign [] book.journal good.form.rows
 
--- A finished book's text.
+-- A finished book's texts.
 
-all_final : (start : Book) (lives : List Lived) → IsBlankOrGood start → IsHistory start lives → All (λ l. HasFinalText l.prepared l.sure) lives
-all_final start [] was history = All-nil (λ l. HasFinalText l.prepared l.sure)
+all_final : (start : Book) (lives : List Lived) → IsBlankOrGood start → IsHistory start lives → All (λ l. HasFinalTexts l.prepared l.sure) lives
+all_final start [] was history = All-nil (λ l. HasFinalTexts l.prepared l.sure)
 all_final start (l ∷ more) was (same, life, (next, near, history)) =
     let end : IsBlankOrGood l.sure = course_good l.prepared l.start l.changes l.sure life.plan life.course (subst IsBlankOrGood (sym same) was) in
-    All-cons (λ l. HasFinalText l.prepared l.sure) l more (λ form finished. final_is l.prepared l.sure form (right_of l.prepared l.sure life.plan form end) finished)
+    All-cons (λ l. HasFinalTexts l.prepared l.sure) l more (λ command form finished. final_is command l.prepared l.sure form (right_of l.prepared l.sure life.plan form end) finished)
     (all_final next more (near_good l.prepared l.sure next life.plan near end) history)
 
 pub lives_safe : (lives : List Lived) → IsHistory blank lives → AreSafe lives

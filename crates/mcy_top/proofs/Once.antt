@@ -22,7 +22,8 @@ use Rattle.mcy_top.specs.Campaigns.{campaign_of, file_item, meta_of, names_of, I
 use Rattle.mcy_top.proofs.TrialLaws.{readings_are_one, trials_alike, SameTests}
 use Rattle.result_book.specs.Rows.{IsWellFormed}
 use Rattle.mcy_top.specs.Rows.{AreRight, IsBlankOrGood, IsGivenUpAt, IsRightWord, IsSaid, IsTrueWord, IsTrueWordAt}
-use Rattle.source_report.specs.Texts.{lines, status_text}
+use Rattle.command_words.specs.declared.command.Command.{Command}
+use Rattle.mcy_top.specs.Texts.{answers_text, text_of}
 use Rattle.mcy_top.specs.declared.trial.Trial.{Trial}
 use Rattle.mcy_top.specs.declared.trial.Trial.TheVariants.{Equality, Simulation}
 use Rattle.mcy_top.specs.Simulated.{IsSimulated}
@@ -173,17 +174,17 @@ all_once once c pairs others m (a ∷ xs) (b ∷ ys) same h k =
 pub all_answers_once : BenchesSayOnce → (c : Prepared) (pairs : List Pair) (all others : List (List Answer)) → AreAllAnswers c pairs 0 all → AreAllAnswers c pairs 0 others → all ≡ others
 all_answers_once once c pairs all others h k = all_once once c pairs pairs 0 all others (λ m t. refl) h k
 
--- the text depends on which pairs are given up alone
-final_text_by_pairs : BenchesSayOnce → (c : Prepared) (pairs others : List Pair) (text other : List ℕ) → ((m t : ℕ) → is_given_up pairs m t ≡ is_given_up others m t) → IsFinalText c pairs text → IsFinalText c others other → text ≡ other
-final_text_by_pairs once c pairs others text other same h k = h.is ∙ ap (lines c.campaign) (all_once once c pairs others 0 h.all k.all same h.defined k.defined) ∙ sym k.is
+-- a text depends on which pairs are given up alone
+final_text_by_pairs : BenchesSayOnce → (command : Command) (c : Prepared) (pairs others : List Pair) (text other : List ℕ) → ((m t : ℕ) → is_given_up pairs m t ≡ is_given_up others m t) → IsFinalText command c pairs text → IsFinalText command c others other → text ≡ other
+final_text_by_pairs once command c pairs others text other same h k = h.is ∙ ap (answers_text command c) (all_once once c pairs others 0 h.all k.all same h.defined k.defined) ∙ sym k.is
 
-pub final_text_once : BenchesSayOnce → (c : Prepared) (pairs : List Pair) (text other : List ℕ) → IsFinalText c pairs text → IsFinalText c pairs other → text ≡ other
-final_text_once once c pairs text other h k = final_text_by_pairs once c pairs pairs text other (λ m t. refl) h k
+pub final_text_once : BenchesSayOnce → (command : Command) (c : Prepared) (pairs : List Pair) (text other : List ℕ) → IsFinalText command c pairs text → IsFinalText command c pairs other → text ≡ other
+final_text_once once command c pairs text other h k = final_text_by_pairs once command c pairs pairs text other (λ m t. refl) h k
 
 -- the text that the campaign defines for a finished book
-ended_text : (c : Prepared) (book : Book) → IsPlan c → IsEnded c book → IsFinalText c (given_up book.journal) (status_text c.campaign book.journal)
-ended_text c book plan ended = final_is c book ended.form (right_of c book plan ended.form (inr ended.good)) ended.finished
+ended_text : (command : Command) (c : Prepared) (book : Book) → IsPlan c → IsEnded c book → IsFinalText command c (given_up book.journal) (text_of command c book)
+ended_text command c book plan ended = final_is command c book ended.form (right_of c book plan ended.form (inr ended.good)) ended.finished
 
-pub finished_text_once : BenchesSayOnce → (c : Prepared) (book other : Book) → IsPlan c → IsEnded c book → IsEnded c other → GaveUpSame book other → status_text c.campaign book.journal ≡ status_text c.campaign other.journal
-finished_text_once once c book other plan ended done same =
-    final_text_by_pairs once c (given_up book.journal) (given_up other.journal) (status_text c.campaign book.journal) (status_text c.campaign other.journal) same (ended_text c book plan ended) (ended_text c other plan done)
+pub finished_text_once : BenchesSayOnce → (command : Command) (c : Prepared) (book other : Book) → IsPlan c → IsEnded c book → IsEnded c other → GaveUpSame book other → text_of command c book ≡ text_of command c other
+finished_text_once once command c book other plan ended done same =
+    final_text_by_pairs once command c (given_up book.journal) (given_up other.journal) (text_of command c book) (text_of command c other) same (ended_text command c book plan ended) (ended_text command c other plan done)

@@ -277,7 +277,7 @@ whole c stop start rows went finished = (
   went.ran.form,
   λ runs. record {
     finished = finished;
-    final = λ was. final_is c (book_of c rows) went.ran.form (went.ran.words_right (right_of c (book_of c start) went.plan went.form was)) finished;
+    final = λ was. final_is (Run stop) c (book_of c rows) went.ran.form (went.ran.words_right (right_of c (book_of c start) went.plan went.form was)) finished;
   },
 )
 

@@ -10,7 +10,8 @@ use Rattle.result_book.specs.Scripts.{Answer, word_code, ask, is_ended}
 use Rattle.mcy_top.specs.declared.trial.Trial.{Trial}
 use Rattle.mcy_top.specs.declared.trial.Trial.TheVariants.{Equality}
 use Rattle.mcy_top.specs.Rows.{IsTrueWord}
-use Rattle.source_report.specs.Texts.{lines}
+use Rattle.command_words.specs.declared.command.Command.{Command}
+use Rattle.mcy_top.specs.Texts.{answers_text}
 
 -- a pair of a mutation and a test that was given up
 pub record Pair : Type 0 where
@@ -45,8 +46,8 @@ abbrev pub AreAllAnswers : Prepared → List Pair → ℕ → List (List Answer)
 AreAllAnswers c pairs m [] = m ≡ length c.campaign.mutations
 AreAllAnswers c pairs m (answers ∷ more) = AreAnswers c pairs m [] answers × AreAllAnswers c pairs (m + 1) more
 
--- the status text that a campaign and its given-up pairs define
-pub record IsFinalText (c : Prepared) (pairs : List Pair) (text : List ℕ) : Type 0 where
+-- the text of a command that a campaign and its given-up pairs define
+pub record IsFinalText (command : Command) (c : Prepared) (pairs : List Pair) (text : List ℕ) : Type 0 where
   pub all : List (List Answer)
   pub defined : AreAllAnswers c pairs 0 all
-  pub is : text ≡ lines c.campaign all
+  pub is : text ≡ answers_text command c all

@@ -7,6 +7,7 @@ use Rattle.mcy_outside.specs.Files.{Held}
 use Rattle.mcy_outside.specs.Written.{Appends}
 use Rattle.result_book.specs.Rows.{IsFinished}
 use Rattle.mcy_top.specs.declared.prepared.Prepared.{Prepared}
+use Rattle.command_words.specs.declared.command.Command.{Command}
 use Rattle.mcy_top.specs.declared.outcome.Outcome.{Outcome}
 use Rattle.mcy_top.specs.declared.outcome.Outcome.TheVariants.{Done}
 use Rattle.mcy_top.specs.Commands.{Runs}
@@ -110,18 +111,21 @@ CallsAreAHistory {K} holds leaves = (turns : List (Turn K)) (are : AreTurns hold
 abbrev pub CallsAreSafe : {K : Type 0} → (K → Book → Type 0) → (K → Option Book → Type 0) → Type 0
 CallsAreSafe {K} holds leaves = (turns : List (Turn K)) (are : AreTurns holds leaves IsNew turns) → AreSafe (lives_of holds leaves IsNew turns are)
 
--- The book is finished, and the text that was written is the one that the campaign defines with the pairs that the book
--- gave up.
-pub record WroteFinalText (before now : Option (List ℕ)) (c : Prepared) (book : Book) : Type 0 where
-  pub finished : IsFinished c.campaign book
+-- The text that was written is the one that the campaign defines for the command with the pairs that the book gave up.
+pub record WroteFinalText (before now : Option (List ℕ)) (command : Command) (c : Prepared) (book : Book) : Type 0 where
   pub text : List ℕ
   pub wrote : Appends before now text
-  pub final : IsFinalText c (given_up book.journal) text
+  pub final : IsFinalText command c (given_up book.journal) text
 
--- If the turn is a `run` that ended with Done, it has written that text of its last book.
+-- A `run` has finished the book, and a call over a finished book has written that text.
+pub record TellsFinal (before now : Option (List ℕ)) (command : Command) (c : Prepared) (book : Book) : Type 0 where
+  pub finished : Runs command → IsFinished c.campaign book
+  pub told : IsFinished c.campaign book → WroteFinalText before now command c book
+
+-- If the turn is a call that ended with Done, it does so with its last book.
 abbrev pub TellsTrue : {K : Type 0} (holds : K → Book → Type 0) (leaves : K → Option Book → Type 0) (turn : Turn K) → IsTurn holds leaves turn → Type 0
 TellsTrue holds leaves (Ended call) (inl early) = ⊤
-TellsTrue holds leaves (Ended call) (inr life) = call.outcome ≡ Done → Runs life.command → WroteFinalText call.written_before call.written_after life.prepared life.work.sure
+TellsTrue holds leaves (Ended call) (inr life) = call.outcome ≡ Done → TellsFinal call.written_before call.written_after life.command life.prepared life.work.sure
 TellsTrue holds leaves (CutEarly call) is = ⊤
 TellsTrue holds leaves (Cut call count) life = ⊤
 
@@ -129,9 +133,10 @@ abbrev pub AllTellTrue : {K : Type 0} (holds : K → Book → Type 0) (leaves : 
 AllTellTrue holds leaves found [] are = ⊤
 AllTellTrue holds leaves found (turn ∷ more) are = TellsTrue holds leaves turn are.1.0 × AllTellTrue holds leaves (Left holds leaves turn are.1.0) more are.1.1
 
--- Each `run` of such a list that ends with Done has written its campaign's text.
-abbrev pub DoneRunsTellTrue : {K : Type 0} → (K → Book → Type 0) → (K → Option Book → Type 0) → Type 0
-DoneRunsTellTrue {K} holds leaves = (turns : List (Turn K)) (are : AreTurns holds leaves IsNew turns) → AllTellTrue holds leaves IsNew turns are
+-- Each `run` of such a list that ends with Done has finished its campaign, and each call that ends with Done over a finished book has
+-- written the text that its campaign defines for it: the status, the list, or the sources.
+abbrev pub DoneCallsTellTrue : {K : Type 0} → (K → Book → Type 0) → (K → Option Book → Type 0) → Type 0
+DoneCallsTellTrue {K} holds leaves = (turns : List (Turn K)) (are : AreTurns holds leaves IsNew turns) → AllTellTrue holds leaves IsNew turns are
 
 -- A restart finds a book that is empty or good, always: whatever is left is one, and where the keeper tells something is.
 pub record FindsBook {K : Type 0} (tells : K → Type 0) (leaves : K → Option Book → Type 0) (k : K) : Type 0 where

@@ -90,9 +90,9 @@ Takes Status c book = IsWellFormed c.campaign book
 Takes Source c book = IsWellFormed c.campaign book
 
 -- Every mutation is finished, and the text is the one that the campaign defines with the pairs that the book gave up.
-pub record IsWhole (c : Prepared) (loaded book : Book) (text : List ℕ) : Type 0 where
+pub record IsWhole (command : Command) (c : Prepared) (loaded book : Book) (text : List ℕ) : Type 0 where
   pub finished : IsFinished c.campaign book
-  pub final : IsBlankOrGood loaded → IsFinalText c (given_up book.journal) text
+  pub final : IsBlankOrGood loaded → IsFinalText command c (given_up book.journal) text
 
 -- how many mutations are finished
 abbrev pub finished_count : Prepared → Book → ℕ
@@ -108,7 +108,7 @@ pub record IsStopped (command : Command) (c : Prepared) (loaded book : Book) (le
 
 -- How a call ends that has loaded a book.
 abbrev pub Answers : Command → Prepared → Book → Book → Outcome → Type 0
-Answers command c loaded sure Done = Takes command c loaded × IsWellFormed c.campaign sure × (Runs command → IsWhole c loaded sure (text_of command c sure))
+Answers command c loaded sure Done = Takes command c loaded × IsWellFormed c.campaign sure × (Runs command → IsWhole command c loaded sure (text_of command c sure))
 Answers command c loaded sure (Unfinished left) = Takes command c loaded × IsWellFormed c.campaign sure × IsStopped command c loaded sure left
 Answers command c loaded sure NoCampaign = RefusesBook command c loaded RefusedNone
 Answers command c loaded sure AlreadyBegun = RefusesBook command c loaded RefusedBegun

@@ -8,7 +8,8 @@ use Rattle.mcy_top.specs.Campaigns.{IsPlan}
 use Rattle.result_book.specs.Rows.{IsFinished, IsPair, IsWellFormed}
 use Rattle.mcy_top.specs.Rows.{GoesOn, IsBlankOrGood, IsGood, IsPrefix}
 use Rattle.mcy_top.specs.Changes.{Course, IsNear}
-use Rattle.source_report.specs.Texts.{status_text}
+use Rattle.command_words.specs.declared.command.Command.{Command}
+use Rattle.mcy_top.specs.Texts.{text_of}
 use Rattle.mcy_top.specs.Defined.{given_up, IsFinalText}
 
 -- a life: its campaign, the book that it starts from, the books after each acknowledged change, and the last of them
@@ -38,17 +39,17 @@ books_of (l ∷ more) = (l.start ∷ l.changes ++ l.sure ∷ []) ++ books_of mor
 abbrev pub HasPairsOnce : Book → Type 0
 HasPairsOnce book = AllPairs (λ row e. ¬ IsPair e.mutation e.test row) book.journal
 
--- a finished book has the status text that the campaign defines with the pairs that were given up
-abbrev pub HasFinalText : Prepared → Book → Type 0
-HasFinalText c book = IsWellFormed c.campaign book → IsFinished c.campaign book → IsFinalText c (given_up book.journal) (status_text c.campaign book.journal)
+-- a finished book has for each command the text that the campaign defines with the pairs that were given up
+abbrev pub HasFinalTexts : Prepared → Book → Type 0
+HasFinalTexts c book = (command : Command) → IsWellFormed c.campaign book → IsFinished c.campaign book → IsFinalText command c (given_up book.journal) (text_of command c book)
 
 -- Each book is empty or good and has each pair once, each is a first part of all that follow, and each life's last
--- book has its text where it is finished.
+-- book has its texts where it is finished.
 pub record AreSafe (lives : List Lived) : Type 0 where
   pub good : All IsBlankOrGood (books_of lives)
   pub once : All HasPairsOnce (books_of lives)
   pub kept : AllPairs IsPrefix (books_of lives)
-  pub final : All (λ l. HasFinalText l.prepared l.sure) lives
+  pub final : All (λ l. HasFinalTexts l.prepared l.sure) lives
 
 -- Lives that begin with the empty book are safe.
 abbrev pub LivesAreSafe : Type 0

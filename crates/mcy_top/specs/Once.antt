@@ -1,4 +1,4 @@
--- Laws of campaigns: a project and its source have one, and it defines one text.
+-- Laws of campaigns: a project and its source have one, and it defines one text of each command.
 use Rattle.std.specs.Prelude.{◌≡◌, ℕ, List}
 use Rattle.mcy_keeper.specs.declared.book.Book.{Book}
 use Rattle.mcy_top.specs.declared.prepared.Prepared.{Prepared}
@@ -6,7 +6,8 @@ use Rattle.result_book.specs.Scripts.{Answer}
 use Rattle.mcy_top.specs.Campaigns.{IsPlan}
 use Rattle.result_book.specs.Rows.{IsFinished, IsWellFormed}
 use Rattle.mcy_top.specs.Rows.{IsGood, IsRightWord}
-use Rattle.source_report.specs.Texts.{status_text}
+use Rattle.command_words.specs.declared.command.Command.{Command}
+use Rattle.mcy_top.specs.Texts.{text_of}
 use Rattle.mcy_top.specs.Defined.{given_up, is_given_up, AreAllAnswers, IsFinalText, Pair}
 
 -- the words of tests for the one campaign are words for the other
@@ -22,9 +23,9 @@ CampaignsAreOne = (c d : Prepared) → IsPlan c → IsPlan d → c.campaign.meta
 abbrev pub AnswersAreOne : Type 0
 AnswersAreOne = (c : Prepared) (pairs : List Pair) (all others : List (List Answer)) → AreAllAnswers c pairs 0 all → AreAllAnswers c pairs 0 others → all ≡ others
 
--- and so one status text.
+-- and so one text of each command.
 abbrev pub FinalTextsAreOne : Type 0
-FinalTextsAreOne = (c : Prepared) (pairs : List Pair) (text other : List ℕ) → IsFinalText c pairs text → IsFinalText c pairs other → text ≡ other
+FinalTextsAreOne = (command : Command) (c : Prepared) (pairs : List Pair) (text other : List ℕ) → IsFinalText command c pairs text → IsFinalText command c pairs other → text ≡ other
 
 -- a good book of the campaign in which every mutation is finished
 pub record IsEnded (c : Prepared) (book : Book) : Type 0 where
@@ -36,7 +37,7 @@ pub record IsEnded (c : Prepared) (book : Book) : Type 0 where
 abbrev pub GaveUpSame : Book → Book → Type 0
 GaveUpSame book other = (m t : ℕ) → is_given_up (given_up book.journal) m t ≡ is_given_up (given_up other.journal) m t
 
--- Books of one campaign that are finished and gave up the same pairs have one status text, whatever the order of
--- their rows.
+-- Books of one campaign that are finished and gave up the same pairs have one text of each command, be it the status, the list of
+-- the mutations or the sources line by line, whatever the order of their rows.
 abbrev pub FinishedTextsAreOne : Type 0
-FinishedTextsAreOne = (c : Prepared) (book other : Book) → IsPlan c → IsEnded c book → IsEnded c other → GaveUpSame book other → status_text c.campaign book.journal ≡ status_text c.campaign other.journal
+FinishedTextsAreOne = (command : Command) (c : Prepared) (book other : Book) → IsPlan c → IsEnded c book → IsEnded c other → GaveUpSame book other → text_of command c book ≡ text_of command c other

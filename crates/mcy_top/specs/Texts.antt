@@ -1,9 +1,11 @@
--- The text of each command.
+-- The text of each command, from the answers of each mutation.
 use Rattle.std.specs.Prelude.{ℕ, List, ◌++◌, length, codes}
 use Rattle.mcy_keeper.specs.declared.book.Book.{Book}
-use Rattle.source_report.specs.Lists.{list_text}
-use Rattle.source_report.specs.Sources.{source_text}
-use Rattle.source_report.specs.Texts.{number_line, status_text}
+use Rattle.result_book.specs.Rows.{groups}
+use Rattle.result_book.specs.Scripts.{Answer}
+use Rattle.source_report.specs.Lists.{list_lines}
+use Rattle.source_report.specs.Sources.{file_texts}
+use Rattle.source_report.specs.Texts.{lines, number_line}
 use Rattle.command_words.specs.declared.command.Command.{Command}
 use Rattle.command_words.specs.declared.command.Command.TheVariants.{Init, Run, List as Listing, Status, Source}
 use Rattle.mcy_top.specs.declared.prepared.Prepared.{Prepared}
@@ -12,10 +14,14 @@ use Rattle.mcy_top.specs.declared.prepared.Prepared.{Prepared}
 abbrev pub init_text : Prepared → List ℕ
 init_text c = number_line (codes "Sites") c.site_count ++ number_line (codes "Mutations") (length c.campaign.mutations)
 
+-- the text of a command where these are the answers of each mutation
+abbrev pub answers_text : Command → Prepared → List (List Answer) → List ℕ
+answers_text Init c all = init_text c
+answers_text (Run stop) c all = lines c.campaign all
+answers_text Listing c all = list_lines c.campaign 0 c.campaign.mutations all
+answers_text Status c all = lines c.campaign all
+answers_text Source c all = file_texts c.campaign all 0 c.files
+
 -- the text of a command over a book
 abbrev pub text_of : Command → Prepared → Book → List ℕ
-text_of Init c book = init_text c
-text_of (Run stop) c book = status_text c.campaign book.journal
-text_of Listing c book = list_text c.campaign book.journal
-text_of Status c book = status_text c.campaign book.journal
-text_of Source c book = source_text c.campaign book.journal c.files
+text_of command c book = answers_text command c (groups c.campaign book.journal)

@@ -1,12 +1,12 @@
 //! What follows from the contract of the one call and its definitions, each law as the contract of a
 //! function that does nothing: each refusal comes exactly where its cause holds, a project has one
-//! campaign and that one text, and no call that is cut off loses or repeats what was acknowledged.
+//! campaign and that one text of each command, and no call that is cut off loses or repeats what was acknowledged.
 ghost use Rattle.mcy_keeper.specs.Books.{LeavesSome};
 ghost use Rattle.mcy_top.specs.Once.{AnswersAreOne, CampaignsAreOne, FinalTextsAreOne, FinishedTextsAreOne};
 ghost use Rattle.mcy_top.specs.Exact.{BookRefusalsAreExact, FileRefusalsAreExact, FilesHaveOneCause, RefusedFilesMakeNone, UsageIsExact};
 ghost use Rattle.mcy_top.specs.Lives.{LivesAreSafe, PartsAreGood};
 ghost use Rattle.mcy_top.specs.Calls.{CallIsALife, EarlyCallLeavesNothingNew, SureBookHasAll};
-ghost use Rattle.mcy_top.specs.Histories.{CallsAreAHistory, CallsAreSafe, DoneRunsTellTrue, RestartsFindBooks};
+ghost use Rattle.mcy_top.specs.Histories.{CallsAreAHistory, CallsAreSafe, DoneCallsTellTrue, RestartsFindBooks};
 
 use mcy_keeper::Keeper;
 use sim_words::mutants_tell_the_same;
@@ -24,7 +24,7 @@ pub fn refusals_are_exact()
 {}
 
 /// A project and its source have one campaign. With the pairs that were given up it defines the
-/// answers of each mutation, and the status text, once.
+/// answers of each mutation, and the text of each command, once.
 pub fn campaigns_are_one()
     ensures campaign { CampaignsAreOne }
     ensures answers { AnswersAreOne }
@@ -35,8 +35,8 @@ pub fn campaigns_are_one()
     mutants_tell_the_same();
 }
 
-/// The status text of a finished book depends on the campaign and the pairs that were given up alone:
-/// not on the order of the tests, and not on where calls were cut off.
+/// The text of each command over a finished book, be it the status, the list or the sources, depends on the campaign and the pairs that
+/// were given up alone: not on the order of the tests, and not on where calls were cut off.
 pub fn finished_texts_are_the_campaigns()
     ensures { FinishedTextsAreOne }
 {
@@ -47,7 +47,7 @@ pub fn finished_texts_are_the_campaigns()
 
 /// Over every list of lives that begins with the empty book: each book is empty or good and has no
 /// pair of mutation and test twice, nothing that was acknowledged is lost later, and a finished book
-/// has the text that the campaign defines. A good book cut off after any of its rows is good.
+/// has the texts that the campaign defines. A good book cut off after any of its rows is good.
 pub fn lives_are_safe()
     ensures lives { LivesAreSafe }
     ensures parts { PartsAreGood }
@@ -71,13 +71,14 @@ pub fn call_is_a_life<K: Keeper>(before: &K, after: &K)
 
 /// Over every list of calls on one keeper that begins with the empty book, each of which ended by itself or was cut off
 /// at any moment, and whose next call starts from nothing but what the one before may have left: the calls that have
-/// loaded a book are lives, these are safe, and each `run` that ended with Done has written the text that its campaign
-/// defines. Of a call that ended the law takes what the clause `life` of `mcy_main` says where the keeper tells. A call
-/// that was cut off leaves the book after one of its changes, or that with the one change that was under way. So each
+/// loaded a book are lives, these are safe, each `run` that ended with Done has finished its campaign, and each call that
+/// ended with Done over a finished book, be it `run`, `status`, `list` or `source`, has written the text that its campaign
+/// defines for it. Of a call that ended the law takes what the clause `life` of `mcy_main` says where the keeper tells. A
+/// call that was cut off leaves the book after one of its changes, or that with the one change that was under way. So each
 /// restart finds a book, empty or good.
 pub fn calls_are_a_history<K: Keeper>(_keeper: &K)
     ensures history { CallsAreAHistory K.holds K.leaves }
     ensures safe { CallsAreSafe K.holds K.leaves }
-    ensures texts { DoneRunsTellTrue K.holds K.leaves }
+    ensures texts { DoneCallsTellTrue K.holds K.leaves }
     ensures restarts { RestartsFindBooks K.tells K.holds K.leaves }
 {}

@@ -1,5 +1,7 @@
 use Rattle.std.proofs.Common.{◌≡◌, ◌⊎◌, inl, inr, ℕ, Option, ap, subst}
 use Rattle.mcy_keeper.specs.declared.book.Book.{Book}
+use Rattle.source_report.specs.Lists.{list_text}
+use Rattle.source_report.specs.Sources.{source_text}
 use Rattle.source_report.specs.Texts.{status_text}
 use Rattle.command_words.specs.declared.command.Command.{Command}
 use Rattle.command_words.specs.declared.command.Command.TheVariants.{Init, Run, Status}
@@ -10,9 +12,11 @@ use Rattle.mcy_top.specs.Texts.{text_of}
 use Rattle.mcy_top.proofs.work.Task.tell.Goals as goal
 
 pub returns-in-List-clause-wrote : goal.returns-in-List-clause-wrote
+unfolding list_text
 returns-in-List-clause-wrote g c = rw c.in-List.is c.list.ensures.wrote
 
 pub returns-in-Source-clause-wrote : goal.returns-in-Source-clause-wrote
+unfolding source_text
 returns-in-Source-clause-wrote g c = rw c.in-Source.is c.show_source.ensures.wrote
 
 -- of the other commands one only reads, and tells the status
