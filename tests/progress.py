@@ -1,10 +1,11 @@
 #!/usr/bin/env python3
-"""How far a campaign is, on a terminal and elsewhere.
+"""What a terminal is told beside the lines of the outcomes: how far a campaign is, and what to do next.
 
     python3 tests/progress.py PROGRAM
 
 Runs a campaign with standard error as a terminal: lines come, ten times a second at most, each with numbers that fit
 the campaign, and the last one is cleared. Standard output is the same as where standard error is a pipe, to which nothing is written.
+Calls that are refused for what the database holds write a second line on a terminal, and only there.
 Ends with the line 'progress: N lines', or tells what is wrong.
 """
 
@@ -43,6 +44,9 @@ endmodule
 """
 LINE = re.compile(rb"mcy: (\d+) of (\d+) finished, (\d+) tests a second(?:, (\d+) s left)?\x1b\[K")
 CLEARED = b"\r\x1b[K"
+NO_CAMPAIGN = "no campaign", "run or init begins one"
+BEGUN = "campaign already begun", "run goes on with it"
+CHANGED = "database: meta 2", "config.mcy, a source or mcy.db has changed: undo that, or move mcy.db and mcy.db-wal away to begin anew"
 
 
 def folder():
@@ -86,6 +90,24 @@ def check_lines(seen, spent):
     return len(lines)
 
 
+def check_refusal(program, word, here, status, lines):
+    """A refused call: both lines on a terminal, and the first of them elsewhere."""
+    told = on_terminal(program, [word], here)
+    assert told[:3] == (status, b"", "".join(f"mcy: {line}\r\n" for line in lines).encode()), told
+    piped = subprocess.run([program, word], cwd=here, capture_output=True, timeout=60)
+    assert (piped.returncode, piped.stdout, piped.stderr) == (status, b"", f"mcy: {lines[0]}\n".encode()), piped
+
+
+def check_refusals(program, here):
+    check_refusal(program, "status", here, 8, NO_CAMPAIGN)
+    assert on_terminal(program, ["init"], here)[2] == b"", "a campaign that begins is told of"
+    check_refusal(program, "init", here, 9, BEGUN)
+    with open(os.path.join(here, "g.v"), "a") as source:
+        source.write("// a line more\n")
+    check_refusal(program, "run", here, 10, CHANGED)
+    assert on_terminal(program, ["none"], here)[2].count(b"\n") == 1, "words that are none have a second line"
+
+
 def main():
     program = os.path.realpath(sys.argv[1])
     with folder() as here:
@@ -102,6 +124,8 @@ def main():
     with folder() as here:
         piped = subprocess.run([program, "run"], cwd=here, capture_output=True, timeout=60)
         assert (piped.returncode, piped.stdout, piped.stderr) == (0, text, b""), piped
+    with folder() as here:
+        check_refusals(program, here)
     print(f"progress: {count} lines")
 
 

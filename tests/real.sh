@@ -413,10 +413,10 @@ if has_tool prlimit "no call finds no memory"; then
     case_is $? "a campaign that found no memory goes on: $(cat "$room/lines")"
 fi
 
-# How far a campaign is, where standard error is a terminal.
+# What a terminal is told: how far a campaign is, and what to do next.
 if has_tool python3 "no terminal is told how far a campaign is"; then
     python3 "$root/tests/progress.py" "$mcy" >"$room/lines" 2>&1
-    case_is $? "a terminal is told how far a campaign is, and nothing else: $(tail -n 1 "$room/lines")"
+    case_is $? "a terminal is told how far a campaign is and what to do next, and nothing else: $(tail -n 1 "$room/lines")"
 fi
 
 # Random files, and random edits of the examples.

@@ -1,7 +1,8 @@
 //! `mcy`: one call over the real files, standard output and the database of the current folder.
 //!
 //! The words, the files, the sink and the keeper are made here and nowhere else. What the call does is
-//! `mcy_call`'s. Where standard error is a terminal, `meter` tells there how far the campaign is.
+//! `mcy_call`'s. Where standard error is a terminal, `meter` tells there how far the campaign is, and main what to do next
+//! where a call was refused for what the database holds.
 #![tactic(auto)]
 
 ghost use Rattle.std.specs.Prelude.{[]};
@@ -16,7 +17,7 @@ use meter::Meter;
 use sqlite::{Connection, Error, ErrorCode, File, FileStore, Unknown};
 use std::alloc::{AllocError, Global};
 use std::env::{self, Env};
-use std::io;
+use std::io::{self, IsTerminal};
 use std::process::ExitCode;
 use watched_keeper::WatchedKeeper;
 
@@ -68,6 +69,18 @@ fn database_line(fault: DatabaseFault) -> &'static str {
         DatabaseFault::Locked => "mcy: mcy.db: locked\n",
         DatabaseFault::NoBook => "mcy: mcy.db: another program's, or damaged\n",
         DatabaseFault::NoAccess => "mcy: mcy.db: cannot be read or written\n",
+    }
+}
+
+/// What to do next, a line behind the one of the outcome, where there is something to tell.
+fn next_line(outcome: &Outcome) -> &'static str {
+    match outcome {
+        Outcome::NoCampaign => "mcy: run or init begins one\n",
+        Outcome::AlreadyBegun => "mcy: run goes on with it\n",
+        Outcome::BookBad(_) => {
+            "mcy: config.mcy, a source or mcy.db has changed: undo that, or move mcy.db and mcy.db-wal away to begin anew\n"
+        }
+        _ => "",
     }
 }
 
@@ -133,6 +146,9 @@ fn main(rt: HostRuntime) -> ExitCode {
     }
     if let Some(fault) = fault {
         let _written = errors.write_all(database_line(fault).as_bytes());
+    }
+    if rt.stderr().is_terminal() {
+        let _written = errors.write_all(next_line(&outcome).as_bytes());
     }
     ExitCode::from(exit_status(&outcome))
 }
