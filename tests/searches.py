@@ -5,7 +5,7 @@
     tests/searches.py --check    only compares the two files with what would be written
 
 This is the rule of the search, over lists: decide the least open free bit to 0, propagate by examining the new clauses in order
-and then those in which the next literal of the trail is false, and learn the free bits at which the walk down the trail stops.
+and then those in which the next literal of the trail is false, short ones first and then the long ones that are watched there, and learn the free bits at which the walk down the trail stops.
 First it looks at the cone of the last clause alone; where no free bit of that is open, it begins anew with all clauses, and decides
 the other free bits after these. What comes of it is tested by the definition besides: each lemma is over free bits, has no earlier
 one as a part and follows by propagation, a model makes each clause true, and a refuted list of clauses has no model among all
@@ -81,7 +81,7 @@ class Search:
     def begin(self):
         """All variables are open, and no clause is taken in."""
         self.trail, self.starts = [], []
-        self.taken, self.head, self.holders = 0, 0, {}
+        self.taken, self.head, self.holders, self.watchers = 0, 0, {}, {}
 
     def widen(self):
         """Looks at all clauses and free bits from now on."""
@@ -106,14 +106,55 @@ class Search:
             clause = clauses[self.taken]
             if self.examine(clause):
                 return clause
-            for literal in clause:
-                self.holders.setdefault(literal, []).append(clause)
+            if self.is_watched(clause):
+                watched = [clause, clause[:2]]
+                for literal in clause[:2]:
+                    self.watchers.setdefault(literal, []).append(watched)
+            else:
+                for literal in clause:
+                    self.holders.setdefault(literal, []).append(clause)
             self.taken += 1
         while self.head < len(self.trail):
-            for clause in self.holders.get(-self.trail[self.head][0], []):
+            false = -self.trail[self.head][0]
+            for clause in self.holders.get(false, []):
                 if self.examine(clause):
                     return clause
+            conflict = self.visit_watched(false)
+            if conflict is not None:
+                return conflict
             self.head += 1
+        return None
+
+    def is_watched(self, clause):
+        """Whether a new clause is watched at its first two literals, and not kept in the list of each of its literals: it is long, its
+        first literal isn't false, and the second isn't, or became so on the last level while the first is true."""
+        if len(clause) <= 3 or len(set(clause)) < len(clause):
+            return False
+        known, (first, second) = self.known(), clause[:2]
+        last = {literal for literal, _ in self.trail[self.starts[-1] if self.starts else 0 :]}
+        recent = first in known and (not self.starts or -second in last)
+        return -first not in known and (-second not in known or recent)
+
+    def visit_watched(self, false):
+        """Looks at the clauses that are watched at a literal that has become false. Such a clause is watched at the last of its other
+        literals that isn't false, and the last clause of the list comes into its place; where there is none, it is examined."""
+        watchers, place = self.watchers.get(false, []), 0
+        while place < len(watchers):
+            clause, pair = watchers[place]
+            known = self.known()
+            other = pair[1] if pair[0] == false else pair[0]
+            after = [literal for literal in left(clause, known) if literal != other]
+            if other in known:
+                place += 1
+            elif after:
+                pair[:] = [other, after[-1]]
+                self.watchers.setdefault(after[-1], []).append(watchers[place])
+                watchers[place] = watchers[-1]
+                watchers.pop()
+            elif self.examine(clause):
+                return clause
+            else:
+                place += 1
         return None
 
     def conflict(self):

@@ -16,11 +16,11 @@ use Rattle.sat_solver.proofs.Valued.{valued-true, valued-false, valued-le}
 
 -- Clauses by number.
 
-numbered-same : (clauses : List (List ℤ)) (clause : List ℤ) (n : ℕ) → n ≡ length clauses + 1 → numbered (clauses ++ clause ∷ []) n ≡ clause
+pub numbered-same : (clauses : List (List ℤ)) (clause : List ℤ) (n : ℕ) → n ≡ length clauses + 1 → numbered (clauses ++ clause ∷ []) n ≡ clause
 numbered-same clauses clause zero e = absurd (omega (arith, e))
 numbered-same clauses clause (suc k) e = get_or_push clauses clause [] k (omega (arith, e))
 
-numbered-other : (clauses : List (List ℤ)) (clause : List ℤ) (n : ℕ) → n ≢ length clauses + 1 → numbered (clauses ++ clause ∷ []) n ≡ numbered clauses n
+pub numbered-other : (clauses : List (List ℤ)) (clause : List ℤ) (n : ℕ) → n ≢ length clauses + 1 → numbered (clauses ++ clause ∷ []) n ≡ numbered clauses n
 numbered-other clauses clause zero h = refl
 numbered-other clauses clause (suc k) h = elim (leb_tells (length clauses) k) [
   | inl past ↦
@@ -67,6 +67,10 @@ count-or n (x ∷ xs) = elim (eqb_tells n x) [
 -- a clause in the list of a literal is there, and holds the literal
 pub held : (clauses : List (List ℤ)) (lists : List (List ℕ)) (l : ℤ) (k d : ℕ) → AreHolders clauses lists → k < length (list_of lists l) → (0 < get_or (list_of lists l) k d) × (get_or (list_of lists l) k d < length clauses + 1)
 held clauses lists l k d holders h = times-number l clauses (get_or (list_of lists l) k d) (omega (arith, count-some (list_of lists l) k d h, holders l (get_or (list_of lists l) k d)))
+
+-- it holds the literal
+pub held-times : (clauses : List (List ℤ)) (lists : List (List ℕ)) (l : ℤ) (k d : ℕ) → AreHolders clauses lists → k < length (list_of lists l) → 0 < times l (numbered clauses (get_or (list_of lists l) k d))
+held-times clauses lists l k d holders h = omega (arith, count-some (list_of lists l) k d h, holders l (get_or (list_of lists l) k d))
 
 -- a clause that isn't in the list of a literal doesn't hold it
 pub held-or : (clauses : List (List ℤ)) (lists : List (List ℕ)) (l : ℤ) (n : ℕ) → AreHolders clauses lists → (times l (numbered clauses n) ≡ 0) ⊎ ((k : ℕ) × (k < length (list_of lists l)) × ((d : ℕ) → get_or (list_of lists l) k d ≡ n))

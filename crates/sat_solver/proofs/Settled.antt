@@ -28,7 +28,7 @@ below-take limit literals n apart h v b e =
     let whole : take (n + (length literals - n)) literals ≡ literals = ap (λ (k : ℕ). take k literals) place ∙ take_all (length literals) literals (omega arith) in
     ap (λ (ls : List ℤ). assigned ls v) (sym whole) ∙ assigned-kept limit literals n (length literals - n) v b apart (omega (arith, h)) e
 
-literal-below : (few many : Known) → IsBelow few many → (l : ℤ) (b : Bool) → literal few l ≡ Some b → literal many l ≡ Some b
+pub literal-below : (few many : Known) → IsBelow few many → (l : ℤ) (b : Bool) → literal few l ≡ Some b → literal many l ≡ Some b
 literal-below few many below (pos n) b e = below n b e
 literal-below few many below (negsuc n) b e = at (few (suc n)) refl where
   at : (o : Option Bool) → few (suc n) ≡ o → Rattle.std.proofs.Common.option_map not (many (suc n)) ≡ Some b

@@ -7,7 +7,8 @@ use Rattle.sat_solver.specs.declared.trail.Trail.{Trail}
 use Rattle.sat_solver.specs.declared.propagator.Propagator.{Propagator}
 use Rattle.sat_solver.specs.declared.counts.Counts.{Counts}
 use Rattle.sat_solver.specs.Occurrences.{place_of, list_of, AreHolders, AreCounted, IsSettled}
-use Rattle.sat_solver.specs.Trails.{assigned, IsConflict, IsUnwound}
+use Rattle.sat_solver.specs.Trails.{assigned, AreStarts, IsConflict, IsUnwound}
+use Rattle.sat_solver.specs.Watches.{AreWatched, AreGuarded}
 
 -- the lists and the counts are those of these clauses, under these values
 pub record IsIndexed (clauses : List (List ℤ)) (known : Known) (lists : List (List ℕ)) (falses trues : List ℕ) : Type 0 where
@@ -17,11 +18,16 @@ pub record IsIndexed (clauses : List (List ℤ)) (known : Known) (lists : List (
   pub positive : All (All (λ l. 0 < variable l)) clauses
   pub short : All (λ clause. length clause < 2 ^ 32) clauses
 
--- The first clauses are taken in: their lists and counts are kept, and what was to follow of the literals before `head` is true.
+-- The first clauses are taken in: the lists and counts of those that are counted are kept, and the pairs of those that are watched; and what was to follow of the literals before `head` is true.
 pub record IsKept (clauses : List (List ℤ)) (p : Propagator) : Type 0 where
   pub few : p.taken ≤ length clauses
-  pub indexed : IsIndexed (take p.taken clauses) (known_of p.trail.values.items) p.occurrences p.counts.falses.items p.counts.trues.items
+  pub counted : List (List ℤ)
+  pub watched : AreWatched (take p.taken clauses) counted p.watches
+  pub indexed : IsIndexed counted (known_of p.trail.values.items) p.occurrences p.counts.falses.items p.counts.trues.items
+  pub guarded : AreGuarded p.watches p.trail.literals.items p.trail.starts.items p.head
   pub wide : length p.occurrences + 1 ≡ 2 * length p.trail.values.items
+  pub lists_wide : length p.watches.lists + 1 ≡ 2 * length p.trail.values.items
+  pub begun : AreStarts (length p.trail.literals.items) p.trail.starts.items
   pub unwound : IsUnwound p.trail.values.items p.trail.literals.items p.trail.literals.items
   pub within : p.head ≤ length p.trail.literals.items
   pub settled : All (IsSettled (assigned (take p.head p.trail.literals.items)) (known_of p.trail.values.items)) (take p.taken clauses)
@@ -31,6 +37,7 @@ pub record IsSteady (old new : Propagator) : Type 0 where
   pub occurrences : new.occurrences ≡ old.occurrences
   pub taken : new.taken ≡ old.taken
   pub head : new.head ≡ old.head
+  pub watches : new.watches ≡ old.watches
 
 -- an open literal was made true for this reason
 pub record IsAssigned (l : ℤ) (reason : ℕ) (old new : Trail) : Type 0 where

@@ -76,7 +76,7 @@ fn needs(needed: &[bool], l: Lit) -> bool
 }
 
 /// The negation of a literal.
-fn negated(l: Lit) -> Lit
+pub fn negated(l: Lit) -> Lit
     requires { variable l < 2 ^ 31 }
     ensures { result ≡ neg_ℤ l }
 {

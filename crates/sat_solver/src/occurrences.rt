@@ -3,7 +3,7 @@
 //! For each literal there is a list of clause numbers. A clause's number stands in the list of a literal as often as the
 //! clause holds the literal, and nowhere else. The list of a variable v is at place 2v, and that of its negation at
 //! 2v - 1. Contracts see the lists; that they are those of some clauses is `AreHolders` of `specs/Occurrences`.
-ghost use Rattle.std.specs.Prelude.{◌≡◌, ◌+◌, ◌-◌, ◌*◌, ◌<◌, [], ℕ, ℤ, length, replicate, take, map, All, neg_ℤ, IfOk, OnOk, OnErr};
+ghost use Rattle.std.specs.Prelude.{◌≡◌, ◌≢◌, ◌+◌, ◌-◌, ◌*◌, ◌<◌, [], ℕ, ℤ, length, replicate, take, map, swap_remove, All, neg_ℤ, IfOk, OnOk, OnErr};
 ghost use Rattle.sat_solver.specs.Occurrences.{place_of, list_of, times, IsAdded};
 
 use clause_store::Lit;
@@ -69,6 +69,17 @@ impl Occurrences {
             }
         }
         Ok(())
+    }
+
+    /// Takes the number at this place out of the list of a literal. The last one of the list comes into its place.
+    pub fn remove(&mut self, l: Lit, place: usize)
+        requires literal { place_of l < length self.old }
+        requires place { place < length (list_of self.old l) }
+        ensures len { length self.new ≡ length self.old }
+        ensures list { list_of self.new l ≡ swap_remove (list_of self.old l) place 0 }
+        ensures others { (m : ℤ) → place_of m ≢ place_of l → list_of self.new m ≡ list_of self.old m }
+    {
+        self.lists[place_of(l)].swap_remove(place);
     }
 }
 

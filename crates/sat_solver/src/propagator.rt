@@ -1,19 +1,24 @@
 //! Unit propagation that costs by what is assigned.
 //!
-//! `taken` clauses, the first ones, are taken in: `occurrences` has for each literal those of them that hold it, and
-//! `counts` how many of their literals are false and true. The literals before `head` are propagated: a clause that is
-//! taken in and is unit under them has its literal made true. What always holds is `IsKept` of `specs/Propagators`.
-ghost use Rattle.std.specs.Prelude.{◌≡◌, ◌+◌, ◌-◌, ◌*◌, ◌<◌, ◌≤◌, ◌^◌, ◌++◌, ◌∷◌, [], ℕ, ℤ, List, length, take, All, None, Some, sum_by, slice_index_or, neg_ℤ, IfOk, OnOk, OnErr, MatchOption};
+//! `taken` clauses, the first ones, are taken in. Each is counted or watched: `occurrences` has for each literal the counted ones
+//! that hold it, and `counts` how many of their literals are false and true; the others are in `watches`. The literals before
+//! `head` are propagated: a clause that is taken in and is unit under them has its literal made true. What always holds is
+//! `IsKept` of `specs/Propagators`.
+ghost use Rattle.std.specs.Prelude.{◌≡◌, ◌+◌, ◌-◌, ◌*◌, ◌<◌, ◌≤◌, ◌^◌, ◌++◌, ◌∷◌, [], ℕ, ℤ, List, length, take, All, None, Some, sum_by, slice_index_or, neg_ℤ, IfOk, IfNone, OnOk, OnErr, MatchOption};
 ghost use Rattle.clause_store.specs.Clauses.{AreOver, variable};
 ghost use Rattle.clause_store.specs.Propagation.{IsQuiet};
 ghost use Rattle.lrat_checker.specs.Tables.{known_of};
 ghost use Rattle.sat_solver.specs.Trails.{assigned, literal_at, IsOpened, IsUnchanged, IsGrown, IsConflict, IsUnwound, AreStarts};
 ghost use Rattle.sat_solver.specs.Occurrences.{place_of, list_of, numbered, IsSettled};
+ghost use Rattle.sat_solver.specs.Watches.{pair_of, IsPair, IsSafe, AreSettled};
 ghost use Rattle.sat_solver.specs.Propagators.{IsKept, IsIndexed, IsSteady, IsAssigned, IsExamined, CanCount, AreRaised};
 
+use crate::analyze::negated;
+use crate::choose::choose;
 use crate::counts::{Counts, count, lower, raise};
 use crate::occurrences::Occurrences;
 use crate::trail::Trail;
+use crate::watches::{Pair, Watches};
 use clause_store::{ClauseStore, Lit};
 use lrat_checker::{Step, examine};
 use std::alloc::{AllocError, Global};
@@ -22,10 +27,11 @@ use std::alloc::{AllocError, Global};
 #[derive(Drop)]
 pub struct Propagator {
     pub trail: Trail,
-    occurrences: Occurrences,
-    counts: Counts,
-    taken: u32,
-    head: usize,
+    pub occurrences: Occurrences,
+    pub counts: Counts,
+    pub watches: Watches,
+    pub taken: u32,
+    pub head: usize,
 }
 
 impl Propagator {
@@ -38,6 +44,7 @@ impl Propagator {
             trail: Trail::new(alloc, greatest)?,
             occurrences: Occurrences::new(alloc, greatest)?,
             counts: Counts::new(alloc)?,
+            watches: Watches::new(alloc, greatest)?,
             taken: 0,
             head: 0,
         })
@@ -46,20 +53,20 @@ impl Propagator {
     /// Makes literals true until no clause is unit. Answers the number of a clause that is false, if there is one.
     pub fn propagate(&mut self, store: &ClauseStore) -> Result<Option<u32>, AllocError>
         requires over { AreOver (length self.old.trail.values.items - 1) store.now }
+        requires short { length self.old.trail.values.items < 2 ^ 31 }
         requires kept { IsKept store.now self.old }
         ensures kept { IsKept store.now self.new }
         ensures grown { IsGrown store.now self.old.trail self.new.trail }
         ensures end { IfOk result (λ found. MatchOption found (All (IsQuiet (known_of self.new.trail.values.items)) store.now) (IsConflict store.now (known_of self.new.trail.values.items))) }
+        ensures whole { IfOk result (λ found. IfNone found (self.new.head ≡ length self.new.trail.literals.items)) }
     {
         if let Some(conflict) = self.take_in(store)? {
             return Ok(Some(conflict));
         }
         'literals: while self.head < self.trail.literals.len() {
-            let l = self.trail.literals[self.head];
-            if let Some(conflict) = self.visit(store, l)? {
+            if let Some(conflict) = self.propagate_next(store)? {
                 return Ok(Some(conflict));
             }
-            self.head += 1;
         }
         Ok(None)
     }
@@ -69,6 +76,7 @@ impl Propagator {
         requires within { variable l < length self.old.trail.values.items }
         requires short { length self.old.trail.literals.items < 2 ^ 32 }
         requires open { known_of self.old.trail.values.items (variable l) ≡ None }
+        requires whole { self.old.head ≡ length self.old.trail.literals.items }
         requires kept { (clauses : List (List ℤ)) × IsKept clauses self.old }
         ensures decided { OnOk result (IsAssigned l 0 self.old.trail self.new.trail) }
         ensures starts { OnOk result (self.new.trail.starts.items ≡ self.old.trail.starts.items ++ length self.old.trail.literals.items ∷ []) }
@@ -129,21 +137,89 @@ impl Propagator {
         ensures trail { self.new.trail ≡ self.old.trail }
         ensures taken { OnOk result (self.new.taken ≡ number) }
     {
+        match choose(&self.trail, store.clause(number)) {
+            Some(pair) => self.take_watched(store, number, pair),
+            None => self.take_counted(store, number),
+        }
+    }
+
+    /// Takes in the next clause, which is quiet, and counts its literals.
+    fn take_counted(&mut self, store: &ClauseStore, number: u32) -> Result<(), AllocError>
+        requires over { AreOver (length self.old.trail.values.items - 1) store.now }
+        requires number { (number ≡ self.old.taken + 1) × (number ≤ length store.now) }
+        requires quiet { IsQuiet (known_of self.old.trail.values.items) (numbered store.now number) }
+        requires kept { IsKept store.now self.old }
+        ensures kept { IsKept store.now self.new }
+        ensures trail { self.new.trail ≡ self.old.trail }
+        ensures taken { OnOk result (self.new.taken ≡ number) }
+    {
         // A clause has no more literals than the store.
         let _literals = store.literals();
         let clause = store.clause(number);
         self.counts.falses.reserve(1)?;
         self.counts.trues.reserve(1)?;
+        self.watches.pairs.reserve(1)?;
         self.occurrences.add(number, clause)?;
         let falses = count(&self.trail.values, clause, false);
         let trues = count(&self.trail.values, clause, true);
         self.counts.falses.push(falses)?;
         self.counts.trues.push(trues)?;
+        self.watches.pairs.push(None)?;
         self.taken = number;
         Ok(())
     }
 
-    /// Examines the clauses in which this literal, the next one to propagate, is false. Answers the number of one that is false.
+    /// Takes in the next clause, which is quiet, and watches it at a pair.
+    fn take_watched(
+        &mut self,
+        store: &ClauseStore,
+        number: u32,
+        pair: Pair,
+    ) -> Result<(), AllocError>
+        requires over { AreOver (length self.old.trail.values.items - 1) store.now }
+        requires number { (number ≡ self.old.taken + 1) × (number ≤ length store.now) }
+        requires quiet { IsQuiet (known_of self.old.trail.values.items) (numbered store.now number) }
+        requires pair { IsPair (numbered store.now number) pair }
+        requires safe { IsSafe self.old.trail.literals.items self.old.trail.starts.items pair }
+        requires kept { IsKept store.now self.old }
+        ensures kept { IsKept store.now self.new }
+        ensures trail { self.new.trail ≡ self.old.trail }
+        ensures taken { OnOk result (self.new.taken ≡ number) }
+    {
+        self.counts.falses.reserve(1)?;
+        self.counts.trues.reserve(1)?;
+        self.watches.pairs.reserve(1)?;
+        self.watches.lists.add(number, &[pair.first, pair.second])?;
+        self.counts.falses.push(0)?;
+        self.counts.trues.push(0)?;
+        self.watches.pairs.push(Some(pair))?;
+        self.taken = number;
+        Ok(())
+    }
+
+    /// Propagates the next literal. Answers the number of a clause that is false, if there is one.
+    fn propagate_next(&mut self, store: &ClauseStore) -> Result<Option<u32>, AllocError>
+        requires over { AreOver (length self.old.trail.values.items - 1) store.now }
+        requires short { length self.old.trail.values.items < 2 ^ 31 }
+        requires kept { IsKept store.now self.old }
+        requires next { self.old.head < length self.old.trail.literals.items }
+        ensures kept { IsKept store.now self.new }
+        ensures grown { IsGrown store.now self.old.trail self.new.trail }
+        ensures taken { self.new.taken ≡ self.old.taken }
+        ensures end { IfOk result (λ found. MatchOption found (self.new.head ≡ self.old.head + 1) (IsConflict store.now (known_of self.new.trail.values.items))) }
+    {
+        let l = self.trail.literals[self.head];
+        if let Some(conflict) = self.visit(store, l)? {
+            return Ok(Some(conflict));
+        }
+        if let Some(conflict) = self.visit_watched(store, negated(l))? {
+            return Ok(Some(conflict));
+        }
+        self.head += 1;
+        Ok(None)
+    }
+
+    /// Examines the counted clauses in which this literal, the next one to propagate, is false. Answers the number of one that is false.
     fn visit(&mut self, store: &ClauseStore, l: Lit) -> Result<Option<u32>, AllocError>
         requires over { AreOver (length self.old.trail.values.items - 1) store.now }
         requires kept { IsKept store.now self.old }
@@ -151,7 +227,7 @@ impl Propagator {
         ensures kept { IsKept store.now self.new }
         ensures grown { IsGrown store.now self.old.trail self.new.trail }
         ensures steady { IsSteady self.old self.new }
-        ensures end { IfOk result (λ found. MatchOption found (All (IsSettled (assigned (take (self.old.head + 1) self.old.trail.literals.items)) (known_of self.new.trail.values.items)) (take self.old.taken store.now)) (IsConflict store.now (known_of self.new.trail.values.items))) }
+        ensures end { IfOk result (λ found. MatchOption found (AreSettled (assigned (take (self.old.head + 1) self.old.trail.literals.items)) (known_of self.new.trail.values.items) (take self.old.taken store.now) self.old.watches) (IsConflict store.now (known_of self.new.trail.values.items))) }
     {
         for place in 0..self.occurrences.against(l).len() {
             let number = self.occurrences.against(l)[place];
@@ -162,10 +238,11 @@ impl Propagator {
         Ok(None)
     }
 
-    /// Examines a clause that is taken in, unless its counts show that it is quiet.
+    /// Examines a clause that is counted, unless its counts show that it is quiet.
     fn examine_counted(&mut self, store: &ClauseStore, number: u32) -> Result<bool, AllocError>
         requires over { AreOver (length self.old.trail.values.items - 1) store.now }
         requires number { (1 ≤ number) × (number ≤ self.old.taken) }
+        requires counted { pair_of self.old.watches number ≡ None }
         requires kept { IsKept store.now self.old }
         ensures kept { IsKept store.now self.new }
         ensures grown { IsGrown store.now self.old.trail self.new.trail }
@@ -179,7 +256,7 @@ impl Propagator {
     }
 
     /// Examines a clause, and makes its literal true where it is unit. Answers whether it is false.
-    fn examine(&mut self, store: &ClauseStore, number: u32) -> Result<bool, AllocError>
+    pub fn examine(&mut self, store: &ClauseStore, number: u32) -> Result<bool, AllocError>
         requires over { AreOver (length self.old.trail.values.items - 1) store.now }
         requires number { (1 ≤ number) × (number ≤ length store.now) }
         requires kept { IsKept store.now self.old }
@@ -229,7 +306,7 @@ impl Propagator {
         requires kept { (clauses : List (List ℤ)) × IsKept clauses self.old }
         ensures trail { self.new.trail ≡ self.old.trail }
         ensures steady { IsSteady self.old self.new }
-        ensures indexed { (clauses : List (List ℤ)) → IsKept clauses self.old → IsIndexed (take self.old.taken clauses) (assigned (take start self.old.trail.literals.items)) self.new.occurrences self.new.counts.falses.items self.new.counts.trues.items }
+        ensures indexed { (clauses : List (List ℤ)) (kept : IsKept clauses self.old) → IsIndexed kept.counted (assigned (take start self.old.trail.literals.items)) self.new.occurrences self.new.counts.falses.items self.new.counts.trues.items }
     {
         let mut place = self.trail.literals.len();
         'places: while place > start {

@@ -2,7 +2,7 @@
 //!
 //! It looks at the cone of the last clause alone until nothing in it is open, and then at all clauses.
 //! Invariant: the trail's literals have reasons among the clauses that it looks at and the lemmas, and none of these was false or
-//! unit when a level began, so that the checker never refuses a lemma. The lists and counts of propagation are those of the
+//! unit when a level began, so that the checker never refuses a lemma. The lists, counts and pairs of propagation are those of the
 //! clauses and lemmas that it has taken in. Contracts see the log and the limit.
 ghost use Rattle.std.specs.Prelude.{◌≡◌, ℕ, ◌+◌, ◌<◌, ◌≤◌, [], length, All, IfOk, OnOk, OnErr, IfSome, MatchOption, ⊤};
 ghost use Rattle.clause_store.specs.Clauses.{IsModel};

@@ -73,3 +73,6 @@ decisions-preserved c =
 pub returns-in_err-decide-in-Some-open_bit-clause-ready : goal.returns-in_err-decide-in-Some-open_bit-clause-ready
 returns-in_err-decide-in-Some-open_bit-clause-ready c =
     ready-same c.args.store.now c.args.free c.propagate.new.self.trail c.decide.new.self.trail c.in_err-decide-in-Some-open_bit.ensures.err c.in_err-decide-in-Some-open_bit.ensures.err_starts (ready-grown c.args.store.now c.args.free c.decisions.propagator.trail c.propagate.new.self.trail c.decisions.invariant.0 c.propagate.ensures.grown)
+
+pub decide-requires-clause-whole : goal.decide-requires-clause-whole
+decide-requires-clause-whole c = rw c.in_default.is at c.in_ok-conflict.ensures.whole

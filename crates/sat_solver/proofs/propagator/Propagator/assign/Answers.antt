@@ -21,5 +21,6 @@ returns-clause-kept c clauses kept =
     let raised : AreRaised c.args.l c.args.self.now.occurrences c.args.self.now.counts c.count.new.self.counts = rw (to_z-of_z w32 c.args.l fits) at c.count.ensures.counted in
     kept-assigned clauses c.args.self.now c.count.new.self c.args.l c.args.reason kept c.requires.within c.requires.open
     (record { values = ap (λ t. t.values.items) c.count.ensures.trail ∙ values; literals = ap (λ t. t.literals.items) c.count.ensures.trail ∙ literals; reasons = ap (λ t. t.reasons.items) c.count.ensures.trail ∙ c.in_ok-assign.ensures.reasons })
-    (record { occurrences = c.count.ensures.steady.occurrences; taken = c.count.ensures.steady.taken; head = c.count.ensures.steady.head })
+    (ap (λ t. t.starts.items) c.count.ensures.trail ∙ ap (λ v. v.items) c.assign.ensures.starts)
+    (record { occurrences = c.count.ensures.steady.occurrences; taken = c.count.ensures.steady.taken; head = c.count.ensures.steady.head; watches = c.count.ensures.steady.watches })
     raised

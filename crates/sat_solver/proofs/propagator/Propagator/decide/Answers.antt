@@ -5,7 +5,7 @@ use Rattle.std.proofs.lemmas.Int.{to_z-of_z}
 use Rattle.clause_store.specs.Clauses.{variable}
 use Rattle.clause_store.specs.Propagation.{is_positive}
 use Rattle.sat_solver.specs.Propagators.{AreRaised}
-use Rattle.sat_solver.proofs.Kept.{kept-count, kept-assigned}
+use Rattle.sat_solver.proofs.Kept.{kept-count, kept-decided}
 use Rattle.sat_solver.proofs.propagator.Propagator.decide.Goals as goal
 
 pub count-requires : goal.count-requires
@@ -19,7 +19,8 @@ returns-clause-kept c clauses kept =
     let values : c.decide.new.self.values.items ≡ set c.args.self.now.trail.values.items (variable c.args.l) (Some (is_positive c.args.l)) = rw (to_z-of_z w32 c.args.l fits) at c.in_ok-decide.ensures.values in
     let literals : c.decide.new.self.literals.items ≡ c.args.self.now.trail.literals.items ++ c.args.l ∷ [] = rw (to_z-of_z w32 c.args.l fits) at c.in_ok-decide.ensures.literals in
     let raised : AreRaised c.args.l c.args.self.now.occurrences c.args.self.now.counts c.count.new.self.counts = rw (to_z-of_z w32 c.args.l fits) at c.count.ensures.counted in
-    kept-assigned clauses c.args.self.now c.count.new.self c.args.l 0 kept c.requires.within c.requires.open
+    kept-decided clauses c.args.self.now c.count.new.self c.args.l 0 kept c.requires.within c.requires.open c.requires.whole
     (record { values = ap (λ t. t.values.items) c.count.ensures.trail ∙ values; literals = ap (λ t. t.literals.items) c.count.ensures.trail ∙ literals; reasons = ap (λ t. t.reasons.items) c.count.ensures.trail ∙ c.in_ok-decide.ensures.reasons })
-    (record { occurrences = c.count.ensures.steady.occurrences; taken = c.count.ensures.steady.taken; head = c.count.ensures.steady.head })
+    (ap (λ t. t.starts.items) c.count.ensures.trail ∙ c.in_ok-decide.ensures.starts)
+    (record { occurrences = c.count.ensures.steady.occurrences; taken = c.count.ensures.steady.taken; head = c.count.ensures.steady.head; watches = c.count.ensures.steady.watches })
     raised

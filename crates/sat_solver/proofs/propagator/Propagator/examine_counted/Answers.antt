@@ -8,4 +8,4 @@ pub returns-then-is_quiet-clause-end : goal.returns-then-is_quiet-clause-end
 returns-then-is_quiet-clause-end c clause is =
     let Q : List ℤ → Type 0 = IsQuiet (known_of c.args.self.now.trail.values.items) in
     subst Q (same-clause c.args.store.now c.args.number c.clause.result.now clause c.clause.ensures is)
-    (kept-shown c.args.store.now c.args.self.now c.args.number c.clause.result.now c.requires.kept c.requires.number.1 (numbered-is c.args.store.now c.args.number c.clause.result.now c.requires.number.0 c.clause.ensures) c.if-is_quiet.ensures)
+    (kept-shown c.args.store.now c.args.self.now c.args.number c.clause.result.now c.requires.kept c.requires.number.1 c.requires.counted (numbered-is c.args.store.now c.args.number c.clause.result.now c.requires.number.0 c.clause.ensures) c.if-is_quiet.ensures)

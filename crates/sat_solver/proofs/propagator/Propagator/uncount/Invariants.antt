@@ -9,7 +9,7 @@ invariant-places l = record {
   within : l.place ≤ length l.initial.self.trail.literals.items;
   trail : l.self.trail ≡ l.initial.self.trail;
   steady : IsSteady l.initial.self l.self;
-  indexed : (clauses : List (List ℤ)) → IsKept clauses l.initial.self → IsIndexed (take l.initial.self.taken clauses) (assigned (take l.place l.initial.self.trail.literals.items)) l.self.occurrences l.self.counts.falses.items l.self.counts.trues.items;
+  indexed : (clauses : List (List ℤ)) (kept : IsKept clauses l.initial.self) → IsIndexed kept.counted (assigned (take l.place l.initial.self.trail.literals.items)) l.self.occurrences l.self.counts.falses.items l.self.counts.trues.items;
 }
 
 abbrev pub decreases-places : goal.decreases-places

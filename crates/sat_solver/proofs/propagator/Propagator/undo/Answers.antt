@@ -1,17 +1,18 @@
-use Rattle.std.proofs.Common.{◌≡◌, ℕ, length, take, get_or, ap, sym, ◌∙◌, subst, arith}
+use Rattle.std.proofs.Common.{◌≡◌, ℕ, length, take, get_or, ap, sym, ◌∙◌, refl, subst, arith}
 use Rattle.std.proofs.lemmas.List.{get_or_default}
 use Rattle.sat_solver.specs.declared.trail.Trail.{Trail}
 use Rattle.sat_solver.specs.Trails.{assigned, IsUnwound}
 use Rattle.sat_solver.specs.Propagators.{IsIndexed}
-use Rattle.sat_solver.proofs.Kept.{kept-undone}
+use Rattle.sat_solver.proofs.Undone.{kept-undone}
 use Rattle.sat_solver.proofs.propagator.Propagator.undo.Goals as goal
 
 pub returns-then-self-start-clause-kept : goal.returns-then-self-start-clause-kept
 returns-then-self-start-clause-kept c clauses kept quiet =
     let start : c.index.result.now ≡ get_or c.args.self.now.trail.starts.items c.args.level 0 = c.index.ensures ∙ sym (get_or_default c.args.self.now.trail.starts.items c.args.level 0 c.index.result.now c.requires.level) in
-    let P : ℕ → Type 0 = λ n. IsIndexed (take c.args.self.now.taken clauses) (assigned (take n c.args.self.now.trail.literals.items)) c.uncount.new.self.occurrences c.uncount.new.self.counts.falses.items c.uncount.new.self.counts.trues.items in
+    let P : ℕ → Type 0 = λ n. IsIndexed kept.counted (assigned (take n c.args.self.now.trail.literals.items)) c.uncount.new.self.occurrences c.uncount.new.self.counts.falses.items c.uncount.new.self.counts.trues.items in
     let Q : Trail → Type 0 = λ t. IsUnwound c.undo.new.self.values.items c.undo.new.self.literals.items t.literals.items in
-    kept-undone clauses c.args.self.now _ (get_or c.args.self.now.trail.starts.items c.args.level 0) kept quiet c.uncount.ensures.steady.taken (omega (arith, start)) c.uncount.ensures.steady.occurrences
+    kept-undone clauses c.args.self.now _ c.args.level (get_or c.args.self.now.trail.starts.items c.args.level 0) kept c.requires.level refl quiet c.uncount.ensures.steady.taken (omega (arith, start)) c.uncount.ensures.steady.occurrences c.uncount.ensures.steady.watches
+    (c.undo.ensures.starts ∙ ap (λ t. take c.args.level t.starts.items) c.uncount.ensures.trail)
     (subst P start (c.uncount.ensures.indexed clauses kept)) (subst Q c.uncount.ensures.trail c.undo.ensures.unwound)
     (c.undo.ensures.literals ∙ ap (λ t. get_or t.starts.items c.args.level 0) c.uncount.ensures.trail)
     (c.undo.ensures.len ∙ ap (λ t. length t.values.items) c.uncount.ensures.trail)
@@ -19,9 +20,10 @@ returns-then-self-start-clause-kept c clauses kept quiet =
 pub returns-else-self-start-clause-kept : goal.returns-else-self-start-clause-kept
 returns-else-self-start-clause-kept c clauses kept quiet =
     let start : c.index.result.now ≡ get_or c.args.self.now.trail.starts.items c.args.level 0 = c.index.ensures ∙ sym (get_or_default c.args.self.now.trail.starts.items c.args.level 0 c.index.result.now c.requires.level) in
-    let P : ℕ → Type 0 = λ n. IsIndexed (take c.args.self.now.taken clauses) (assigned (take n c.args.self.now.trail.literals.items)) c.uncount.new.self.occurrences c.uncount.new.self.counts.falses.items c.uncount.new.self.counts.trues.items in
+    let P : ℕ → Type 0 = λ n. IsIndexed kept.counted (assigned (take n c.args.self.now.trail.literals.items)) c.uncount.new.self.occurrences c.uncount.new.self.counts.falses.items c.uncount.new.self.counts.trues.items in
     let Q : Trail → Type 0 = λ t. IsUnwound c.undo.new.self.values.items c.undo.new.self.literals.items t.literals.items in
-    kept-undone clauses c.args.self.now _ (get_or c.args.self.now.trail.starts.items c.args.level 0) kept quiet c.uncount.ensures.steady.taken (omega (arith, start, c.if-self-start.false)) c.uncount.ensures.steady.occurrences
+    kept-undone clauses c.args.self.now _ c.args.level (get_or c.args.self.now.trail.starts.items c.args.level 0) kept c.requires.level refl quiet c.uncount.ensures.steady.taken (omega (arith, start, c.if-self-start.false)) c.uncount.ensures.steady.occurrences c.uncount.ensures.steady.watches
+    (c.undo.ensures.starts ∙ ap (λ t. take c.args.level t.starts.items) c.uncount.ensures.trail)
     (subst P start (c.uncount.ensures.indexed clauses kept)) (subst Q c.uncount.ensures.trail c.undo.ensures.unwound)
     (c.undo.ensures.literals ∙ ap (λ t. get_or t.starts.items c.args.level 0) c.uncount.ensures.trail)
     (c.undo.ensures.len ∙ ap (λ t. length t.values.items) c.uncount.ensures.trail)
