@@ -4,7 +4,7 @@
     tests/searches.py            writes crates/search_cases/stdin and crates/search_cases/stdout
     tests/searches.py --check    only compares the two files with what would be written
 
-This is the rule of the search, over lists: decide the least open free bit to 0, propagate by examining the new clauses in order
+This is the rule of the search, over lists: decide the first open free bit to 0, propagate by examining the new clauses in order
 and then those in which the next literal of the trail is false, short ones first and then the long ones that are watched there, and learn the free bits at which the walk down the trail stops.
 First it looks at the cone of the last clause alone; where no free bit of that is open, it begins anew with all clauses, and decides
 the other free bits after these. What comes of it is tested by the definition besides: each lemma is over free bits, has no earlier
@@ -69,13 +69,36 @@ def cone(clauses, free):
     return inside[::-1], reached
 
 
+def walked(clauses, free, reached):
+    """The free bits that are reached, in the order in which walks down from the literals of the last clause come to them: depth first,
+    from a gate to the variables of its first three clauses, the last one first. Those that no walk comes to stand behind."""
+    first = {}
+    for place, clause in enumerate(clauses):
+        first.setdefault(max(map(abs, clause), default=0), place)
+    marked, bits = set(reached), []
+    for literal in clauses[-1] if clauses else []:
+        waiting = [abs(literal)]
+        while waiting:
+            variable = waiting.pop()
+            if variable not in marked:
+                continue
+            marked.remove(variable)
+            if variable > free:
+                place = first.get(variable)
+                if place is not None:
+                    waiting += [abs(each) for clause in clauses[place : place + 3] for each in clause]
+            elif variable > 0:
+                bits.append(variable)
+    return bits + [bit for bit in range(1, free + 1) if bit in marked]
+
+
 class Search:
     """A search, which goes on from lemma to lemma."""
 
     def __init__(self, clauses, free, limit):
         self.clauses, self.lemmas, self.free, self.limit = clauses, [], free, limit
         self.used, reached = cone(clauses, free)
-        self.bits, self.whole = [bit for bit in range(1, free + 1) if bit in reached], False
+        self.bits, self.whole = walked(clauses, free, reached), False
         self.begin()
 
     def begin(self):

@@ -84,7 +84,7 @@ pub fn negated(l: Lit) -> Lit
 }
 
 /// Marks the variables of a clause.
-pub fn mark(needed: &mut Vec<bool>, clause: &[Lit])
+fn mark(needed: &mut Vec<bool>, clause: &[Lit])
     requires { All (λ l. variable l < length needed.old.items) clause.now }
     ensures marks { (v : ℕ) → is_needed needed.new.items v ≡ (is_needed needed.old.items v || is_named clause.now v) }
     ensures len { length needed.new.items ≡ length needed.old.items }

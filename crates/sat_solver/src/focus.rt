@@ -1,14 +1,12 @@
 //! What a search looks at: clauses, and the free bits that it decides, in their order.
 //!
-//! A search first looks at the cone of the last clause alone: at the gates that this clause reads, at those that these read, and so
-//! on. Each clause but the last is of the gate of its greatest variable, or over free bits alone, and then it is looked at too.
-//! Nothing rests on this: before a search says that it found a model, it looks at everything.
-ghost use Rattle.std.specs.Prelude.{◌≡◌, ◌+◌, ◌-◌, ◌<◌, ◌≤◌, ℕ, length, All, Contains, true, IfOk};
-ghost use Rattle.clause_store.specs.Clauses.{variable, AreOver};
+//! A search first looks at the cone of the last clause alone. Nothing rests on what the cone is: before a search says that it found a
+//! model, it looks at everything.
+ghost use Rattle.std.specs.Prelude.{◌≡◌, ◌<◌, ◌≤◌, ℕ, length, All, Contains, true, IfOk};
 ghost use Rattle.sat_solver.specs.Parts.{IsFocus};
 
-use crate::analyze::mark;
-use clause_store::{ClauseStore, Lit};
+use clause_cone::Cone;
+use clause_store::ClauseStore;
 use std::alloc::{AllocError, Global};
 
 /// Clauses and free bits that a search looks at.
@@ -30,13 +28,9 @@ impl Focus {
         variables: u32,
         free: u32,
     ) -> Result<Focus, AllocError>
-        requires over { AreOver variables store.now }
-        requires free { free ≤ variables }
         ensures { IfOk result (IsFocus (length store.now) free) }
     {
-        let mut reached = vec![in alloc; false; variables as usize + 1]?;
-        let left_out = left_out(alloc, store, &mut reached, free)?;
-        let bits = reached_bits(alloc, &reached, free)?;
+        let Cone { left_out, bits } = Cone::new(alloc, store, variables, free)?;
         Ok(Focus {
             left_out,
             bits,
@@ -56,57 +50,6 @@ impl Focus {
             whole: true,
         })
     }
-}
-
-/// For each clause whether it is outside of the last one's cone. Marks the variables of the others.
-fn left_out(
-    alloc: Global,
-    store: &ClauseStore,
-    reached: &mut Vec<bool>,
-    free: u32,
-) -> Result<Vec<bool>, AllocError>
-    requires some { 0 < length reached.old.items }
-    requires over { AreOver (length reached.old.items - 1) store.now }
-    ensures count { IfOk result (λ flags. length flags.items ≡ length store.now) }
-    ensures len { length reached.new.items ≡ length reached.old.items }
-{
-    let mut flags = vec![in alloc; true; store.len() as usize]?;
-    let mut left = store.len();
-    while left > 0 {
-        let clause = store.clause(left);
-        let gate = greatest(clause);
-        if left == store.len() || gate <= free || reached[gate as usize] {
-            flags[left as usize - 1] = false;
-            mark(reached, clause);
-        }
-        left -= 1;
-    }
-    Ok(flags)
-}
-
-/// The greatest variable of a clause, or 0 where there is none.
-fn greatest(clause: &[Lit]) -> u32
-    ensures { (count : ℕ) → 0 < count → All (λ l. variable l < count) clause.now → result < count }
-{
-    let mut greatest = 0;
-    for l in clause {
-        greatest = l.unsigned_abs().max(greatest);
-    }
-    greatest
-}
-
-/// The free bits that are marked.
-fn reached_bits(alloc: Global, reached: &[bool], free: u32) -> Result<Vec<u32>, AllocError>
-    requires { free < length reached.now }
-    ensures { IfOk result (λ bits. All (λ v. (0 < v) × (v ≤ free)) bits.items) }
-{
-    let mut bits = Vec::new(alloc);
-    for v in 0..free {
-        if reached[v as usize + 1] {
-            bits.push(v + 1)?;
-        }
-    }
-    Ok(bits)
 }
 
 /// These free bits, and after them all.

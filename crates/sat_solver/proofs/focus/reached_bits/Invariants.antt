@@ -1,6 +1,0 @@
-use Rattle.std.proofs.Common.{◌<◌, ◌≤◌}
-use Rattle.std.specs.Prelude.{All}
-use Rattle.sat_solver.proofs.focus.reached_bits.Given as goal
-
-abbrev pub invariant-loop-v : goal.invariant-loop-v
-invariant-loop-v l = All (λ v. (0 < v) × (v ≤ l.free)) l.bits.items
