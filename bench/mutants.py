@@ -20,6 +20,8 @@ sys.path.insert(0, str(pathlib.Path(__file__).resolve().parent.parent / "tests")
 from pairs import Netlist
 
 LIMIT = 20_000
+# Asks the solver whether `gold` and `gate` are the same.
+MITER = "miter -equiv -make_assert -flatten gold gate miter; hierarchy -top miter; sat -verify -prove-asserts miter"
 UNARY = {"$not": "not", "$neg": "neg"}
 BINARY = {"$and": "and", "$or": "or", "$xor": "xor", "$xnor": "xnor", "$add": "add", "$sub": "sub", "$mul": "mul"}
 RELATIONS = {"$lt": "lt", "$le": "le", "$gt": "gt", "$ge": "ge", "$eq": "eq", "$ne": "ne"}
@@ -118,7 +120,7 @@ def by_yosys(folder, count):
     before, words = resource.getrusage(resource.RUSAGE_CHILDREN).ru_utime, []
     for site in (folder / "sites").read_text().splitlines()[:count]:
         yosys(folder, f"read_rtlil design.il; {site}; expose -evert-dff; rename -top gate; write_rtlil gate.il")
-        same = yosys(folder, "read_rtlil gold.il; read_rtlil gate.il; miter -equiv -make_assert -flatten gold gate miter; hierarchy -top miter; sat -verify -prove-asserts miter") == 0
+        same = yosys(folder, f"read_rtlil gold.il; read_rtlil gate.il; {MITER}") == 0
         words.append("no change" if same else "change")
     spent = resource.getrusage(resource.RUSAGE_CHILDREN).ru_utime - before
     (folder / "words").write_text("\n".join(words) + "\n")

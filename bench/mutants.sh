@@ -4,7 +4,8 @@
 # that of reading the pairs alone); beside it the processor time of yosys, which breaks a mutant in one process and compares it with the design
 # in another, by a miter and a solver, for the first COUNT of the same mutants. The verdicts are compared. yosys has to be installed.
 #
-# usage: bench/mutants.sh [SIZE [COUNT]]      200 mutants, and 20 of them by yosys, where they are left out
+# usage: bench/mutants.sh [SIZE [COUNT [PROGRAM]]]      200 mutants, 20 of them by yosys, and the program pair_cases, which is proved and
+#                                                       built, where they are left out
 set -euo pipefail
 root=$(cd "$(dirname "$0")/.." && pwd)
 size=${1:-200}
@@ -13,8 +14,12 @@ room=$(mktemp -d "$root/out-bench.XXXXXX")
 trap 'rm -rf "$room"' EXIT
 
 # The program is the one that runs the cases of pairs.
-. "$root/bench/build.sh"
-build_program pair_cases
+if [ $# -lt 3 ]; then
+    . "$root/bench/build.sh"
+    build_program pair_cases
+else
+    cp "$3" "$room/program"
+fi
 
 # The processor time of the program in milliseconds: `spent INPUT`.
 spent() {
