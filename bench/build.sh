@@ -18,6 +18,15 @@ build_beside() {
     build "$name"
 }
 
+# `given_or_built NAME [PROGRAM]`: a copy of the program that was given, or where none was that of the repository.
+given_or_built() {
+    if [ $# = 1 ]; then
+        build_program "$1"
+    else
+        cp "$2" "$room/program"
+    fi
+}
+
 # `build_program NAME`: a program of the repository.
 build_program() {
     begin_copy

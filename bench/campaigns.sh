@@ -7,12 +7,8 @@ set -euo pipefail
 root=$(cd "$(dirname "$0")/.." && pwd)
 room=$(mktemp -d "$root/out-bench.XXXXXX")
 trap 'rm -rf "$room"' EXIT
-if [ $# = 0 ]; then
-    . "$root/bench/build.sh"
-    build_program mcy
-else
-    cp "$1" "$room/program"
-fi
+. "$root/bench/build.sh"
+given_or_built mcy "${@:1:1}"
 for bytes in 2500 6000 24000; do
     mkdir "$room/$bytes"
     cd "$room/$bytes"

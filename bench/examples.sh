@@ -9,12 +9,8 @@ set -euo pipefail
 root=$(cd "$(dirname "$0")/.." && pwd)
 room=$(mktemp -d "$root/out-bench.XXXXXX")
 trap 'rm -rf "$room"' EXIT
-if [ $# = 0 ]; then
-    . "$root/bench/build.sh"
-    build_program mcy
-else
-    cp "$1" "$room/program"
-fi
+. "$root/bench/build.sh"
+given_or_built mcy "${@:1:1}"
 for name in serial arbiter processor; do
     cp -r "$root/examples/$name" "$room/$name"
     echo "$name:"

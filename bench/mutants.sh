@@ -14,12 +14,8 @@ room=$(mktemp -d "$root/out-bench.XXXXXX")
 trap 'rm -rf "$room"' EXIT
 
 # The program is the one that runs the cases of pairs.
-if [ $# -lt 3 ]; then
-    . "$root/bench/build.sh"
-    build_program pair_cases
-else
-    cp "$3" "$room/program"
-fi
+. "$root/bench/build.sh"
+given_or_built pair_cases "${@:3:1}"
 
 # The processor time of the program in milliseconds: `spent INPUT`.
 spent() {
