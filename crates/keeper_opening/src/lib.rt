@@ -4,6 +4,3 @@
 mod opening;
 
 pub use opening::{DatabaseFault, OpenError, Opener, OpeningKeeper};
-
-#[cfg(test)]
-mod tests;

@@ -19,6 +19,3 @@ pub use span::Span;
 pub use steps::Steps;
 pub use text::Text;
 pub use word::Word;
-
-#[cfg(test)]
-mod tests;

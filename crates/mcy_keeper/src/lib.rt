@@ -10,6 +10,3 @@ pub use book::{Book, Entry, Journal};
 pub use clean::CleanKeeper;
 pub use keeper::{KeepError, Keeper};
 pub use memory::MemoryKeeper;
-
-#[cfg(test)]
-mod tests;

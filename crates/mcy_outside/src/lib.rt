@@ -14,9 +14,6 @@ pub use clean_files::CleanFiles;
 pub use files::{FileError, SourceFiles};
 pub use memory_files::MemoryFiles;
 pub use memory_sink::MemorySink;
-pub use real_files::RealFiles;
+pub use real_files::{RealFiles, read_within};
 pub use real_sink::RealSink;
 pub use sink::{CleanSink, Sink, SinkFailed};
-
-#[cfg(test)]
-mod tests;

@@ -69,7 +69,7 @@ fn open_error(kind: ErrorKind) -> FileError
 
 /// All bytes that a reader gives, of which there may be `max`. It takes at most one more from the reader,
 /// which tells whether there are too many.
-fn read_within<R: Read + Drop>(alloc: Global, reader: R, max: u32) -> Result<Vec<u8>, FileError>
+pub fn read_within<R: Read + Drop>(alloc: Global, reader: R, max: u32) -> Result<Vec<u8>, FileError>
     ensures reads { Reads (option_map (λ xs _. Some xs) (R.remaining reader)) [] max result }
     ensures few { IfOk result (λ bytes. length bytes.items ≤ max) }
 {
@@ -95,6 +95,3 @@ impl<R: Files> SourceFiles for RealFiles<R> {
         result
     }
 }
-
-#[cfg(test)]
-mod tests;

@@ -1,7 +1,8 @@
+//! Keepers in memory.
 ghost use Rattle.std.specs.Prelude.{◌≡◌, ◌≢◌, []};
 
-use super::*;
 use mcy_base::{Bytes, BytesList};
+use mcy_keeper::{CleanKeeper, Entry, KeepError, Keeper, MemoryKeeper};
 use std::alloc::{AllocError, Global};
 use std::test::Fail;
 

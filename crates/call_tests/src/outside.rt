@@ -1,5 +1,9 @@
-use super::*;
+//! Files and sinks, in memory and real.
 use mcy_base::{Bytes, FileList, SourceFile, Text};
+use mcy_outside::{
+    CleanFiles, CleanSink, FileError, MemoryFiles, MemorySink, RealFiles, RealSink, Sink,
+    SourceFiles,
+};
 use std::alloc::{AllocError, Global};
 use std::io::{ErrorKind, Write};
 use std::test::Fail;

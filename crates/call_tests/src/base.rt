@@ -1,6 +1,7 @@
+//! Words, texts, lists, the numbers of calls and the counter of steps.
 ghost use Rattle.std.specs.Prelude.{◌≡◌, ◌<◌};
 
-use super::*;
+use mcy_base::{Bytes, BytesList, Steps, Text, Word, at_call, call_after};
 use std::alloc::{AllocError, Global};
 use std::marker::Brand;
 use std::sync::ledger::{Blank, Ledger};

@@ -1,5 +1,6 @@
-use super::*;
-use std::io;
+//! Readers that give parts, fail or never end.
+use mcy_outside::{FileError, read_within};
+use std::io::{self, ErrorKind, Read};
 use std::test::Fail;
 
 /// What a read of the fake reader does.

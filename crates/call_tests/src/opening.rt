@@ -1,4 +1,5 @@
-use super::*;
+//! A keeper that opens its database at its first load.
+use keeper_opening::{DatabaseFault, OpenError, Opener, OpeningKeeper};
 use mcy_keeper::{KeepError, Keeper};
 use sqlite::{Connection, MemStore};
 use std::alloc::Global;
