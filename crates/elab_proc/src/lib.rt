@@ -1,4 +1,14 @@
 //! Processes become muxes and registers: what is refused in their statements, and where.
+//!
+//! `specs/Refusals` lists what is refused in the steps of `vlog_effects`, each at its place, and `specs/Order` says which of
+//! several is answered. `sides` and `cases` look at expressions, each at the width and sign at which it is evaluated, `left_side`
+//! at the names that are written, `turns` at a loop's condition and step, and `detail` orders what is refused at one place.
+//! `statement` goes over the statements: it takes a loop turn by turn, with its variable as a constant of the scope, and an item
+//! of a case only where none before it always matches.
+//!
+//! In its proofs, `Firsts` shows that the first of two lists is the earlier of their firsts, `Order` that just one of several
+//! stands first, `Forms` that left sides of one form are one, `StepLemmas` and `TurnLemmas` what is left of a block, of the items
+//! of a case and of the turns of a loop.
 #![tactic(auto)]
 
 mod cases;

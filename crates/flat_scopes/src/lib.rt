@@ -1,4 +1,17 @@
 //! Scopes: what declarations say, and what the items of a scope declare and list (IEEE 1364-2005, 4, 12.2, 12.3 and 12.4).
+//!
+//! An `Opening` goes over the items of a module or a generate block, one after the other: it declares their names, numbers the
+//! signals of the design, and lists steps, which are what is left to do in the order of the source: signals, refusals, start
+//! values, initial values of nets, assigns, processes, instances and generate constructs. Nothing is refused on the way; a
+//! refusal is a step at its place.
+//!
+//! In its specs, `Openings` says what nets, variables, ports, genvars and instances do to a scope, `Valued` what parameters do,
+//! and `Opens` what the items of a scope and a whole module do, a rule for each kind of item; `Views` says what the code's
+//! structure stands for, `Owns` what a scope's own names are. `Ranges` and `Parameters` have the bits of a range and the constant
+//! of a value, each by the constants of `vlog_meaning`; `Examples` has ranges and `ScopeExamples` small scopes that were worked
+//! out by hand. `own` is the map of own names, `names` a list of names with a set of them beside it, so that no port looks at all
+//! names in the head (`Known` in the specs says what the set has), `opening` the names that have no value, `declare` nets,
+//! variables and ports, `values` parameters, `items` the items in turn, and `modules` the head of a module.
 #![tactic(auto)]
 
 mod declare;

@@ -1,4 +1,11 @@
 //! The netlist: cells, registers and the nets between them, which netlists can be run, and what a run is.
+//!
+//! `Netlist::check` goes over the parts five times: `size` counts cells and bits, `shape` compares widths, `drivers` makes the
+//! table of drivers, net by net, and looks in it for each net that is read, `listing` lists the cells, and `loops` looks for the
+//! least cell on a loop where some are left. In its specs, `Cells` is the table of cell kinds, `Shapes` the widths of their
+//! ports, `Runs` the equations of a run, `Drivers` and `Orders` what drives and reads what, `Checked` the refusals, and
+//! `Solutions` exactly one run and the laws; `Marking`, `Listing`, `Reaching`, `Settled` and `Sizes` say what the code's steps
+//! compute.
 #![tactic(auto)]
 
 mod bit;

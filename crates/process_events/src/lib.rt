@@ -1,4 +1,6 @@
 //! When a process runs: at each change of what it reads, or at each rising edge of its clock (IEEE 1364-2005, 9.7 and 9.9).
+//!
+//! No scope is needed, since of two edges the one whose name the body does not read is the clock.
 #![tactic(auto)]
 
 mod generator;

@@ -2,6 +2,9 @@
 //!
 //! A reading goes over the lines twice. First each line is checked behind the lines before it, so that the first bad one is
 //! told. Then the project is made from lines that are known to be good: each value is looked up on the line with its key.
+//!
+//! `checks` goes over the lines first, and `read` then. So the definitions speak of lines and the lines before them, and not of a
+//! reader's state.
 #![tactic(auto)]
 
 mod checks;

@@ -1,4 +1,7 @@
 //! The lines of a report by themselves: what each says, its expressions, and the formats of its texts.
+//!
+//! Operators of one precedence are one list, done from left to right, so that a chain of a thousand sums nests no deeper than
+//! one; `and` and `or` are such operators, whose left operand may decide. `Formats` takes a text apart byte by byte.
 #![tactic(auto)]
 
 mod expr;

@@ -1,7 +1,11 @@
-//! The lines of a tag script or a report: which of them say something, how far each is indented, and its tokens
-//! (docs/FORMATS.md, "Scripts").
+//! The lines of a tag script or a report: which of them say something, how far each is indented, and its tokens (docs/FORMATS.md,
+//! "Scripts").
 //!
-//! Nothing is refused here. A row says that its line cannot be read, so that the first fault of all is told by who reads the rows.
+//! Nothing is refused here. A row says that its line cannot be read, so that the first fault of all is told by who reads the
+//! rows.
+//!
+//! `Tokens` says what the tokens of a line are, one in front and those behind it, and `Rows` which lines count and how far they
+//! are indented.
 #![tactic(auto)]
 
 mod class;

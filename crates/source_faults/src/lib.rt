@@ -1,4 +1,7 @@
 //! What is wrong with the sources of a design and of its testbenches, in which file, and the line that tells it.
+//!
+//! `fault` gives a fault of `source_trees`, `elab_items` or `tb_faults` the name of its file, and `line` makes its line, with the
+//! names of `feature`.
 #![tactic(auto)]
 
 mod fault;

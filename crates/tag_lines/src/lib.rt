@@ -1,4 +1,10 @@
 //! The lines of a tag script by themselves: what each says, and its expressions.
+//!
+//! `Grammar` parts the tokens of an expression at the operators of the lowest precedence that stand outside parentheses, and so
+//! does the code, on slices: each call on the inside of a parenthesis or `not` has one in `room` less, so calls nest no deeper
+//! than the 32 constructs that may be open. `Lines` says what a line says, and `Uses` whether its tests are those of the project
+//! and its names are assigned. Its trees are made of `Boxed` and `Listed` of `tree_parts`, which `vlog_syntax` has under the same
+//! names for the trees of Verilog.
 #![tactic(auto)]
 
 mod expr;

@@ -1,4 +1,7 @@
 //! The nets and processes of a testbench whose items have no fault.
+//!
+//! In its proofs `Places` has which bits a part can write, `Meeting` that what a net writes without a fault was not written
+//! before, `Listed` a list of nodes, one more, `Apart` goes over the items, and `Clean` has what each holds by itself.
 #![tactic(auto)]
 
 mod laws;

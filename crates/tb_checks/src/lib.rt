@@ -1,4 +1,9 @@
 //! What the expressions, assigns and processes of a testbench may not hold: the first fault of each, by its place.
+//!
+//! `Expressions` says what is wrong in an expression at the width at which it is evaluated, `Nets` the same where nothing may be
+//! drawn, `Lefts` which names may be written, `Statements` goes over the statements, which wait for edges of the clock alone, and
+//! `Processes` has the lists of `always` and the one assignment with which an `initial` may set the clock. In its proofs `Layers`
+//! has a statement's faults from those of its parts, and `Arms` the first one of each kind of statement.
 #![tactic(auto)]
 
 mod cases;

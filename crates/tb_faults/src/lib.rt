@@ -1,4 +1,7 @@
 //! Why a testbench is refused, and which of several reasons is told.
+//!
+//! `Order` says which of several is told: the first by place, then by kind; of two that differ one comes before the other, so it
+//! is one (`first_is_one`).
 #![tactic(auto)]
 
 mod error;

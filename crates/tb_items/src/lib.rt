@@ -1,5 +1,12 @@
 //! What the items of a testbench's module are: its clock generator, the instance of the design with its connections, its assigns
 //! and its processes.
+//!
+//! The module is taken apart once it is opened: `step` goes over the steps that its scope lists, `generator` tells a clock
+//! generator by its form, `instance` and `connection` make the instance of the design and its connections, each an assignment
+//! through a hidden signal of the port (`assignment`), and `left` the left side that an expression has the form of. What is wrong
+//! with a declaration or a connection is an item too, at its place.
+//!
+//! In its proofs `Forms` has the left side of each production.
 #![tactic(auto)]
 
 mod assignment;

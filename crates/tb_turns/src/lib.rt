@@ -1,4 +1,8 @@
 //! Simulations in turns: how phases are run one after the other, what is heard of them, their transcript and their verdict.
+//!
+//! A run of phases is a trait (`Phases`), and so is what hears their text (`Listener`): a watch, or a vector for a transcript.
+//! `run_to` goes up to a phase or to the last one of the simulation; `IsRunTo` of `Reached` says where that leads. A turn counts
+//! phases, not cycles: phase 0 goes before the first cycle, so it belongs to the first turn.
 #![tactic(auto)]
 
 mod laws;

@@ -1,5 +1,11 @@
 //! What expressions mean: their widths and signs, their values, and which of them are constant
 //! (IEEE 1364-2005, 5), in two values.
+//!
+//! `specs/Senses` says by one line for each production and question what an expression says: its shape, its value at a width and
+//! sign, the bits that it reads, the signals in it, what is wrong, and where it divides by 0. `Operators` has the tables of the
+//! operators, `Integers` two's complement, `Answers` which of several faults is answered. `values` computes shapes and values of
+//! expressions in which nothing is wrong; `signals`, `zeros` and `faults` look for the first thing that is; `answers` has the
+//! public calls.
 #![tactic(auto)]
 
 mod answers;

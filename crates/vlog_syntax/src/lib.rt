@@ -1,4 +1,6 @@
 //! Trees of a Verilog source, as plain data with the places of their parts.
+//!
+//! How deep trees nest is `Nesting`: code that goes down a tree by calls of itself goes at most so deep.
 #![tactic(auto)]
 
 mod boxed;
