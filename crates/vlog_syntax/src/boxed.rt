@@ -5,9 +5,14 @@ use std::alloc::{AllocError, Global};
 use std::marker::Model;
 
 /// A part of a tree on the heap.
-#[derive(Drop)]
 pub struct Boxed<T> {
     inner: Box<T>,
+}
+
+impl<T: Drop> Drop for Boxed<T> {
+    fn drop(self) {
+        let Boxed { inner: _inner } = self;
+    }
 }
 
 impl<T> Model for Boxed<T> {

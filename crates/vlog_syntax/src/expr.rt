@@ -11,7 +11,6 @@ use mcy_base::Span;
 use std::alloc::{AllocError, Global};
 
 /// An expression.
-#[derive(Drop)]
 pub enum Expr {
     Number(Number),
     Name(Identifier),
@@ -35,6 +34,25 @@ pub enum Expr {
     MultipleConcatenation(Span, Boxed<Expr>, Listed<Expr>),
     /// `$name(a, b)`, or `$name` without arguments.
     SystemFunctionCall(Identifier, Listed<Expr>),
+}
+
+impl Drop for Expr {
+    fn drop(self) {
+        match self {
+            Expr::Number(_a) => {}
+            Expr::Name(_a) => {}
+            Expr::BitSelect(_a, _b, _c) => {}
+            Expr::PartSelect(_a, _b, _c, _d) => {}
+            Expr::IndexedPartSelect(_a, _b, _c, _d) => {}
+            Expr::Parenthesized(_a, _b) => {}
+            Expr::Unary(_a, _b, _c) => {}
+            Expr::Binary(_a, _b, _c, _d) => {}
+            Expr::Conditional(_a, _b, _c, _d) => {}
+            Expr::Concatenation(_a, _b) => {}
+            Expr::MultipleConcatenation(_a, _b, _c) => {}
+            Expr::SystemFunctionCall(_a, _b) => {}
+        }
+    }
 }
 
 impl Expr {

@@ -165,7 +165,6 @@ pub struct GenerateLoop {
 }
 
 /// An item that is no generate construct.
-#[derive(Drop)]
 pub enum PlainItem {
     /// `input` and `output`
     PortDeclaration(PortDeclaration),
@@ -183,8 +182,21 @@ pub enum PlainItem {
     ModuleInstantiation(Identifier, ParameterValues, Listed<Instance>),
 }
 
+impl Drop for PlainItem {
+    fn drop(self) {
+        match self {
+            PlainItem::PortDeclaration(_a) => {}
+            PlainItem::DataDeclaration(_a) => {}
+            PlainItem::GenvarDeclaration(_a, _b) => {}
+            PlainItem::ParameterDeclaration(_a) => {}
+            PlainItem::ContinuousAssign(_a, _b, _c) => {}
+            PlainItem::Process(_a) => {}
+            PlainItem::ModuleInstantiation(_a, _b, _c) => {}
+        }
+    }
+}
+
 /// An item of a module. The place is that of its first token, attributes aside.
-#[derive(Drop)]
 pub enum Item {
     /// An item that is no generate construct.
     Plain(Boxed<PlainItem>),
@@ -198,4 +210,17 @@ pub enum Item {
     GenerateBlock(Span, Option<Identifier>, Listed<Item>),
     /// `;`, in the place of a condition's block.
     NullGenerate(Span),
+}
+
+impl Drop for Item {
+    fn drop(self) {
+        match self {
+            Item::Plain(_a) => {}
+            Item::GenerateRegion(_a, _b) => {}
+            Item::LoopGenerate(_a, _b) => {}
+            Item::IfGenerate(_a, _b, _c, _d) => {}
+            Item::GenerateBlock(_a, _b, _c) => {}
+            Item::NullGenerate(_a) => {}
+        }
+    }
 }

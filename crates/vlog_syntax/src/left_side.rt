@@ -11,7 +11,6 @@ use mcy_base::Span;
 use std::alloc::{AllocError, Global};
 
 /// What an assignment writes (`net_lvalue`, `variable_lvalue`).
-#[derive(Drop)]
 pub enum LeftSide {
     Name(Identifier),
     /// `name[index]`, with the place of its `[`.
@@ -22,6 +21,18 @@ pub enum LeftSide {
     IndexedPartSelect(Identifier, Span, Boxed<Expr>, Boxed<Expr>),
     /// `{a, b}`, with the place of its `{`.
     Concatenation(Span, Listed<LeftSide>),
+}
+
+impl Drop for LeftSide {
+    fn drop(self) {
+        match self {
+            LeftSide::Name(_a) => {}
+            LeftSide::BitSelect(_a, _b, _c) => {}
+            LeftSide::PartSelect(_a, _b, _c, _d) => {}
+            LeftSide::IndexedPartSelect(_a, _b, _c, _d) => {}
+            LeftSide::Concatenation(_a, _b) => {}
+        }
+    }
 }
 
 impl LeftSide {

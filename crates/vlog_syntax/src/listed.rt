@@ -5,9 +5,14 @@ use std::alloc::AllocError;
 use std::marker::Model;
 
 /// A list of parts of a tree.
-#[derive(Drop)]
 pub struct Listed<T> {
     items: Vec<T>,
+}
+
+impl<T: Drop> Drop for Listed<T> {
+    fn drop(self) {
+        let Listed { items: _items } = self;
+    }
 }
 
 impl<T> Model for Listed<T> {

@@ -43,11 +43,20 @@ pub enum EventControl {
 }
 
 /// `left = value`, with the place of its `=`.
-#[derive(Drop)]
 pub struct Assignment {
     pub left: LeftSide,
     pub span: Span,
     pub value: Boxed<Expr>,
+}
+
+impl Drop for Assignment {
+    fn drop(self) {
+        let Assignment {
+            left: _left,
+            span: _span,
+            value: _value,
+        } = self;
+    }
 }
 
 /// An argument of a system task.
@@ -60,16 +69,25 @@ pub enum Argument {
 
 /// An item of a case statement. The default has no labels.
 #[cycle(statement)]
-#[derive(Drop)]
 pub struct CaseItem {
     pub span: Span,
     pub labels: Listed<Expr>,
     pub body: Boxed<Stmt>,
 }
 
+impl Drop for CaseItem {
+    #[cycle(let_go)]
+    fn drop(self) {
+        let CaseItem {
+            span: _span,
+            labels: _labels,
+            body: _body,
+        } = self;
+    }
+}
+
 /// A statement. The place is that of its first token, attributes aside.
 #[cycle(statement)]
-#[derive(Drop)]
 pub enum Stmt {
     /// `;`
     Null(Span),
@@ -97,6 +115,27 @@ pub enum Stmt {
     BlockingAssignment(Assignment),
     /// `left <= value;`, with the place of its `<=`.
     NonblockingAssignment(Assignment),
+}
+
+impl Drop for Stmt {
+    #[cycle(let_go)]
+    fn drop(self) {
+        match self {
+            Stmt::Null(_a) => {}
+            Stmt::SeqBlock(_a, _b, _c) => {}
+            Stmt::Conditional(_a, _b, _c, _d) => {}
+            Stmt::Case(_a, _b, _c, _d) => {}
+            Stmt::For(_a, _b, _c, _d, _e) => {}
+            Stmt::While(_a, _b, _c) => {}
+            Stmt::Repeat(_a, _b, _c) => {}
+            Stmt::Forever(_a, _b) => {}
+            Stmt::EventControl(_a, _b, _c) => {}
+            Stmt::DelayControl(_a, _b, _c) => {}
+            Stmt::SystemTaskEnable(_a, _b) => {}
+            Stmt::BlockingAssignment(_a) => {}
+            Stmt::NonblockingAssignment(_a) => {}
+        }
+    }
 }
 
 impl EventExpression {
