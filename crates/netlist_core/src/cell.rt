@@ -42,12 +42,22 @@ pub enum CellKind {
 
 /// A cell: what it computes, whether its order is that of signed numbers, the bits at its ports, and the
 /// place of its operator in the source.
-#[derive(Drop)]
 pub struct Cell {
     pub kind: CellKind,
     pub is_signed: bool,
     pub ports: PortList,
     pub span: Span,
+}
+
+impl Drop for Cell {
+    fn drop(self) {
+        let Cell {
+            kind: _kind,
+            is_signed: _is_signed,
+            ports: _ports,
+            span: _span,
+        } = self;
+    }
 }
 
 /// Cells by number, from 0.
