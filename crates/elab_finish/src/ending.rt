@@ -32,17 +32,11 @@ fn finished(
 }
 
 /// The netlist with these registers in place of its own, which take what its own take that have their Q.
-fn with_registers(netlist: RawNetlist, registers: Vec<Register>) -> RawNetlist
+fn with_registers(mut netlist: RawNetlist, registers: Vec<Register>) -> RawNetlist
     ensures { result ≡ record netlist { registers = registers.items } }
 {
-    RawNetlist {
-        top: netlist.top,
-        clock: netlist.clock,
-        inputs: netlist.inputs,
-        outputs: netlist.outputs,
-        registers: RegisterList::from_vec(registers),
-        cells: netlist.cells,
-    }
+    netlist.registers = RegisterList::from_vec(registers);
+    netlist
 }
 
 /// The netlist of a builder in which no nets lead back to themselves, with these ports and with its registers in this order.
