@@ -1,7 +1,7 @@
 #!/bin/bash
 # Drives the built program on real files: each exit status with its lines and the files that it touches, campaigns that are
 # stopped and killed at random moments and go on until they are finished, and databases that are none. Then the script
-# `mcy` with a build that is none. Ends with the line 'N passed, M failed'.
+# `mcy` with a made-up kit. Ends with the line 'N passed, M failed'.
 #
 # usage: tests/real.sh [--program FILE] [CAMPAIGNS [SEED]]
 #
@@ -425,43 +425,11 @@ if has_tool python3 "no random files are tried"; then
     case_is $? "random files have answers of the table: $(cat "$room/lines")"
 fi
 
-# The script, with a kit that makes programs that are none: it runs through a link, in the caller's folder and with the
-# caller's words; it builds where a source is newer, and a build that fails leaves the program from before.
-repository="$room/a folder"
-mkdir -p "$repository/crates/mcy/src" "$room/links" "$room/bin"
-cp "$root/mcy" "$repository/" && echo "mcy:" >"$repository/crates.txt" && : >"$repository/crates/mcy/src/main.rt"
-ln -s "$repository/mcy" "$room/links/a link"
-cat >"$room/bin/rt" <<'KIT'
-#!/bin/sh
-echo built >>"$BUILDS"
-mkdir -p out
-case $KIT_DOES in
-    nothing) exit 1 ;;
-    half) printf '#!/bin/sh\nexit 3\n' >out/mcy ;;
-    *) printf '#!/bin/sh\n[ $# = 0 ] && exit 2\necho "$PWD: $*"\nexit 9\n' >out/mcy ;;
-esac
-chmod 755 out/mcy
-out/mcy
-KIT
-chmod 755 "$room/bin/rt"
-export BUILDS=$room/builds
-cd "$room/links" || exit 1
-scripted() {
-    text=$(PATH="$room/bin:$PATH" KIT_DOES=$1 "$room/links/a link" status "two words" 2>"$room/lines")
-    [ "$?: $text" = "$2" ] && [ "$(wc -l <"$BUILDS")" = "$3" ]
-    case_is $? "the script with a kit that makes $1, after $3 builds: $text $(cat "$room/lines")"
-}
-scripted nothing "70: " 1
-scripted program "9: $room/links: status two words" 2
-scripted nothing "9: $room/links: status two words" 2
-sleep 0.01
-touch "$repository/crates/mcy/src/main.rt"
-was=$(sha256sum <"$repository/out/mcy")
-scripted nothing "70: " 3
-scripted half "70: " 4
-[ "$(sha256sum <"$repository/out/mcy")" = "$was" ]
-case_is $? "a build that fails leaves the program from before"
-scripted program "9: $room/links: status two words" 5
+# The script, with a kit that makes programs that are none.
+if has_tool python3 "the script mcy is not tried"; then
+    python3 "$root/tests/script.py" >"$room/lines" 2>&1
+    case_is $? "the script mcy builds a program where it has to, and takes no other: $(cat "$room/lines")"
+fi
 
 echo "$passed passed, $failed failed"
 [ "$failed" = 0 ]
