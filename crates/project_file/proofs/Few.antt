@@ -1,13 +1,13 @@
 -- How many lines and sections there are at most.
-use Rattle.std.proofs.Common.{◌≡◌, ℕ, ◌+◌, ◌≤◌, ◌==◌, Bool, true, false, Bor, List, [], ◌∷◌, Option, Some, None, bytes_eq, codes, length, map, ap, arith, length-append, if◌then◌else◌}
+use Rattle.std.proofs.Common.{◌≡◌, ℕ, ◌+◌, ◌≤◌, ◌==◌, Bool, true, false, Bor, List, [], ◌∷◌, Option, Some, None, length, map, ap, arith, length-append, if◌then◌else◌}
 use Rattle.std.specs.List.{slice_split}
 use Rattle.std.specs.Str.Lines.{lines, lines_of_parts}
 use Rattle.std.proofs.lemmas.List.{length-map}
 use Rattle.std.proofs.lemmas.List.Splits.{length-slice_split}
 use Rattle.std.proofs.lemmas.List.Sums.{count_by-le-length, length-filter}
 use Rattle.project_file.specs.declared.section.Section.{Section}
-use Rattle.project_file.specs.Lines.{header_of, key_of}
-use Rattle.project_file.specs.Sections.{Part, parts_of, section_at, section_by, seen, tests_in}
+use Rattle.project_file.specs.Lines.{header_of}
+use Rattle.project_file.specs.Sections.{Part, is_test, parts_of, section_at, section_by, seen, tests_in}
 
 -- Lines.
 
@@ -47,9 +47,6 @@ pub few_sections : (sections : List Section) (all : List (Bor (List ℕ))) → m
 few_sections sections all h =
     let same : length (map seen sections) ≡ length (parts_of 1 (map (λ (line : Bor (List ℕ)). line.now) all)) = ap length h in
     omega (arith, length-map sections seen, length-map all (λ (line : Bor (List ℕ)). line.now), same, most_parts 1 (map (λ (line : Bor (List ℕ)). line.now) all))
-
-abbrev is_test : Part → Bool
-is_test part = bytes_eq (key_of part.header) (codes "test")
 
 most_tests : (parts : List Part) → length (tests_in parts) ≤ length parts
 unfolding tests_in

@@ -4,6 +4,7 @@ use Rattle.project_file.specs.declared.error.ProjectError.{ProjectError}
 use Rattle.project_file.specs.declared.error.ProjectError.TheVariants.{BadLine, UnknownKey, Repeated, OutOfRange}
 use Rattle.project_file.specs.declared.options.OptionKey.{OptionKey}
 use Rattle.project_file.specs.declared.options.OptionKey.TheVariants.{Size, Tags, Seed, Modes, Pick, Conflicts, Cycles}
+use Rattle.project_file.specs.declared.options.Settings.{Settings}
 use Rattle.project_file.specs.declared.project.ModeFlags.{ModeFlags}
 use Rattle.project_file.specs.Lines.{key_of, args_of, is_said, find_line, has_line}
 use Rattle.project_file.specs.Words.{is_name, is_among, are_all, is_one}
@@ -42,12 +43,15 @@ is_option_range Pick args = true
 is_option_range Conflicts args = is_one (is_within 1 100000) args
 is_option_range Cycles args = is_one (is_within 1 1000000) args
 
-abbrev pub known_option_fault : OptionKey → List (List ℕ) → ℕ → List ℕ → Option ProjectError
-known_option_fault key earlier number line =
-    if is_option_form key (args_of line) then
+abbrev pub option_args_fault : OptionKey → List (List ℕ) → List (List ℕ) → ℕ → List ℕ → Option ProjectError
+option_args_fault key args earlier number line =
+    if is_option_form key args then
     (if has_line (key_of line) earlier then Some (Repeated number) else
-    (if is_option_range key (args_of line) then None else Some (OutOfRange number)))
+    (if is_option_range key args then None else Some (OutOfRange number)))
     else Some (BadLine number)
+
+abbrev pub known_option_fault : OptionKey → List (List ℕ) → ℕ → List ℕ → Option ProjectError
+known_option_fault key earlier number line = option_args_fault key (args_of line) earlier number line
 
 abbrev pub option_key_fault : Option OptionKey → List (List ℕ) → ℕ → List ℕ → Option ProjectError
 option_key_fault None earlier number line = Some (UnknownKey number)
@@ -100,3 +104,14 @@ flags_of words =
 
 unfoldable pub modes_in : List (List ℕ) → ModeFlags
 modes_in lines = flags_of (args_in (codes "modes") lines)
+
+-- what the lines say beside the tags
+abbrev pub settings_in : List (List ℕ) → Settings
+settings_in lines = record {
+  size = size_in lines;
+  word_seed = seed_in lines;
+  modes = modes_in lines;
+  even = is_even_in lines;
+  conflicts = conflicts_in lines;
+  cycles = cycles_in lines;
+}

@@ -82,14 +82,22 @@ missing_pass number (test ∷ more) = if lacks_pass test.lines then Some (Missin
 abbrev pub missing_in_tests : List Part → Option ProjectError
 missing_in_tests tests = first_of_two (missing_kind 0 tests) (missing_pass 0 tests)
 
+-- the first thing that the lines of `[script]` lack
+abbrev pub missing_in_script : List (List ℕ) → Option ProjectError
+missing_in_script lines =
+    if not (has_line (codes "read_verilog") lines) then Some (Missing what.Read) else
+    (if not (is_some (first_top lines)) then Some (Missing what.Top) else None)
+
+-- the first thing that is missing behind `[script]`
+abbrev pub missing_behind_script : List Part → Option ProjectError
+missing_behind_script parts =
+    if not (is_some (find_part (codes "logic") parts)) then Some (Missing what.Logic) else missing_in_tests (tests_in parts)
+
 -- the first thing that is missing
 unfoldable pub missing : List Part → Option ProjectError
 missing parts =
     if not (is_some (find_part (codes "script") parts)) then Some (Missing what.Script) else
-    (if not (has_line (codes "read_verilog") (lines_in (codes "script") parts)) then Some (Missing what.Read) else
-    (if not (is_some (first_top (lines_in (codes "script") parts))) then Some (Missing what.Top) else
-    (if not (is_some (find_part (codes "logic") parts)) then Some (Missing what.Logic) else
-    missing_in_tests (tests_in parts))))
+    first_of_two (missing_in_script (lines_in (codes "script") parts)) (missing_behind_script parts)
 
 -- what is wrong with these sections, and what they lack
 unfoldable pub parts_fault : List Part → Option ProjectError

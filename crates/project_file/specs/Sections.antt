@@ -74,6 +74,10 @@ find_part word parts = find (λ part. bytes_eq (key_of part.header) word) parts
 unfoldable pub lines_in : List ℕ → List Part → List (List ℕ)
 lines_in word parts = elim (find_part word parts) [ None ↦ [] | Some part ↦ part.lines ]
 
+-- the section is a test's
+unfoldable pub is_test : Part → Bool
+is_test part = bytes_eq (key_of part.header) (codes "test")
+
 -- the sections of tests
 unfoldable pub tests_in : List Part → List Part
-tests_in parts = filter (λ part. bytes_eq (key_of part.header) (codes "test")) parts
+tests_in parts = filter is_test parts

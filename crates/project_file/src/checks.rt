@@ -2,7 +2,7 @@
 ghost use Rattle.std.specs.Prelude.{◌≡◌, ◌<◌, ◌+◌, ◌-◌, ◌^◌, [], IfOk, OnOk, Some, length, map};
 ghost use Rattle.project_file.specs.Checks.{Checks, first_fault};
 ghost use Rattle.project_file.specs.Paths.{paths_in, with_names};
-ghost use Rattle.project_file.specs.Projects.{fault_of, header_fault, is_test_too_many, lead_fault, lines_fault, missing, missing_in_tests, missing_kind, missing_pass, part_at, part_fault, part_reads, parts_fault, reads_in};
+ghost use Rattle.project_file.specs.Projects.{fault_of, header_fault, is_test_too_many, lead_fault, lines_fault, missing, missing_behind_script, missing_in_script, missing_in_tests, missing_kind, missing_pass, part_at, part_fault, part_reads, parts_fault, reads_in};
 ghost use Rattle.project_file.specs.Sections.{lead, parts_of, seen, tests_in, title_of};
 
 use crate::error::{ProjectError, What};
@@ -161,8 +161,33 @@ fn check_tests(tests: &[Section<'_, '_>]) -> Result<(), ProjectError>
     check_passes(tests)
 }
 
+/// Checks that the lines of the section of the script lack nothing.
+fn check_script_lines(alloc: Global, lines: &[&str]) -> Result<(), ProjectError>
+    ensures { Checks result (missing_in_script (map (λ line. line.now) lines.now)) }
+{
+    if !has_line("read_verilog", lines) {
+        return Err(ProjectError::Missing(What::Read));
+    }
+    match first_top(alloc, lines)? {
+        Some(_) => Ok(()),
+        None => Err(ProjectError::Missing(What::Top)),
+    }
+}
+
+/// Checks that nothing is missing beside the section of the script.
+#[tactic(auto, using(crate::proofs::Few::few_tests))]
+fn check_behind_script(alloc: Global, sections: &[Section<'_, '_>]) -> Result<(), ProjectError>
+    requires { length sections.now < 2 ^ 32 }
+    ensures { Checks result (missing_behind_script (map seen sections.now)) }
+{
+    if find_section("logic", sections).is_none() {
+        return Err(ProjectError::Missing(What::Logic));
+    }
+    check_tests(&tests_in(alloc, sections)?)
+}
+
 /// Checks that nothing is missing.
-#[tactic(auto, using(crate::proofs::Few::few_tests), unfolding(crate::specs::Projects::missing))]
+#[tactic(auto, unfolding(crate::specs::Projects::missing))]
 fn check_missing(alloc: Global, sections: &[Section<'_, '_>]) -> Result<(), ProjectError>
     requires { length sections.now < 2 ^ 32 }
     ensures { Checks result (missing (map seen sections.now)) }
@@ -170,17 +195,8 @@ fn check_missing(alloc: Global, sections: &[Section<'_, '_>]) -> Result<(), Proj
     if find_section("script", sections).is_none() {
         return Err(ProjectError::Missing(What::Script));
     }
-    let script = lines_in("script", sections);
-    if !has_line("read_verilog", script) {
-        return Err(ProjectError::Missing(What::Read));
-    }
-    if first_top(alloc, script)?.is_none() {
-        return Err(ProjectError::Missing(What::Top));
-    }
-    if find_section("logic", sections).is_none() {
-        return Err(ProjectError::Missing(What::Logic));
-    }
-    check_tests(&tests_in(alloc, sections)?)
+    check_script_lines(alloc, lines_in("script", sections))?;
+    check_behind_script(alloc, sections)
 }
 
 /// Checks the sections of a file, and that nothing is missing.

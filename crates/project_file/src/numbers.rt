@@ -1,6 +1,7 @@
 //! Numbers: one or more decimal digits.
-ghost use Rattle.std.specs.Prelude.{◌≡◌, ◌≤◌, ◌^◌, IfSome, SomeIff, IsTrue, min};
+ghost use Rattle.std.specs.Prelude.{◌≡◌, ◌≤◌, ◌^◌, IfSome, SomeIff, IsTrue, map, min};
 ghost use Rattle.std.specs.List.{list_all};
+ghost use Rattle.project_file.specs.Words.{is_one};
 ghost use Rattle.project_file.specs.Numbers.{is_digit, is_number, is_within, value, value_within};
 
 /// The least number that no `u64` holds.
@@ -20,6 +21,16 @@ pub fn is_number(word: &str) -> bool
     ensures { result ≡ is_number word.now }
 {
     !word.is_empty() && are_digits(word.as_bytes())
+}
+
+/// Whether the words are one number.
+pub fn is_one_number(args: &[&str]) -> bool
+    ensures { result ≡ is_one is_number (map (λ word. word.now) args.now) }
+{
+    match args {
+        [word] => is_number(word),
+        _ => false,
+    }
 }
 
 fn are_digits(bytes: &[u8]) -> bool

@@ -3,18 +3,19 @@ ghost use Rattle.std.specs.Prelude.{◌≡◌, ◌<◌, ◌≤◌, ◌+◌, ◌^
 ghost use Rattle.std.specs.List.{list_all};
 ghost use Rattle.project_file.specs.Checks.{Checks, first_fault};
 ghost use Rattle.project_file.specs.Numbers.{is_within};
-ghost use Rattle.project_file.specs.Words.{is_one};
-ghost use Rattle.project_file.specs.Options.{args_in, conflicts_in, cycles_in, flags_of, is_even_in, is_mode, is_option_form, is_option_range, is_pick, known_option_fault, modes_in, number_in, option_fault, option_key, option_key_fault, seed_in, size_in, tags_in};
+ghost use Rattle.project_file.specs.Words.{are_all, is_name, is_one};
+ghost use Rattle.project_file.specs.Options.{args_in, conflicts_in, cycles_in, flags_of, is_even_in, is_mode, is_option_form, is_option_range, is_pick, known_option_fault, modes_in, number_in, option_args_fault, option_fault, option_key, option_key_fault, seed_in, settings_in, size_in, tags_in};
 
 use crate::error::ProjectError;
 use crate::lines::{args_of, find_line, has_line, is_said, key_of};
-use crate::numbers::{is_number, number_or, number_within};
+use crate::numbers::{is_one_number, number_or, number_within};
 use crate::project::ModeFlags;
-use crate::words::{are_names, is_among};
+use crate::words::{are_names, is_among, texts_of};
+use mcy_base::TextList;
 use std::alloc::{AllocError, Global};
 
 /// The keys of options.
-#[derive(Clone, Copy, Debug, PartialEq, Eq)]
+#[derive(Clone, Copy)]
 pub enum OptionKey {
     Size,
     Tags,
@@ -29,42 +30,30 @@ pub enum OptionKey {
 fn option_key(word: &str) -> Option<OptionKey>
     ensures { result ≡ option_key word.now }
 {
-    if word == "size" {
-        return Some(OptionKey::Size);
+    match word {
+        "size" => Some(OptionKey::Size),
+        "tags" => Some(OptionKey::Tags),
+        "seed" => Some(OptionKey::Seed),
+        "modes" => Some(OptionKey::Modes),
+        "pick" => Some(OptionKey::Pick),
+        "conflicts" => Some(OptionKey::Conflicts),
+        "cycles" => Some(OptionKey::Cycles),
+        _ => None,
     }
-    if word == "tags" {
-        return Some(OptionKey::Tags);
-    }
-    if word == "seed" {
-        return Some(OptionKey::Seed);
-    }
-    if word == "modes" {
-        return Some(OptionKey::Modes);
-    }
-    if word == "pick" {
-        return Some(OptionKey::Pick);
-    }
-    if word == "conflicts" {
-        return Some(OptionKey::Conflicts);
-    }
-    if word == "cycles" {
-        return Some(OptionKey::Cycles);
-    }
-    None
 }
 
 #[tactic(auto, unfolding(crate::specs::Options::is_mode))]
 fn is_mode(word: &str) -> bool
     ensures { result ≡ is_mode word.now }
 {
-    word == "inv" || word == "const0" || word == "const1" || word == "cnot0" || word == "cnot1"
+    matches!(word, "inv" | "const0" | "const1" | "cnot0" | "cnot1")
 }
 
 #[tactic(auto, unfolding(crate::specs::Options::is_pick))]
 fn is_pick(word: &str) -> bool
     ensures { result ≡ is_pick word.now }
 {
-    word == "plain" || word == "even"
+    matches!(word, "plain" | "even")
 }
 
 fn are_modes(words: &[&str]) -> bool
@@ -73,17 +62,38 @@ fn are_modes(words: &[&str]) -> bool
     words.iter().all(|word| is_mode(word))
 }
 
+fn is_tag_form(args: &[&str]) -> bool
+    ensures { result ≡ are_all is_name (map (λ word. word.now) args.now) }
+{
+    !args.is_empty() && are_names(args)
+}
+
+fn is_mode_form(args: &[&str]) -> bool
+    ensures { result ≡ are_all is_mode (map (λ word. word.now) args.now) }
+{
+    !args.is_empty() && are_modes(args)
+}
+
+fn is_pick_form(args: &[&str]) -> bool
+    ensures { result ≡ is_one is_pick (map (λ word. word.now) args.now) }
+{
+    match args {
+        [word] => is_pick(word),
+        _ => false,
+    }
+}
+
 /// Whether the words have the form of the key.
 #[tactic(auto, unfolding(crate::specs::Options::is_option_form))]
 fn is_option_form(key: OptionKey, args: &[&str]) -> bool
     ensures { result ≡ is_option_form key (map (λ word. word.now) args.now) }
 {
     match key {
-        OptionKey::Tags => !args.is_empty() && are_names(args),
-        OptionKey::Modes => !args.is_empty() && are_modes(args),
-        OptionKey::Pick => matches!(args, [word] if is_pick(word)),
+        OptionKey::Tags => is_tag_form(args),
+        OptionKey::Modes => is_mode_form(args),
+        OptionKey::Pick => is_pick_form(args),
         OptionKey::Size | OptionKey::Seed | OptionKey::Conflicts | OptionKey::Cycles => {
-            matches!(args, [word] if is_number(word))
+            is_one_number(args)
         }
     }
 }
@@ -109,6 +119,42 @@ fn is_option_range(key: OptionKey, args: &[&str]) -> bool
     }
 }
 
+/// Checks a line of this key with these words behind the lines before it.
+fn check_args(
+    key: OptionKey,
+    args: &[&str],
+    earlier: &[&str],
+    number: u32,
+    line: &str,
+) -> Result<(), ProjectError>
+    ensures { Checks result (option_args_fault key (map (λ word. word.now) args.now) (map (λ line. line.now) earlier.now) number line.now) }
+{
+    if !is_option_form(key, args) {
+        return Err(ProjectError::BadLine(number));
+    }
+    if has_line(key_of(line), earlier) {
+        return Err(ProjectError::Repeated(number));
+    }
+    if !is_option_range(key, args) {
+        return Err(ProjectError::OutOfRange(number));
+    }
+    Ok(())
+}
+
+/// Checks a line of this key behind the lines before it.
+fn check_known(
+    alloc: Global,
+    key: OptionKey,
+    earlier: &[&str],
+    number: u32,
+    line: &str,
+) -> Result<(), ProjectError>
+    ensures { Checks result (known_option_fault key (map (λ line. line.now) earlier.now) number line.now) }
+{
+    let args = args_of(alloc, line)?;
+    check_args(key, &args, earlier, number, line)
+}
+
 /// Checks a line behind the lines before it.
 #[tactic(auto, unfolding(crate::specs::Options::option_fault))]
 fn check_option(
@@ -122,20 +168,10 @@ fn check_option(
     if !is_said(line) {
         return Ok(());
     }
-    let Some(key) = option_key(key_of(line)) else {
-        return Err(ProjectError::UnknownKey(number));
-    };
-    let args = args_of(alloc, line)?;
-    if !is_option_form(key, &args) {
-        return Err(ProjectError::BadLine(number));
+    match option_key(key_of(line)) {
+        Some(key) => check_known(alloc, key, earlier, number, line),
+        None => Err(ProjectError::UnknownKey(number)),
     }
-    if has_line(key_of(line), earlier) {
-        return Err(ProjectError::Repeated(number));
-    }
-    if !is_option_range(key, &args) {
-        return Err(ProjectError::OutOfRange(number));
-    }
-    Ok(())
 }
 
 /// Checks the lines of the section, which are numbered from here on.
@@ -180,8 +216,15 @@ fn number_in(alloc: Global, key: &str, limits: Limits, lines: &[&str]) -> Result
     Ok(number_or(limits.default, limits.least, limits.most, word))
 }
 
+/// The tags.
+pub fn tags_in(alloc: Global, lines: &[&str]) -> Result<TextList, AllocError>
+    ensures { IfOk result (λ tags. tags ≡ tags_in (map (λ line. line.now) lines.now)) }
+{
+    texts_of(alloc, &args_in(alloc, "tags", lines)?)
+}
+
 /// How many mutations are taken.
-pub fn size_in(alloc: Global, lines: &[&str]) -> Result<u32, AllocError>
+fn size_in(alloc: Global, lines: &[&str]) -> Result<u32, AllocError>
     ensures { IfOk result (λ n. n ≡ size_in (map (λ line. line.now) lines.now)) }
 {
     let limits = Limits {
@@ -193,7 +236,7 @@ pub fn size_in(alloc: Global, lines: &[&str]) -> Result<u32, AllocError>
 }
 
 /// The seed.
-pub fn seed_in(alloc: Global, lines: &[&str]) -> Result<u64, AllocError>
+fn seed_in(alloc: Global, lines: &[&str]) -> Result<u64, AllocError>
     ensures { IfOk result (λ n. n ≡ seed_in (map (λ line. line.now) lines.now)) }
 {
     let limits = Limits {
@@ -205,7 +248,7 @@ pub fn seed_in(alloc: Global, lines: &[&str]) -> Result<u64, AllocError>
 }
 
 /// The most lemmas of an equivalence test.
-pub fn conflicts_in(alloc: Global, lines: &[&str]) -> Result<u32, AllocError>
+fn conflicts_in(alloc: Global, lines: &[&str]) -> Result<u32, AllocError>
     ensures { IfOk result (λ n. n ≡ conflicts_in (map (λ line. line.now) lines.now)) }
 {
     let limits = Limits {
@@ -217,7 +260,7 @@ pub fn conflicts_in(alloc: Global, lines: &[&str]) -> Result<u32, AllocError>
 }
 
 /// The most cycles of a simulation.
-pub fn cycles_in(alloc: Global, lines: &[&str]) -> Result<u32, AllocError>
+fn cycles_in(alloc: Global, lines: &[&str]) -> Result<u32, AllocError>
     ensures { IfOk result (λ n. n ≡ cycles_in (map (λ line. line.now) lines.now)) }
 {
     let limits = Limits {
@@ -230,7 +273,7 @@ pub fn cycles_in(alloc: Global, lines: &[&str]) -> Result<u32, AllocError>
 
 /// Whether lines are taken evenly.
 #[tactic(auto, unfolding(crate::specs::Options::is_even_in))]
-pub fn is_even_in(alloc: Global, lines: &[&str]) -> Result<bool, AllocError>
+fn is_even_in(alloc: Global, lines: &[&str]) -> Result<bool, AllocError>
     ensures { IfOk result (λ even. even ≡ is_even_in (map (λ line. line.now) lines.now)) }
 {
     Ok(is_among("even", &args_in(alloc, "pick", lines)?))
@@ -260,8 +303,33 @@ fn flags_of(words: &[&str]) -> ModeFlags
 
 /// The modes.
 #[tactic(auto, unfolding(crate::specs::Options::modes_in))]
-pub fn modes_in(alloc: Global, lines: &[&str]) -> Result<ModeFlags, AllocError>
+fn modes_in(alloc: Global, lines: &[&str]) -> Result<ModeFlags, AllocError>
     ensures { IfOk result (λ modes. modes ≡ modes_in (map (λ line. line.now) lines.now)) }
 {
     Ok(flags_of(&args_in(alloc, "modes", lines)?))
+}
+
+/// What the lines of the section say beside the tags.
+#[derive(Clone, Copy)]
+pub struct Settings {
+    pub size: u32,
+    pub word_seed: u64,
+    pub modes: ModeFlags,
+    pub even: bool,
+    pub conflicts: u32,
+    pub cycles: u32,
+}
+
+/// What the lines say beside the tags.
+pub fn settings_in(alloc: Global, lines: &[&str]) -> Result<Settings, AllocError>
+    ensures { IfOk result (λ settings. settings ≡ settings_in (map (λ line. line.now) lines.now)) }
+{
+    Ok(Settings {
+        size: size_in(alloc, lines)?,
+        word_seed: seed_in(alloc, lines)?,
+        modes: modes_in(alloc, lines)?,
+        even: is_even_in(alloc, lines)?,
+        conflicts: conflicts_in(alloc, lines)?,
+        cycles: cycles_in(alloc, lines)?,
+    })
 }

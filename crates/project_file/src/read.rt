@@ -8,7 +8,7 @@ ghost use Rattle.project_file.specs.Sections.{seen, tests_in};
 use crate::checks::check_file;
 use crate::error::ProjectError;
 use crate::lines::lines;
-use crate::options::{args_in, conflicts_in, cycles_in, is_even_in, modes_in, seed_in, size_in};
+use crate::options::{settings_in, tags_in};
 use crate::paths::Paths;
 use crate::project::{Project, TestPlan, TestPlanList};
 use crate::script::{all_reads, first_top};
@@ -54,14 +54,15 @@ fn project_of(alloc: Global, sections: &[Section<'_, '_>]) -> Result<Project, Al
     ensures { IfOk result (λ project. project ≡ project_of (map seen sections.now)) }
 {
     let options = lines_in("options", sections);
+    let settings = settings_in(alloc, options)?;
     Ok(Project {
-        size: size_in(alloc, options)?,
-        tags: texts_of(alloc, &args_in(alloc, "tags", options)?)?,
-        word_seed: seed_in(alloc, options)?,
-        modes: modes_in(alloc, options)?,
-        even: is_even_in(alloc, options)?,
-        conflicts: conflicts_in(alloc, options)?,
-        cycles: cycles_in(alloc, options)?,
+        size: settings.size,
+        tags: tags_in(alloc, options)?,
+        word_seed: settings.word_seed,
+        modes: settings.modes,
+        even: settings.even,
+        conflicts: settings.conflicts,
+        cycles: settings.cycles,
         design: design_in(alloc, sections)?,
         top: top_in(alloc, sections)?,
         logic: raw_lines(alloc, "logic", sections)?,

@@ -12,7 +12,7 @@ use crate::words::is_name;
 use std::alloc::{AllocError, Global};
 
 /// The commands that are taken.
-#[derive(Clone, Copy, Debug, PartialEq, Eq)]
+#[derive(Clone, Copy)]
 pub enum Command {
     Read,
     Prep,
@@ -23,16 +23,12 @@ pub enum Command {
 fn command_of(word: &str) -> Option<Command>
     ensures { result ≡ command_of word.now }
 {
-    if word == "read_verilog" {
-        return Some(Command::Read);
+    match word {
+        "read_verilog" => Some(Command::Read),
+        "prep" => Some(Command::Prep),
+        "hierarchy" => Some(Command::Hierarchy),
+        _ => None,
     }
-    if word == "prep" {
-        return Some(Command::Prep);
-    }
-    if word == "hierarchy" {
-        return Some(Command::Hierarchy);
-    }
-    None
 }
 
 /// Whether the word is an option.
@@ -51,7 +47,7 @@ fn is_taken(command: Command, word: &str) -> bool
 {
     match command {
         Command::Read => false,
-        Command::Prep => word == "-top" || word == "-flatten",
+        Command::Prep => matches!(word, "-top" | "-flatten"),
         Command::Hierarchy => word == "-top",
     }
 }

@@ -1,6 +1,6 @@
 //! The sections of a file, and what is looked up among them.
 ghost use Rattle.std.specs.Prelude.{◌≡◌, ◌<◌, ◌+◌, ◌-◌, ◌^◌, ◌≤◌, ◌++◌, IfOk, OnOk, length, map, option_map};
-ghost use Rattle.project_file.specs.Sections.{find_part, has_header, is_same_header, lead, lines_in, name_in, parts_of, plain_title, section_at, seen, tests_in, title_of};
+ghost use Rattle.project_file.specs.Sections.{find_part, has_header, is_same_header, is_test, lead, lines_in, name_in, parts_of, plain_title, section_at, seen, tests_in, title_of};
 
 use crate::lines::{behind_key, from_word, header_of, key_of};
 use crate::section::{Section, Title};
@@ -61,22 +61,14 @@ pub fn sections<'t, 'a>(
 fn plain_title(word: &str) -> Option<Title>
     ensures { result ≡ plain_title word.now }
 {
-    if word == "options" {
-        return Some(Title::Options);
+    match word {
+        "options" => Some(Title::Options),
+        "script" => Some(Title::Script),
+        "files" => Some(Title::Files),
+        "logic" => Some(Title::Logic),
+        "report" => Some(Title::Report),
+        _ => None,
     }
-    if word == "script" {
-        return Some(Title::Script);
-    }
-    if word == "files" {
-        return Some(Title::Files);
-    }
-    if word == "logic" {
-        return Some(Title::Logic);
-    }
-    if word == "report" {
-        return Some(Title::Report);
-    }
-    None
 }
 
 /// The name in the header of a test.
@@ -150,6 +142,14 @@ pub fn lines_in<'t, 'a>(word: &str, sections: &[Section<'t, 'a>]) -> &'t [&'a st
     &[]
 }
 
+/// Whether it is the section of a test.
+#[tactic(auto, unfolding(crate::specs::Sections::is_test))]
+fn is_test(section: &Section<'_, '_>) -> bool
+    ensures { result ≡ is_test (seen section.now) }
+{
+    key_of(section.header) == "test"
+}
+
 /// The sections of tests.
 #[tactic(auto, unfolding(crate::specs::Sections::tests_in))]
 pub fn tests_in<'t, 'a>(
@@ -160,7 +160,7 @@ pub fn tests_in<'t, 'a>(
 {
     let mut tests = Vec::new(alloc);
     for section in sections {
-        if key_of(section.header) == "test" {
+        if is_test(section) {
             tests.push(*section)?;
         }
     }

@@ -2,11 +2,10 @@
 //!
 //! The kind of a test is that of its first line `eq` or `sim`. Its other lines may stand before or behind it; where one does
 //! not go with the kind, the later line is bad.
-ghost use Rattle.std.specs.Prelude.{◌≡◌, ◌<◌, ◌≤◌, ◌+◌, ◌^◌, [], IfOk, OnOk, Some, length, map};
+ghost use Rattle.std.specs.Prelude.{◌≡◌, ◌<◌, ◌≤◌, ◌+◌, ◌^◌, ◌&&◌, [], IfOk, OnOk, Some, length, map};
 ghost use Rattle.std.specs.List.{list_all};
-ghost use Rattle.project_file.specs.Lines.{args_of};
-ghost use Rattle.project_file.specs.Numbers.{is_number};
-ghost use Rattle.project_file.specs.Words.{are_all, is_one};
+ghost use Rattle.project_file.specs.Lines.{args_of, has_line};
+ghost use Rattle.project_file.specs.Words.{are_all, is_among};
 ghost use Rattle.project_file.specs.Checks.{Checks, first_fault};
 ghost use Rattle.project_file.specs.Paths.{count_fault, gather, with_names};
 ghost use Rattle.project_file.specs.Projects.{lacks_pass};
@@ -14,7 +13,7 @@ ghost use Rattle.project_file.specs.Tests.{all_words, bit_if, expects, files_by,
 
 use crate::error::ProjectError;
 use crate::lines::{args_of, find_line, has_line, is_said, key_of, text_of};
-use crate::numbers::is_number;
+use crate::numbers::is_one_number;
 use crate::options::args_in;
 use crate::paths::ReadFiles;
 use crate::project::{TestKind, TestPlan};
@@ -23,7 +22,7 @@ use mcy_base::{Bytes, Text};
 use std::alloc::{AllocError, Global};
 
 /// The keys of tests.
-#[derive(Clone, Copy, Debug, PartialEq, Eq)]
+#[derive(Clone, Copy)]
 pub enum TestKey {
     Run,
     Eq,
@@ -38,28 +37,16 @@ pub enum TestKey {
 fn test_key(word: &str) -> Option<TestKey>
     ensures { result ≡ test_key word.now }
 {
-    if word == "run" {
-        return Some(TestKey::Run);
+    match word {
+        "run" => Some(TestKey::Run),
+        "eq" => Some(TestKey::Eq),
+        "sim" => Some(TestKey::Sim),
+        "pass" => Some(TestKey::Pass),
+        "fail" => Some(TestKey::Fail),
+        "expect" => Some(TestKey::Expect),
+        "maxbatchsize" => Some(TestKey::MaxBatchSize),
+        _ => None,
     }
-    if word == "eq" {
-        return Some(TestKey::Eq);
-    }
-    if word == "sim" {
-        return Some(TestKey::Sim);
-    }
-    if word == "pass" {
-        return Some(TestKey::Pass);
-    }
-    if word == "fail" {
-        return Some(TestKey::Fail);
-    }
-    if word == "expect" {
-        return Some(TestKey::Expect);
-    }
-    if word == "maxbatchsize" {
-        return Some(TestKey::MaxBatchSize);
-    }
-    None
 }
 
 /// Whether the word is one that a test gives.
@@ -67,7 +54,7 @@ fn test_key(word: &str) -> Option<TestKey>
 fn is_answer(word: &str) -> bool
     ensures { result ≡ is_answer word.now }
 {
-    word == "PASS" || word == "FAIL" || word == "HANG" || word == "UNKNOWN"
+    matches!(word, "PASS" | "FAIL" | "HANG" | "UNKNOWN")
 }
 
 fn are_answers(words: &[&str]) -> bool
@@ -82,15 +69,6 @@ fn is_sim_form(args: &[&str]) -> bool
 {
     match args {
         [bench, _, ..] => is_name(bench),
-        _ => false,
-    }
-}
-
-fn is_one_number(args: &[&str]) -> bool
-    ensures { result ≡ is_one is_number (map (λ word. word.now) args.now) }
-{
-    match args {
-        [word] => is_number(word),
         _ => false,
     }
 }
@@ -124,13 +102,19 @@ fn expects(alloc: Global, word: &str, lines: &[&str]) -> Result<bool, AllocError
     Ok(is_among(word, &args_in(alloc, "expect", lines)?))
 }
 
+/// Whether the lines have the key and the words this one.
+fn is_beside(key: &str, earlier: &[&str], word: &str, args: &[&str]) -> bool
+    ensures { result ≡ (has_line key.now (map (λ line. line.now) earlier.now) && is_among word.now (map (λ word. word.now) args.now)) }
+{
+    has_line(key, earlier) && is_among(word, args)
+}
+
 /// Whether the words do not go with the kind that the lines before them give.
 #[tactic(auto, unfolding(crate::specs::Tests::is_clash))]
 fn is_wrong_answer(args: &[&str], earlier: &[&str]) -> bool
     ensures { result ≡ is_clash TestKey.Expect (map (λ word. word.now) args.now) (map (λ line. line.now) earlier.now) }
 {
-    (has_line("eq", earlier) && is_among("HANG", args))
-        || (has_line("sim", earlier) && is_among("UNKNOWN", args))
+    is_beside("eq", earlier, "HANG", args) || is_beside("sim", earlier, "UNKNOWN", args)
 }
 
 /// Whether a key does not go with the lines before it.
@@ -228,7 +212,7 @@ fn check_line<'a>(
     let Some(key) = test_key(key_of(line)) else {
         return Err(ProjectError::UnknownKey(number));
     };
-    if key == TestKey::Run {
+    if matches!(key, TestKey::Run) {
         return Err(ProjectError::UnsupportedCommand(number));
     }
     if !is_test_form(key, &args_of(alloc, line)?) {
