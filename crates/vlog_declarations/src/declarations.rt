@@ -84,9 +84,7 @@ fn declared_name(parts: &mut Parts<'_>) -> Identifier
     ensures name { result ≡ (declared_of (first parts.old)).name }
     ensures rest { parts.new ≡ rest parts.old }
 {
-    let DeclaredName { name, initial } = parts.declared();
-    drop(initial);
-    name
+    parts.declared().into_name()
 }
 
 /// A declared name with its initial value, where it has one.

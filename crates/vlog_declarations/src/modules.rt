@@ -294,14 +294,15 @@ fn module_declaration<'a>(alloc: Global, parts: &mut Parts<'a>) -> Result<Value<
 {
     parts.skip();
     let name = parts.identifier();
+    let span = name.span;
     let parameters = parts.parameter_ports(alloc);
     let ports = parts.port_list(alloc);
     parts.skip();
     let items = parts.items(alloc);
     parts.skip();
     let module = Module {
-        name: name.name,
-        span: name.span,
+        name: name.into_name(),
+        span,
         parameters: parameters.into_listed(),
         ports,
         items: items.into_listed(),

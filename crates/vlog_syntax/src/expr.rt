@@ -39,18 +39,18 @@ pub enum Expr {
 impl Drop for Expr {
     fn drop(self) {
         match self {
-            Expr::Number(_a) => {}
-            Expr::Name(_a) => {}
-            Expr::BitSelect(_a, _b, _c) => {}
-            Expr::PartSelect(_a, _b, _c, _d) => {}
-            Expr::IndexedPartSelect(_a, _b, _c, _d) => {}
-            Expr::Parenthesized(_a, _b) => {}
-            Expr::Unary(_a, _b, _c) => {}
-            Expr::Binary(_a, _b, _c, _d) => {}
-            Expr::Conditional(_a, _b, _c, _d) => {}
-            Expr::Concatenation(_a, _b) => {}
-            Expr::MultipleConcatenation(_a, _b, _c) => {}
-            Expr::SystemFunctionCall(_a, _b) => {}
+            Expr::Number(_number) => {}
+            Expr::Name(_name) => {}
+            Expr::BitSelect(_name, _span, _index) => {}
+            Expr::PartSelect(_name, _span, _msb, _lsb) => {}
+            Expr::IndexedPartSelect(_name, _span, _base, _width) => {}
+            Expr::Parenthesized(_span, _inner) => {}
+            Expr::Unary(_span, _operator, _operand) => {}
+            Expr::Binary(_span, _operator, _left, _right) => {}
+            Expr::Conditional(_span, _condition, _yes, _no) => {}
+            Expr::Concatenation(_span, _parts) => {}
+            Expr::MultipleConcatenation(_span, _count, _parts) => {}
+            Expr::SystemFunctionCall(_name, _arguments) => {}
         }
     }
 }

@@ -6,13 +6,29 @@ use std::alloc::{AllocError, Global};
 
 /// An identifier (IEEE 1364-2005, 3.7). The name of an escaped one is without its `\`, that of a system task or
 /// function has its `$`.
-#[derive(Drop)]
 pub struct Identifier {
     pub name: Text,
     pub span: Span,
 }
 
+impl Drop for Identifier {
+    fn drop(self) {
+        let Identifier {
+            name: _name,
+            span: _span,
+        } = self;
+    }
+}
+
 impl Identifier {
+    /// The name alone.
+    pub fn into_name(self) -> Text
+        ensures { result ≡ self.name }
+    {
+        let Identifier { name, span: _ } = self;
+        name
+    }
+
     /// The same identifier.
     pub fn copy(&self, alloc: Global) -> Result<Identifier, AllocError>
         ensures { IfOk result (λ i. i ≡ self.now) }

@@ -26,11 +26,11 @@ pub enum LeftSide {
 impl Drop for LeftSide {
     fn drop(self) {
         match self {
-            LeftSide::Name(_a) => {}
-            LeftSide::BitSelect(_a, _b, _c) => {}
-            LeftSide::PartSelect(_a, _b, _c, _d) => {}
-            LeftSide::IndexedPartSelect(_a, _b, _c, _d) => {}
-            LeftSide::Concatenation(_a, _b) => {}
+            LeftSide::Name(_name) => {}
+            LeftSide::BitSelect(_name, _span, _index) => {}
+            LeftSide::PartSelect(_name, _span, _msb, _lsb) => {}
+            LeftSide::IndexedPartSelect(_name, _span, _base, _width) => {}
+            LeftSide::Concatenation(_span, _parts) => {}
         }
     }
 }

@@ -2,7 +2,7 @@
 //!
 //! How deep trees nest is `Nesting`: code that goes down a tree by calls of itself goes at most so deep.
 //!
-//! Each tree has a `drop` of its own, so that a crate above lets go of one by a call: a derived one would be proved again in each
+//! Each type has a `drop` of its own, so that a crate above lets go of a tree by a call: a derived one would be proved again in each
 //! crate that owns a tree.
 #![tactic(auto)]
 

@@ -4,7 +4,6 @@ use crate::listed::Listed;
 use mcy_base::{Span, Text};
 
 /// A module, with the place of its name.
-#[derive(Drop)]
 pub struct Module {
     pub name: Text,
     pub span: Span,
@@ -12,4 +11,16 @@ pub struct Module {
     pub ports: Ports,
     /// In the order of the source.
     pub items: Listed<Item>,
+}
+
+impl Drop for Module {
+    fn drop(self) {
+        let Module {
+            name: _name,
+            span: _span,
+            parameters: _parameters,
+            ports: _ports,
+            items: _items,
+        } = self;
+    }
 }

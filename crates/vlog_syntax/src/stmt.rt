@@ -27,19 +27,35 @@ pub enum Edge {
 }
 
 /// A name in an event control, with its edge.
-#[derive(Drop)]
 pub struct EventExpression {
     pub edge: Edge,
     pub name: Identifier,
 }
 
+impl Drop for EventExpression {
+    fn drop(self) {
+        let EventExpression {
+            edge: _edge,
+            name: _name,
+        } = self;
+    }
+}
+
 /// What a statement waits for (IEEE 1364-2005, 9.7).
-#[derive(Drop)]
 pub enum EventControl {
     /// `@*`, `@(*)`
     Implicit,
     /// `@name`, `@(posedge a or b)`
     List(Listed<EventExpression>),
+}
+
+impl Drop for EventControl {
+    fn drop(self) {
+        match self {
+            EventControl::Implicit => {}
+            EventControl::List(_events) => {}
+        }
+    }
 }
 
 /// `left = value`, with the place of its `=`.
@@ -60,11 +76,19 @@ impl Drop for Assignment {
 }
 
 /// An argument of a system task.
-#[derive(Drop)]
 pub enum Argument {
     /// The characters of a string, its escapes replaced (IEEE 1364-2005, 3.6.3).
     String(Bytes, Span),
     Expr(Boxed<Expr>),
+}
+
+impl Drop for Argument {
+    fn drop(self) {
+        match self {
+            Argument::String(_text, _span) => {}
+            Argument::Expr(_expr) => {}
+        }
+    }
 }
 
 /// An item of a case statement. The default has no labels.
@@ -121,19 +145,19 @@ impl Drop for Stmt {
     #[cycle(let_go)]
     fn drop(self) {
         match self {
-            Stmt::Null(_a) => {}
-            Stmt::SeqBlock(_a, _b, _c) => {}
-            Stmt::Conditional(_a, _b, _c, _d) => {}
-            Stmt::Case(_a, _b, _c, _d) => {}
-            Stmt::For(_a, _b, _c, _d, _e) => {}
-            Stmt::While(_a, _b, _c) => {}
-            Stmt::Repeat(_a, _b, _c) => {}
-            Stmt::Forever(_a, _b) => {}
-            Stmt::EventControl(_a, _b, _c) => {}
-            Stmt::DelayControl(_a, _b, _c) => {}
-            Stmt::SystemTaskEnable(_a, _b) => {}
-            Stmt::BlockingAssignment(_a) => {}
-            Stmt::NonblockingAssignment(_a) => {}
+            Stmt::Null(_span) => {}
+            Stmt::SeqBlock(_span, _name, _body) => {}
+            Stmt::Conditional(_span, _condition, _yes, _no) => {}
+            Stmt::Case(_span, _kind, _selector, _items) => {}
+            Stmt::For(_span, _start, _condition, _step, _body) => {}
+            Stmt::While(_span, _condition, _body) => {}
+            Stmt::Repeat(_span, _count, _body) => {}
+            Stmt::Forever(_span, _body) => {}
+            Stmt::EventControl(_span, _control, _body) => {}
+            Stmt::DelayControl(_span, _delay, _body) => {}
+            Stmt::SystemTaskEnable(_name, _arguments) => {}
+            Stmt::BlockingAssignment(_assignment) => {}
+            Stmt::NonblockingAssignment(_assignment) => {}
         }
     }
 }
