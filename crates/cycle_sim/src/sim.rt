@@ -25,7 +25,6 @@ use std::alloc::{AllocError, Global};
 use std::marker::Model;
 
 /// A netlist with the values of its nets and registers.
-#[derive(Drop)]
 pub struct Sim {
     netlist: Netlist,
     gates: Vec<Gate>,
@@ -35,6 +34,21 @@ pub struct Sim {
     table: Vec<u128>,
     registers: Vec<u128>,
     marks: Vec<u64>,
+}
+
+impl Drop for Sim {
+    fn drop(self) {
+        let Sim {
+            netlist: _netlist,
+            gates: _gates,
+            next: _next,
+            outputs: _outputs,
+            readers: _readers,
+            table: _table,
+            registers: _registers,
+            marks: _marks,
+        } = self;
+    }
 }
 
 impl Model for Sim {
@@ -54,6 +68,8 @@ impl Sim {
         ensures plan { IfOk result (λ s. s.plan ≡ netlist) }
         ensures starts { IfOk result (λ s. s.registers ≡ starts_of netlist.raw) }
     {
+        // By its clause the netlist is sound.
+        let _parts = netlist.raw();
         let wiring = wiring_of(alloc, &netlist)?;
         let numbers = first_numbers(alloc, &netlist)?;
         Ok(Sim {

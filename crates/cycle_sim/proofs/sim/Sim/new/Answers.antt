@@ -8,7 +8,7 @@ use Rattle.cycle_sim.proofs.sim.Sim.new.Goals as goal
 pub invariant_of-result : goal.invariant_of-result
 invariant_of-result c =
     let raw = c.args.netlist.raw in
-    let sound : IsSound c.args.netlist = subst IsSound c.netlist.view_is c.netlist.invariant in
+    let sound : IsSound c.args.netlist = c.raw-parts.ensures.sound in
     record {
       sound = sound;
       gates = c.in_ok-wiring.ensures.gates;
