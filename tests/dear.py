@@ -44,7 +44,9 @@ def used(session, crate):
 
 def watched(crate, words):
     """Runs the check. Answers its functions, and at which times how many seconds were used."""
-    run = subprocess.Popen(words, cwd=ROOT, stdout=subprocess.PIPE, text=True, start_new_session=True)
+    run = subprocess.Popen(
+        words, cwd=ROOT, stdout=subprocess.PIPE, stderr=subprocess.STDOUT, text=True, start_new_session=True
+    )
     times = [(time.time(), 0.0)]
 
     def watch():

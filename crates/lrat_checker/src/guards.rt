@@ -12,11 +12,19 @@ use clause_store::{ClauseStore, Lit};
 use std::alloc::{AllocError, Global};
 
 /// For each literal some lemmas.
-#[derive(Drop)]
 pub(crate) struct Guards {
     lists: Vec<Vec<u32>>,
     /// Each lemma has a guard.
     all: bool,
+}
+
+impl Drop for Guards {
+    fn drop(self) {
+        let Guards {
+            lists: _lists,
+            all: _all,
+        } = self;
+    }
 }
 
 impl Guards {
