@@ -7,7 +7,7 @@ use Rattle.netlist_core.specs.Checked.{Plan}
 use Rattle.netlist_core.specs.declared.raw.RawNetlist.{RawNetlist}
 use Rattle.vlog_syntax.specs.declared.identifier.Identifier.{Identifier}
 use Rattle.vlog_syntax.specs.declared.module.Module.{Module}
-use Rattle.flat_instances.specs.Wires.{ports_of}
+use Rattle.flat_scopes.specs.Wires.{ports_of}
 use Rattle.flat_items.specs.Flattened.{Flat, module_at}
 use Rattle.flat_items.specs.Replacing.{FlattensTop}
 use Rattle.flat_items.specs.Tops.{IsTop}

@@ -4,7 +4,7 @@ use Rattle.std.specs.List.{Contains}
 use Rattle.vlog_syntax.specs.declared.identifier.Identifier.{Identifier}
 use Rattle.vlog_syntax.specs.declared.item.Direction.TheVariants.{Input}
 use Rattle.vlog_syntax.specs.declared.module.Module.{Module}
-use Rattle.flat_instances.specs.Wires.{ports_of}
+use Rattle.flat_scopes.specs.Wires.{ports_of}
 use Rattle.flat_items.specs.Flattened.{Flat}
 use Rattle.flat_items.specs.Replacing.{FlattensTop}
 use Rattle.flat_items.specs.Tops.{own_in}

@@ -1,6 +1,6 @@
 //! Whole designs: modules become a netlist.
 ghost use Rattle.std.specs.Prelude.{◌≡◌, None, Err, IfErr, IfOk};
-ghost use Rattle.flat_instances.specs.Wires.{ports_of};
+ghost use Rattle.flat_scopes.specs.Wires.{ports_of};
 ghost use Rattle.flat_items.specs.Flattened.{module_at};
 ghost use Rattle.flat_items.specs.Views.{flat_of};
 ghost use Rattle.flat_laws.specs.Sound.{IsSound};

@@ -1,15 +1,14 @@
 //! The ports of the top, in the order of its head.
 ghost use Rattle.std.specs.Prelude.{◌≡◌, option_to_list, slice_get, IfOk};
-ghost use Rattle.flat_instances.specs.Wires.{ports_of};
+ghost use Rattle.flat_scopes.specs.Wires.{ports_of};
 ghost use Rattle.flat_items.specs.Tops.{own_at, own_in};
 ghost use Rattle.flat_items.specs.Views.{flat_of};
 ghost use Rattle.elab_items.specs.Designs.{has_direction, direction_in, port_number, port_numbers};
 ghost use Rattle.elab_hier.specs.Parts.{IsTop};
 
 use crate::flags::flags_of;
-use flat_instances::ports_of;
 use flat_items::Flat;
-use flat_scopes::{Lent, Signal, What};
+use flat_scopes::{Lent, Signal, What, ports_of};
 use std::alloc::{AllocError, Global};
 use vlog_syntax::{Direction, Identifier, Module};
 

@@ -2,8 +2,8 @@
 use Rattle.std.proofs.Common.{◌≡◌, ℕ, Bool, ◌||◌, List, [], ◌∷◌, refl, ap}
 use Rattle.std.specs.Str.{bytes_eq}
 use Rattle.flat_scopes.specs.Openings.{is_among}
-use Rattle.flat_instances.specs.declared.wire.Wire.{Wire}
-use Rattle.flat_instances.specs.declared.wire.Wire.TheVariants.{To, Mismatch}
+use Rattle.flat_scopes.specs.declared.wire.Wire.{Wire}
+use Rattle.flat_scopes.specs.declared.wire.Wire.TheVariants.{To, Mismatch}
 use Rattle.flat_instances.specs.Wires.{is_wired, ports_in}
 
 pub among_ports : (wires : List Wire) (name : List ℕ) → is_among (ports_in wires) name ≡ is_wired wires name

@@ -15,7 +15,8 @@ use Rattle.flat_instances.specs.declared.item.FlatItem.{FlatItem}
 use Rattle.flat_instances.specs.declared.item.FlatItem.TheVariants.{Refuses}
 use Rattle.flat_instances.specs.Gifts.{parameters_of, gift_of, value_faults, first_of}
 use Rattle.flat_instances.specs.Places.{Place}
-use Rattle.flat_instances.specs.Wires.{ports_of, wires_of, connected}
+use Rattle.flat_scopes.specs.Wires.{ports_of, wires_of}
+use Rattle.flat_instances.specs.Wires.{connected}
 
 -- what stands before the names of a scope that has this name in another
 abbrev pub inner_prefix : List ℕ → List ℕ → List ℕ

@@ -7,9 +7,8 @@ ghost use Rattle.flat_instances.specs.Wires.{output_item, port_item, wire_item, 
 use crate::error::ItemError;
 use crate::item::FlatItem;
 use crate::left::is_left;
-use crate::wire::Wire;
 use crate::wired::Wired;
-use flat_scopes::{Lent, Opening, Port};
+use flat_scopes::{Lent, Opening, Port, Wire};
 use std::alloc::{AllocError, Global};
 use vlog_syntax::{Direction, Expr, Identifier};
 

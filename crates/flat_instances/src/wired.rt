@@ -4,8 +4,7 @@
 ghost use Rattle.std.specs.Prelude.{◌≡◌, ◌++◌, IfOk};
 ghost use Rattle.flat_instances.specs.Wires.{is_wired, port_in, ports_in};
 
-use crate::wire::Wire;
-use flat_scopes::{Lent, NameList};
+use flat_scopes::{Lent, NameList, Wire};
 use std::alloc::{AllocError, Global};
 
 /// Connections, and the names of the ports that they connect, in order.

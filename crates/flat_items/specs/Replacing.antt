@@ -30,7 +30,7 @@ use Rattle.flat_items.specs.declared.turn.Outcome.TheVariants.{Goes, Ends, Refus
 use Rattle.flat_items.specs.Flattened.{Flat, add_all, entered, tasks_of, step_items, step_tasks, module_at, placed_in, condition_in, integer_in, chosen_tasks, label_of, IsBlockName, OpensBlock, Sees, genvar_fault, turn_start}
 use Rattle.flat_instances.specs.Instances.{inner_prefix, no_names, OpensInstance}
 use Rattle.flat_instances.specs.Places.{Place}
-use Rattle.flat_instances.specs.Wires.{ports_of}
+use Rattle.flat_scopes.specs.Wires.{ports_of}
 
 -- An instance of the module with the number n stands in the place with the number k: its module is the next place.
 pub record PlacesInstance (modules : List Module) (n k : ℕ) (place : Place) (values : ParameterValues) (instance : Instance) (flat : Flat) (tasks : List Task) (next : Flat) : Type 0 where

@@ -23,7 +23,7 @@ use Rattle.flat_items.specs.declared.task.Turn.{Turn}
 use Rattle.flat_items.specs.Flattened.{Flat, block_head, block_items, add_all, entered, tasks_of, integer_in, OpensBlock, turn_start}
 use Rattle.flat_instances.specs.Instances.{head_of, inner_prefix, no_names}
 use Rattle.flat_instances.specs.Gifts.{gift_of, parameters_of}
-use Rattle.flat_instances.specs.Wires.{ports_of}
+use Rattle.flat_scopes.specs.Wires.{ports_of}
 use Rattle.flat_instances.specs.Places.{Place}
 use Rattle.flat_items.specs.Replacing.{PlacesInstance, TurnsOnce, turn_name, next_turn, stepped, step_fault}
 use Rattle.flat_laws.specs.Sound.{AreSized, NamesSignal, OwnsSignal, PlaceStands, AllStand, times_declared}

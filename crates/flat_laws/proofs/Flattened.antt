@@ -17,7 +17,7 @@ use Rattle.flat_items.specs.declared.task.Task.TheVariants as t
 use Rattle.flat_items.specs.Flattened.{Flat, entered, tasks_of, step_items, condition_in, module_at}
 use Rattle.flat_instances.specs.Instances.{no_names}
 use Rattle.flat_instances.specs.Places.{Place}
-use Rattle.flat_instances.specs.Wires.{ports_of}
+use Rattle.flat_scopes.specs.Wires.{ports_of}
 use Rattle.flat_items.specs.Replacing.{Replaces, Flattens, replaces, flattened, step, refused, not_placed, placed, condition, arm_null, arm_condition, arm_block, bad_genvar, bad_start, loop, turn_ended, bad_turn, turn, no_construct, first_turn, is_number, repeated, top_head, FlattensModule}
 use Rattle.flat_laws.specs.Laws.{FlattenedAreSound, TopHasPorts}
 use Rattle.flat_laws.specs.Ports.{AreAccepted, ArePorts}

@@ -19,11 +19,12 @@ use Rattle.flat_instances.specs.declared.error.ItemError.TheVariants.{PortMismat
 use Rattle.flat_instances.specs.declared.error.ParameterError.{ParameterError}
 use Rattle.flat_instances.specs.declared.item.FlatItem.{FlatItem}
 use Rattle.flat_instances.specs.declared.item.FlatItem.TheVariants as f
-use Rattle.flat_instances.specs.declared.wire.Wire.{Wire}
-use Rattle.flat_instances.specs.declared.wire.Wire.TheVariants.{To, Mismatch}
+use Rattle.flat_scopes.specs.declared.wire.Wire.{Wire}
+use Rattle.flat_scopes.specs.declared.wire.Wire.TheVariants.{To, Mismatch}
 use Rattle.flat_instances.specs.Gifts.{value_faults, first_of}
 use Rattle.flat_instances.specs.Instances.{fault_item, listed_of}
-use Rattle.flat_instances.specs.Wires.{is_left, output_item, port_item, found_item, wire_item, wired, is_wired, open_item, open_found, unwired_item, unwired, connected, wires_of}
+use Rattle.flat_scopes.specs.Wires.{wires_of}
+use Rattle.flat_instances.specs.Wires.{is_left, output_item, port_item, found_item, wire_item, wired, is_wired, open_item, open_found, unwired_item, unwired, connected}
 use Rattle.flat_laws.specs.Sound.{ItemStands, AllStand, declares, times_declared}
 
 -- Items.

@@ -23,7 +23,7 @@ use Rattle.flat_scopes.specs.declared.signal.What.{What}
 use Rattle.flat_scopes.specs.declared.signal.What.TheVariants as w
 use Rattle.flat_scopes.specs.Openings.{Opened, refuse, refused_type, type_of, has_bits, new_signal, same_signal, again_port, is_among, port_found, port_name, initial, port_names}
 use Rattle.flat_scopes.specs.Opens.{Opens, signal_port, port_at, all_parameters, all_ports, header, undeclared, footer, OpensModule}
-use Rattle.flat_instances.specs.Wires.{name_in, declared_ports, ports_of}
+use Rattle.flat_scopes.specs.Wires.{name_in, declared_ports, ports_of}
 use Rattle.flat_laws.specs.Ports.{IsDirected, HasDirection, IsPort, ArePorts}
 use Rattle.flat_laws.proofs.Lists.{either, holds_last, holds_there}
 use Rattle.flat_laws.proofs.Growing.{Grows, SomeRefused, grows_self, refused_last, refused_more}

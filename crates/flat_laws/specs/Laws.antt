@@ -3,7 +3,7 @@ use Rattle.std.specs.Prelude.{ℕ, List}
 use Rattle.vlog_syntax.specs.declared.module.Module.{Module}
 use Rattle.flat_items.specs.Flattened.{Flat}
 use Rattle.flat_items.specs.Replacing.{FlattensTop}
-use Rattle.flat_instances.specs.Wires.{ports_of}
+use Rattle.flat_scopes.specs.Wires.{ports_of}
 use Rattle.flat_laws.specs.Ports.{AreAccepted, HasPorts}
 use Rattle.flat_laws.specs.Sound.{IsSound}
 

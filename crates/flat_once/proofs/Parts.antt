@@ -12,7 +12,7 @@ use Rattle.flat_instances.specs.declared.item.FlatItem.{FlatItem}
 use Rattle.flat_instances.specs.Gifts.{parameters_of, gift_of}
 use Rattle.flat_instances.specs.Instances.{inner_prefix, no_names, head_of, listed_of, OpensInstance}
 use Rattle.flat_instances.specs.Places.{Place}
-use Rattle.flat_instances.specs.Wires.{ports_of}
+use Rattle.flat_scopes.specs.Wires.{ports_of}
 use Rattle.flat_items.specs.declared.task.Task.{Task}
 use Rattle.flat_items.specs.declared.task.Turn.{Turn}
 use Rattle.flat_items.specs.Flattened.{Flat, add_all, block_head, block_items, entered, integer_in, tasks_of, OpensBlock}

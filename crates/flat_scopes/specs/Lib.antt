@@ -7,5 +7,6 @@ pub mod Words
 pub mod Valued
 pub mod Opens
 pub mod Views
+pub mod Wires
 pub mod Examples
 pub mod ScopeExamples

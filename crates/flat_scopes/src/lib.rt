@@ -11,7 +11,8 @@
 //! of a value, each by the constants of `vlog_meaning`; `Examples` has ranges and `ScopeExamples` small scopes that were worked
 //! out by hand. `own` is the map of own names, `names` a list of names with a set of them beside it, so that no port looks at all
 //! names in the head (`Known` in the specs says what the set has), `opening` the names that have no value, `declare` nets,
-//! variables and ports, `values` parameters, `items` the items in turn, and `modules` the head of a module.
+//! variables and ports, `values` parameters, `items` the items in turn, and `modules` the head of a module. `wire` pairs the
+//! expressions of an instance's connections with ports (`Wires`); instances of a bench are read by it too.
 #![tactic(auto)]
 
 mod declare;
@@ -27,6 +28,7 @@ mod range;
 mod refusal;
 mod signal;
 mod values;
+mod wire;
 
 pub use laws::{ranges_of_examples, scopes_of_examples};
 pub use lent::Lent;
@@ -38,3 +40,4 @@ pub use range::{RangeError, VectorBits, range_bits};
 pub use refusal::Refusal;
 pub use signal::{Port, Signal, What};
 pub use values::turn_decl;
+pub use wire::{Wire, ports_of, wires_of};

@@ -4,7 +4,7 @@ use Rattle.std.specs.Prelude.{slice_index_or}
 use Rattle.std.proofs.lemmas.List.{ext_get_or}
 use Rattle.vlog_syntax.specs.declared.identifier.Identifier.{Identifier}
 use Rattle.vlog_syntax.specs.declared.module.Module.{Module}
-use Rattle.flat_instances.specs.Wires.{ports_of}
+use Rattle.flat_scopes.specs.Wires.{ports_of}
 use Rattle.flat_items.specs.Flattened.{Flat}
 use Rattle.flat_once.proofs.Flattened.{flattens_once, has_one_top}
 use Rattle.elab_hier.specs.Tops.{Source, AreFlags, IsSource, all_inputs}

@@ -1,8 +1,7 @@
 //! The design of a testbench, and the hidden signals of its ports.
 ghost use Rattle.std.specs.Prelude.{◌≤◌};
 
-use flat_instances::ports_of;
-use flat_scopes::NameList;
+use flat_scopes::{NameList, ports_of};
 use mcy_base::Text;
 use std::alloc::{AllocError, Global};
 use tb_items::{Design, Role, hidden_name};

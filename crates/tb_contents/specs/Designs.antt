@@ -3,7 +3,7 @@ use Rattle.std.specs.Prelude.{◌≡◌}
 use Rattle.vlog_syntax.specs.declared.module.Module.{Module}
 use Rattle.netlist_core.specs.declared.raw.RawNetlist.{RawNetlist}
 use Rattle.flat_scopes.specs.Views.{opened_of}
-use Rattle.flat_instances.specs.Wires.{ports_of}
+use Rattle.flat_scopes.specs.Wires.{ports_of}
 use Rattle.tb_items.specs.declared.design.Design.{Design}
 use Rattle.tb_signals.specs.Opened.{IsOpened}
 

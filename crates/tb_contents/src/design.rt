@@ -2,8 +2,7 @@
 ghost use Rattle.std.specs.Prelude.{◌≡◌, IfOk};
 ghost use Rattle.tb_contents.specs.Designs.{IsDesign};
 
-use flat_instances::ports_of;
-use flat_scopes::NameList;
+use flat_scopes::{NameList, ports_of};
 use mcy_base::Text;
 use netlist_core::Netlist;
 use std::alloc::{AllocError, Global};

@@ -11,9 +11,9 @@ use Rattle.vlog_syntax.specs.declared.expr.Expr.TheOpen.{Expr-F}
 use Rattle.vlog_syntax.specs.declared.identifier.Identifier.{Identifier}
 use Rattle.vlog_syntax.specs.declared.item.Instance.{Instance}
 use Rattle.vlog_syntax.specs.declared.left_side.LeftSide.{LeftSide}
-use Rattle.flat_instances.specs.declared.wire.Wire.{Wire}
-use Rattle.flat_instances.specs.declared.wire.Wire.TheVariants.{To, Mismatch}
-use Rattle.flat_instances.specs.Wires.{wires_of}
+use Rattle.flat_scopes.specs.declared.wire.Wire.{Wire}
+use Rattle.flat_scopes.specs.declared.wire.Wire.TheVariants.{To, Mismatch}
+use Rattle.flat_scopes.specs.Wires.{wires_of}
 use Rattle.tb_faults.specs.declared.fault.BenchFault.TheVariants.{PortMismatch}
 use Rattle.tb_items.specs.declared.design.Design.{Design}
 use Rattle.tb_items.specs.declared.design.Role.{Role}

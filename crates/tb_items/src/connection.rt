@@ -7,8 +7,7 @@ ghost use Rattle.tb_items.specs.Connections.{hidden, is_name, clock_item, output
 use crate::design::{Design, Role, hidden_name};
 use crate::item::BenchItem;
 use crate::left::left_of;
-use flat_instances::{Wire, wires_of};
-use flat_scopes::Lent;
+use flat_scopes::{Lent, Wire, wires_of};
 use mcy_base::{Span, Text};
 use std::alloc::{AllocError, Global};
 use tb_faults::BenchFault;

@@ -16,10 +16,10 @@ use Rattle.flat_scopes.specs.declared.opening.Step.{Step}
 use Rattle.flat_scopes.specs.declared.opening.Step.TheVariants as s
 use Rattle.flat_scopes.specs.Openings.{Opened, unopened}
 use Rattle.flat_scopes.specs.Views.{opened_of}
-use Rattle.flat_instances.specs.declared.wire.Wire.{Wire}
-use Rattle.flat_instances.specs.declared.wire.Wire.TheVariants.{To, Mismatch}
+use Rattle.flat_scopes.specs.declared.wire.Wire.{Wire}
+use Rattle.flat_scopes.specs.declared.wire.Wire.TheVariants.{To, Mismatch}
 use Rattle.flat_instances.specs.Instances.{no_names}
-use Rattle.flat_instances.specs.Wires.{wires_of}
+use Rattle.flat_scopes.specs.Wires.{wires_of}
 use Rattle.flat_items.specs.Replacing.{top_head}
 use Rattle.flat_once.proofs.Scopes.{module_once}
 use Rattle.tb_items.specs.declared.design.Design.{Design}

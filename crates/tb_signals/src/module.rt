@@ -3,8 +3,7 @@ ghost use Rattle.std.specs.Prelude.{IfOk};
 ghost use Rattle.flat_scopes.specs.Views.{opened_of};
 ghost use Rattle.tb_signals.specs.Opened.{IsOpened};
 
-use flat_instances::ports_of;
-use flat_scopes::{Head, NameList, Opening};
+use flat_scopes::{Head, NameList, Opening, ports_of};
 use mcy_base::Text;
 use std::alloc::{AllocError, Global};
 use vlog_meaning::Scope;

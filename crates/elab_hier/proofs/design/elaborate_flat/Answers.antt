@@ -1,7 +1,7 @@
 use Rattle.std.proofs.Common.{◌∙◌, List, Option, ℕ, ap, length, subst, sym}
 use Rattle.std.specs.Prelude.{option_map}
 use Rattle.std.proofs.lemmas.Result.{IfErr-weaker}
-use Rattle.flat_instances.specs.Wires.{ports_of}
+use Rattle.flat_scopes.specs.Wires.{ports_of}
 use Rattle.flat_items.specs.Views.{flat_of}
 use Rattle.flat_clocks.specs.Clocks.{Clocks}
 use Rattle.flat_runs.proofs.Law.{built_runs}

@@ -1,5 +1,5 @@
 use Rattle.std.proofs.Common.{◌≡◌, ◌++◌, drop}
-use Rattle.flat_instances.proofs.wire.all_lent.Given as goal
+use Rattle.flat_scopes.proofs.wire.all_lent.Given as goal
 
 abbrev pub invariant-loop-name : goal.invariant-loop-name
 invariant-loop-name l = l.list.items ++ drop l.name-index l.names ≡ l.names

@@ -1,6 +1,6 @@
 use Rattle.std.proofs.Common.{◌≡◌, ◌++◌, [], drop}
-use Rattle.flat_instances.specs.Wires.{named_wires}
-use Rattle.flat_instances.proofs.wire.named_wires.Given as goal
+use Rattle.flat_scopes.specs.Wires.{named_wires}
+use Rattle.flat_scopes.proofs.wire.named_wires.Given as goal
 
 abbrev pub invariant-loop-connection : goal.invariant-loop-connection
 invariant-loop-connection l = l.wires.items ++ named_wires l.ports l.seen (drop l.connection-index l.connections) ≡ named_wires l.ports [] l.connections

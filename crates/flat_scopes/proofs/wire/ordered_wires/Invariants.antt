@@ -1,6 +1,6 @@
 use Rattle.std.proofs.Common.{◌≡◌, ◌++◌, drop}
-use Rattle.flat_instances.specs.Wires.{ordered_wires}
-use Rattle.flat_instances.proofs.wire.ordered_wires.Given as goal
+use Rattle.flat_scopes.specs.Wires.{ordered_wires}
+use Rattle.flat_scopes.proofs.wire.ordered_wires.Given as goal
 
 abbrev pub invariant-loop-place : goal.invariant-loop-place
 invariant-loop-place l = l.wires.items ++ ordered_wires l.at (drop l.place l.ports) (drop l.place l.values) ≡ ordered_wires l.at l.ports l.values

@@ -1,6 +1,6 @@
 use Rattle.std.proofs.Common.{◌≡◌, ◌++◌, drop}
-use Rattle.flat_instances.specs.Wires.{declared_ports}
-use Rattle.flat_instances.proofs.wire.declared_ports.Given as goal
+use Rattle.flat_scopes.specs.Wires.{declared_ports}
+use Rattle.flat_scopes.proofs.wire.declared_ports.Given as goal
 
 abbrev pub invariant-loop-declaration : goal.invariant-loop-declaration
 invariant-loop-declaration l = l.ports.items ++ declared_ports (drop l.declaration-index l.declarations) ≡ declared_ports l.declarations

@@ -1,8 +1,9 @@
 //! The connections of an instance's ports, by name or by place (IEEE 1364-2005, 12.3.5 and 12.3.6).
 ghost use Rattle.std.specs.Prelude.{◌≡◌, ◌++◌, [], map, IfOk};
-ghost use Rattle.flat_instances.specs.Wires.{name_in, declared_ports, ports_of, named_wire, named_wires, ordered_wires, place_of, wires_of};
+ghost use Rattle.flat_scopes.specs.Wires.{name_in, declared_ports, ports_of, named_wire, named_wires, ordered_wires, place_of, wires_of};
 
-use flat_scopes::{Lent, NameList};
+use crate::lent::Lent;
+use crate::names::NameList;
 use mcy_base::Span;
 use std::alloc::{AllocError, Global};
 use vlog_syntax::{
