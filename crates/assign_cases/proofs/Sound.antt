@@ -9,7 +9,7 @@ use Rattle.netlist_core.specs.declared.bit.Bit.{Bit}
 use Rattle.vlog_meaning.specs.declared.scope.Decl.{Decl}
 use Rattle.vlog_meaning.specs.declared.scope.Decl.TheVariants.{Signal, Constant}
 use Rattle.vlog_meaning.specs.Scopes.{Names, with_name}
-use Rattle.elab_expr.specs.Building.{Building, AllBelow, IsSignal, HasSignals, empty, fresh_bits, signal, with_declared}
+use Rattle.net_builder.specs.Building.{Building, AllBelow, IsSignal, HasSignals, empty, fresh_bits, signal, with_declared}
 use Rattle.flat_runs.proofs.Growing.{declared_stand, empty_stands}
 use Rattle.flat_runs.proofs.Signals.{below_more, declared_own, empty_owns, fresh_below}
 use Rattle.flat_assigns.specs.Built.{IsReady}

@@ -1,6 +1,6 @@
 -- Declared names, and a builder that has the signals.
 use Rattle.vlog_meaning.specs.Scopes.{names_of}
-use Rattle.elab_expr.specs.Building.{HasSignals}
+use Rattle.net_builder.specs.Building.{HasSignals}
 use Rattle.flat_assigns.specs.Built.{IsReady}
 use Rattle.assign_cases.specs.declared.bench.Bench.{Bench}
 

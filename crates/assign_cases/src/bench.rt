@@ -4,8 +4,8 @@ ghost use Rattle.std.specs.Prelude.{OnOk};
 ghost use Rattle.assign_cases.specs.Benches.{IsSound};
 
 use anyhow::{Context, Result, bail};
-use elab_expr::Builder;
 use mcy_base::{Span, Word};
+use net_builder::Builder;
 use std::alloc::Global;
 use vlog_meaning::{Decl, Scope};
 

@@ -4,8 +4,8 @@ ghost use Rattle.assign_cases.specs.Benches.{IsSound};
 
 use crate::bench::Bench;
 use anyhow::{Result, bail};
-use elab_expr::Builder;
 use flat_assigns::Refusal;
+use net_builder::Builder;
 use netlist_core::Bit;
 use std::io;
 use vlog_meaning::{Cause, Decl};

@@ -21,8 +21,8 @@ mod parts;
 mod told;
 
 use anyhow::Result;
-use elab_expr::{Builder, FinishError};
 use mcy_base::Text;
+use net_builder::{Builder, FinishError};
 use netlist_core::Port;
 use parts::{declare, invert, join, number_of, port_of, register, start};
 use std::alloc::Global;

@@ -1,10 +1,10 @@
 //! What statements add to a builder.
 ghost use Rattle.std.specs.Prelude.{◌≡◌, ◌<◌, ◌≤◌, [], ◌∷◌, IfOk, length};
-ghost use Rattle.elab_expr.specs.Building.{signal};
+ghost use Rattle.net_builder.specs.Building.{signal};
 
 use anyhow::{Context, Result, bail};
-use elab_expr::Builder;
 use mcy_base::{Span, Text, Word};
+use net_builder::Builder;
 use netlist_core::{Bit, BitList, CellKind, Port, PortList};
 use std::alloc::{AllocError, Global};
 

@@ -1,5 +1,5 @@
 //! What is printed of builders and netlists.
-use elab_expr::Builder;
+use net_builder::Builder;
 use netlist_core::{Bit, BitList, RawNetlist};
 use std::io;
 

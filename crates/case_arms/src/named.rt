@@ -22,7 +22,7 @@ use vlog_syntax::{CaseItem, CaseKind, Expr};
 const MOST_BITS: u8 = 8;
 
 /// Whether a label names a value: a constant of which each bit matters.
-#[tactic(auto, using(elab_expr::proofs::Plans::none_read))]
+#[tactic(auto, using(expr_plans::proofs::Plans::none_read))]
 fn is_value(kind: CaseKind, label: &Expr, scope: &Scope) -> bool
     ensures { result ≡ (is_constant (names_of scope.now) label.now && nat_eq (dont_care kind label.now) 0) }
 {

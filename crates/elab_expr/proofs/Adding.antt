@@ -23,15 +23,15 @@ use Rattle.vlog_meaning.specs.Operators.{IsSized, ArePaired, digit, sizing, resu
 use Rattle.vlog_meaning.specs.Scopes.{decl_low, decl_shape, decl_value}
 use Rattle.vlog_meaning.specs.Senses.{is_division, taken}
 use Rattle.vlog_meaning.proofs.Signs.{extended_positive}
-use Rattle.elab_expr.specs.Building.{Building, RunsIn, AllBelow, PortsBelow, fresh_bits, with_cell, store}
+use Rattle.net_builder.specs.Building.{Building, RunsIn, AllBelow, PortsBelow, fresh_bits, with_cell, store}
 use Rattle.elab_expr.specs.Evaluates.{Adds, Holds}
-use Rattle.elab_expr.specs.Kinds.{unary_kind, binary_kind, is_order}
-use Rattle.elab_expr.specs.Made.{Made, cell_of}
+use Rattle.expr_plans.specs.Kinds.{unary_kind, binary_kind, is_order}
+use Rattle.expr_plans.specs.Made.{Made, cell_of}
 use Rattle.elab_expr.specs.Wiring.{ShapeOfBits}
 use Rattle.elab_expr.proofs.Bits.{number-fits}
 use Rattle.elab_expr.proofs.Growing.{adds_cell, widened, none_made}
 use Rattle.elab_expr.proofs.NodeLemmas.{unary_widths, binary_widths}
-use Rattle.elab_expr.proofs.Parts.{grows_not, length_fresh}
+use Rattle.net_builder.proofs.Parts.{grows_not, length_fresh}
 
 -- what the extension of bits with zeros is
 abbrev pub IsExtended : List Bit → List Bit → ℕ → Type 0

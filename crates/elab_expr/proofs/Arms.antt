@@ -24,18 +24,18 @@ use Rattle.vlog_meaning.specs.Scopes.{Names, Store, decl_shape, decl_low, decl_v
 use Rattle.vlog_meaning.specs.Senses.{Sense, sense, senses, own, is_empty, fault, index_features, binary_step, total_width, joined, repeated}
 use Rattle.vlog_meaning.proofs.Results.{total_take}
 use Rattle.vlog_meaning.proofs.Signs.{extended_positive}
-use Rattle.elab_expr.specs.declared.error.ElabError.{ElabError}
-use Rattle.elab_expr.specs.Building.{Building, AllBelow, RunsIn, store}
+use Rattle.net_builder.specs.declared.error.ElabError.{ElabError}
+use Rattle.net_builder.specs.Building.{Building, AllBelow, RunsIn, store}
 use Rattle.elab_expr.specs.Evaluates.{Adds, Builds, Evaluates}
-use Rattle.elab_expr.specs.Kinds.{unary_kind, binary_kind}
-use Rattle.elab_expr.specs.Made.{Made, made_of, plan, plans, made, own_cells, all_cells, cell_of, pick_cells, condition_cells, unary_cells, binary_cells, choice_cells}
-use Rattle.elab_expr.specs.Refusals.{IsShort}
+use Rattle.expr_plans.specs.Kinds.{unary_kind, binary_kind}
+use Rattle.expr_plans.specs.Made.{Made, made_of, plan, plans, made, own_cells, all_cells, cell_of, pick_cells, condition_cells, unary_cells, binary_cells, choice_cells}
+use Rattle.net_builder.specs.Refusals.{IsShort}
 use Rattle.elab_expr.specs.Wiring.{ShapeOfBits}
 use Rattle.elab_expr.proofs.Bits.{number-fits}
 use Rattle.elab_expr.proofs.Growing.{then_adds, none_made, count, more_short, stretched}
-use Rattle.elab_expr.proofs.Parts.{grows_not, grows_again, grown_nets, runs_before, store_same, below_append, below_later}
+use Rattle.net_builder.proofs.Parts.{grows_not, grows_again, grown_nets, runs_before, store_same, below_append, below_later}
 use Rattle.elab_expr.proofs.Selects.{number_append}
-use Rattle.elab_expr.proofs.Plans.{plan_sense, plan_first}
+use Rattle.expr_plans.proofs.Plans.{plan_sense, plan_first}
 
 -- other cells that are the same
 pub same_cells : (o n : Building) (y : List Bit) (w : ℕ) (f : Nets → ℕ) (M N : List Made) → N ≡ M → Adds o n y w f M → Adds o n y w f N

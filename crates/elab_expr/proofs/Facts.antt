@@ -26,12 +26,12 @@ use Rattle.vlog_meaning.proofs.Blanks.{left_nil, right_nil, these_nil}
 use Rattle.vlog_meaning.proofs.Contexts.{joint_left, joint_right}
 use Rattle.vlog_meaning.proofs.Steps as steps
 use Rattle.vlog_meaning.proofs.Whole as whole
-use Rattle.elab_expr.specs.Building.{Building, RunsIn, store}
+use Rattle.net_builder.specs.Building.{Building, RunsIn, store}
 use Rattle.elab_expr.specs.Evaluates.{Builds, Evaluates, TakesBits, takes_sign}
-use Rattle.elab_expr.specs.Made.{Plan, Made, plan, plans, plan_step, unsupported_step, made, all_unsupported, all_cells, call_unsupported, pick_cells, unary_cells, binary_cells, choice_cells}
+use Rattle.expr_plans.specs.Made.{Plan, Made, plan, plans, plan_step, unsupported_step, made, all_unsupported, all_cells, call_unsupported, pick_cells, unary_cells, binary_cells, choice_cells}
 use Rattle.elab_expr.proofs.Growing.{made_as, evaluates_as}
-use Rattle.elab_expr.proofs.Plans as planned
-use Rattle.elab_expr.proofs.Plans.{plan_sense}
+use Rattle.expr_plans.proofs.Plans as planned
+use Rattle.expr_plans.proofs.Plans.{plan_sense}
 use Rattle.elab_expr.proofs.Arms.{unextended}
 
 -- Each production.

@@ -20,16 +20,16 @@ use Rattle.vlog_meaning.specs.Integers.{extended}
 use Rattle.vlog_meaning.specs.Scopes.{Names, Store}
 use Rattle.vlog_meaning.specs.Senses.{Sense, sense, is_empty}
 use Rattle.vlog_meaning.proofs.Signs.{extended_positive}
-use Rattle.elab_expr.specs.declared.error.ElabError.{ElabError}
-use Rattle.elab_expr.specs.declared.error.ElabError.TheVariants as error
-use Rattle.elab_expr.specs.Building.{Building, RunsIn, Grows, AllBelow, PortsBelow, HasSignals, IsSignal, fresh_bits, signal, with_cell, store}
+use Rattle.net_builder.specs.declared.error.ElabError.{ElabError}
+use Rattle.net_builder.specs.declared.error.ElabError.TheVariants as error
+use Rattle.net_builder.specs.Building.{Building, RunsIn, Grows, AllBelow, PortsBelow, HasSignals, IsSignal, fresh_bits, signal, with_cell, store}
 use Rattle.elab_expr.specs.Evaluates.{Adds, Builds, Evaluates, Holds}
-use Rattle.elab_expr.specs.Made.{Made, Plan, made_of, made, plan, plan_step, cells_step}
-use Rattle.elab_expr.specs.Refusals.{IsShort}
+use Rattle.expr_plans.specs.Made.{Made, Plan, made_of, made, plan, plan_step, cells_step}
+use Rattle.net_builder.specs.Refusals.{IsShort}
 use Rattle.elab_expr.specs.Wiring.{ShapeOfBits}
 use Rattle.elab_expr.proofs.Bits.{number-fits}
-use Rattle.elab_expr.proofs.Parts.{below_later, grows_not, grows_not_more, grows_again, grows_cell, grows_cell_more, grown_nets, grown_cells, store_same, runs_before, fresh_below, length_fresh, widths_push}
-use Rattle.elab_expr.proofs.Plans.{plan_sense}
+use Rattle.net_builder.proofs.Parts.{below_later, grows_not, grows_not_more, grows_again, grows_cell, grows_cell_more, grown_nets, grown_cells, store_same, runs_before, fresh_below, length_fresh, widths_push}
+use Rattle.expr_plans.proofs.Plans.{plan_sense}
 
 -- How many cells.
 

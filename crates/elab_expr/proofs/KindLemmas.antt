@@ -21,7 +21,7 @@ use Rattle.std.proofs.Math.Pow.{pow_mono}
 use Rattle.vlog_syntax.specs.declared.operator.BinaryOperator.{BinaryOperator}
 use Rattle.vlog_syntax.specs.declared.operator.BinaryOperator.TheVariants as b
 use Rattle.vlog_meaning.specs.Operators.{sizing, ArePaired, result_width}
-use Rattle.elab_expr.specs.Kinds.{binary_kind, is_order}
+use Rattle.expr_plans.specs.Kinds.{binary_kind, is_order}
 
 -- the words `digit` of both crates
 pub same_digit : (x : Bool) → n.digit x ≡ digit x

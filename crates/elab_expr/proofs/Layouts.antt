@@ -23,9 +23,9 @@ use Rattle.vlog_meaning.specs.Integers.{natural}
 use Rattle.vlog_meaning.specs.Operators.{sizing, left_context, right_context, result_width, operand_context, is_reduction}
 use Rattle.vlog_meaning.specs.Scopes.{Names, nothing, decl_low}
 use Rattle.vlog_meaning.specs.Senses.{Sense, sense, step, own, is_empty, constant_integer}
-use Rattle.elab_expr.specs.Building.{Building, fresh_bits, with_cell}
+use Rattle.net_builder.specs.Building.{Building, fresh_bits, with_cell}
 use Rattle.elab_expr.specs.Evaluates.{takes_sign}
-use Rattle.elab_expr.specs.Kinds.{unary_kind, binary_kind, is_order}
+use Rattle.expr_plans.specs.Kinds.{unary_kind, binary_kind, is_order}
 use Rattle.elab_expr.specs.Laid.{Laid, Layout, layout, layouts, layout_step, lay, lay_own, lay_step, lay_parts, lay_select, lay_unary, lay_binary, lay_condition, lay_arms, showing, cell, at_width, unary_cell, binary_cell, mux_cell, reduced, name_bits, number_bits, widened, bits_from, times}
 
 -- A layout says what the expression says, and begins where it begins.

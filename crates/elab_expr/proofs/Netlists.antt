@@ -19,9 +19,9 @@ use Rattle.vlog_meaning.specs.Integers.{natural}
 use Rattle.vlog_meaning.specs.Operators.{sizing, left_context, right_context, result_width, operand_context, is_reduction}
 use Rattle.vlog_meaning.specs.Scopes.{Names, nothing, decl_low}
 use Rattle.vlog_meaning.specs.Senses.{Sense, sense, own, is_empty, constant_integer}
-use Rattle.elab_expr.specs.Building.{Building}
+use Rattle.net_builder.specs.Building.{Building}
 use Rattle.elab_expr.specs.Evaluates.{takes_sign}
-use Rattle.elab_expr.specs.Kinds.{unary_kind, binary_kind}
+use Rattle.expr_plans.specs.Kinds.{unary_kind, binary_kind}
 use Rattle.elab_expr.specs.Laid.{Laid, Layout, layout, layouts, lay, lay_own, lay_parts, lay_select, lay_unary, lay_binary, lay_condition, lay_arms, showing, cell, at_width, unary_cell, binary_cell, mux_cell, reduced, name_bits, number_bits, widened, bits_from, times}
 use Rattle.elab_expr.proofs.Layouts.{layout_sense, layout_first, lay_constant, lay_varies, layout_number, layout_name, layout_bit_select, layout_part_select, layout_indexed_part_select, layout_parenthesized, layout_unary, layout_binary, layout_conditional, layout_concatenation, layout_multiple_concatenation, layout_system_function_call}
 

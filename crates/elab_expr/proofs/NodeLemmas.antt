@@ -17,12 +17,12 @@ use Rattle.netlist_core.specs.Shapes.{shape_of, HasWidths}
 use Rattle.vlog_meaning.specs.declared.shapes.Shape.{Shape}
 use Rattle.vlog_meaning.specs.Integers.{window}
 use Rattle.vlog_meaning.specs.Operators.{sizing, ArePaired, result_width, is_reduction, unary_value, binary_value}
-use Rattle.elab_expr.specs.Building.{Building, RunsIn, with_cell, fresh_bits}
-use Rattle.elab_expr.specs.Kinds.{unary_kind, binary_kind, is_order}
+use Rattle.net_builder.specs.Building.{Building, RunsIn, with_cell, fresh_bits}
+use Rattle.expr_plans.specs.Kinds.{unary_kind, binary_kind, is_order}
 use Rattle.elab_expr.proofs.KindLemmas as cells
 use Rattle.elab_expr.proofs.KindLemmas.{some_of}
 use Rattle.elab_expr.proofs.UnaryLemmas as more
-use Rattle.elab_expr.proofs.Parts.{shows}
+use Rattle.net_builder.proofs.Parts.{shows}
 
 pub length_values : (nets : Nets) (bits : List Bit) → length (values nets bits) ≡ length bits
 length_values nets bits = length-map bits (bit_value nets)

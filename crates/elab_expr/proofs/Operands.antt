@@ -1,8 +1,7 @@
 -- The operands of an operator, each in its context, and the parts of a list.
 use Rattle.std.proofs.Common.{◌≡◌, ℕ, zero, suc, ◌≤◌, ◌<◌, List, [], ◌∷◌, length, get_or, sym, ◌∙◌, ap, subst, arith}
 use Rattle.std.proofs.Common.{ℤ, pos, ◌-ℤ◌, true}
-use Rattle.std.specs.Prelude.{if◌then◌else◌, Result, Ok, Err, IfOk, IfErr}
-use Rattle.std.specs.Result.{IsErrAnd}
+use Rattle.std.specs.Prelude.{if◌then◌else◌, Result, Ok, Err, IfOk}
 use Rattle.mcy_base.specs.declared.span.Span.{Span}
 use Rattle.netlist_core.specs.declared.bit.Bit.{Bit}
 use Rattle.vlog_syntax.specs.declared.expr.Expr.{Expr}
@@ -17,13 +16,13 @@ use Rattle.vlog_meaning.specs.Scopes.{Names, nothing, decl_low, decl_value}
 use Rattle.vlog_meaning.specs.Senses.{IsContext, sense, own, is_empty}
 use Rattle.vlog_meaning.proofs.Blanks.{left_nil, right_nil}
 use Rattle.vlog_meaning.proofs.Contexts.{operand_within, left_within, right_within, are_paired}
-use Rattle.elab_expr.specs.Building.{Building, store}
+use Rattle.net_builder.specs.Building.{Building, store}
 use Rattle.elab_expr.specs.Evaluates.{Builds, Holds}
-use Rattle.elab_expr.specs.Made.{plan, plans, all_unsupported, pick_cells}
+use Rattle.expr_plans.specs.Made.{plan, plans, all_unsupported, pick_cells}
 use Rattle.elab_expr.proofs.Arms.{pick_cells_none}
 use Rattle.elab_expr.proofs.Growing.{none_made}
-use Rattle.elab_expr.proofs.Parts.{grows_not}
-use Rattle.elab_expr.proofs.Plans.{constant_value}
+use Rattle.net_builder.proofs.Parts.{grows_not}
+use Rattle.expr_plans.proofs.Plans.{constant_value}
 
 pub sized_as : (s t : Shape) → s ≡ t → IsSized s → IsSized t
 sized_as s t is sized = subst IsSized is sized
@@ -85,11 +84,6 @@ element_supported names (e ∷ es) (suc i) x is h none = element_supported names
 pub both_ok : {A E : Type 0} (r : Result A E) (P Q R : A → Type 0) → ((a : A) → P a → Q a → R a) → IfOk r P → IfOk r Q → IfOk r R
 both_ok (Ok a) P Q R f p q = f a p q
 both_ok (Err e) P Q R f p q = tt
-
--- what is said of the error that a call hands on
-pub same_err : {T E : Type 0} (r : Result T E) (e : E) (P : E → Type 0) → IsErrAnd r (λ x. x ≡ e) → P e → IfErr r P
-same_err (Ok x) e P h p = tt
-same_err (Err x) e P h p = subst P (sym h) p
 
 -- a select from a constant place on
 pub place_built : (names : Names) (name : List ℕ) (x : Expr) (span : Span) (size v : ℕ) (z : ℤ) (b : Building) (bits : List Bit) → is_empty (sense names x).signals ≡ true → z ≡ pos (own nothing (sense names x)) → Holds b bits v (λ signals. window (z -ℤ pos (decl_low (names name))) size (decl_value signals (names name))) → Builds b b bits v (λ signals. window (pos (own signals (sense names x)) -ℤ pos (decl_low (names name))) size (decl_value signals (names name))) (pick_cells names name span (plan names x) size)

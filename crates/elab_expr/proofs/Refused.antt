@@ -11,7 +11,7 @@ use Rattle.vlog_meaning.proofs.Blanks.{left_nil, right_nil, these_nil}
 use Rattle.vlog_meaning.proofs.Firsts.{least_none}
 use Rattle.vlog_meaning.proofs.Refusals.{least_empty}
 use Rattle.elab_expr.specs.Expressions.{refusals}
-use Rattle.elab_expr.specs.Made.{plan}
+use Rattle.expr_plans.specs.Made.{plan}
 
 module _ (names : Names) (x : Expr) (c : Shape) (o : Option Fault) (is : o ≡ least (refusals names x c)) where
   -- nothing is wrong, and all is supported

@@ -12,10 +12,10 @@ use Rattle.netlist_core.specs.Runs.{Nets, bit_value, values}
 use Rattle.vlog_meaning.specs.declared.bound.Bound.{Bound}
 use Rattle.vlog_meaning.specs.Integers.{window, bound_integer}
 use Rattle.vlog_meaning.specs.Senses.{repeated}
-use Rattle.elab_expr.specs.Building.{AllBelow}
+use Rattle.net_builder.specs.Building.{AllBelow}
 use Rattle.elab_expr.specs.Wiring.{fill_bit, bit_or_0, window_digit}
 use Rattle.elab_expr.proofs.Bits.{digit-small, number-push}
-use Rattle.elab_expr.proofs.Parts.{below_append}
+use Rattle.net_builder.proofs.Parts.{below_append}
 
 -- a digit of a number is that of its bit
 pub digit_at : (nets : Nets) (bits : List Bit) (i : ℕ) → digit (bit_value nets (bit_or_0 bits i)) ≡ number (values nets bits) / 2 ^ i % 2

@@ -11,8 +11,8 @@ use Rattle.vlog_syntax.specs.declared.operator.BinaryOperator.{BinaryOperator}
 use Rattle.vlog_meaning.specs.declared.scope.Decl.{Decl}
 use Rattle.vlog_meaning.specs.declared.shapes.Shape.{Shape}
 use Rattle.vlog_meaning.specs.Operators.{sizing, result_width, is_reduction}
-use Rattle.elab_expr.specs.Building.{Building, fresh_bits, with_cell}
-use Rattle.elab_expr.specs.Kinds.{unary_kind, binary_kind, is_order}
+use Rattle.net_builder.specs.Building.{Building, fresh_bits, with_cell}
+use Rattle.expr_plans.specs.Kinds.{unary_kind, binary_kind, is_order}
 use Rattle.elab_expr.specs.Laid.{Laid, showing, cell, at_width, widened, name_bits, unary_cell, binary_cell, reduced}
 
 pub both_shown : (n m : Building) (y z : List Bit) → n ≡ m → y ≡ z → showing n y ≡ showing m z

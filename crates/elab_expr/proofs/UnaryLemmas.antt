@@ -14,7 +14,7 @@ use Rattle.netlist_core.specs.Cells.{cell_value, all_ones, some_one, odd_ones, l
 use Rattle.vlog_meaning.specs.declared.shapes.Shape.{Shape}
 use Rattle.vlog_meaning.specs.Integers.{low_bits, window, parity}
 use Rattle.vlog_meaning.specs.Operators.{digit, unary_value, is_reduction}
-use Rattle.elab_expr.specs.Kinds.{unary_kind}
+use Rattle.expr_plans.specs.Kinds.{unary_kind}
 use Rattle.elab_expr.proofs.KindLemmas.{same_digit, digit_mod, digit_le, bits_fit, some_tells, number-drop, some_of}
 
 not_not : (b : Bool) → not (not b) ≡ b

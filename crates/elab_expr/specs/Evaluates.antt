@@ -9,8 +9,8 @@ use Rattle.vlog_meaning.specs.declared.function.Function.TheVariants.{Signed, Un
 use Rattle.vlog_meaning.specs.declared.shapes.Shape.{Shape}
 use Rattle.vlog_meaning.specs.Scopes.{Names, Store}
 use Rattle.vlog_meaning.specs.Senses.{Sense, sense}
-use Rattle.elab_expr.specs.Building.{Building, RunsIn, Grows, AllBelow, store}
-use Rattle.elab_expr.specs.Made.{Made, made_of, made}
+use Rattle.net_builder.specs.Building.{Building, RunsIn, Grows, AllBelow, store}
+use Rattle.expr_plans.specs.Made.{Made, made_of, made}
 
 -- Cells were added, and these bits, of this width, have a value in every run.
 pub record Adds (old new : Building) (bits : List Bit) (width : ℕ) (value : Nets → ℕ) (added : List Made) : Type 0 where

@@ -22,9 +22,9 @@ use Rattle.vlog_meaning.specs.Integers.{natural}
 use Rattle.vlog_meaning.specs.Operators.{sizing, left_context, right_context, result_width, operand_context, is_reduction}
 use Rattle.vlog_meaning.specs.Scopes.{Names, nothing, decl_low}
 use Rattle.vlog_meaning.specs.Senses.{Sense, step, own, is_empty, constant_integer}
-use Rattle.elab_expr.specs.Building.{Building, fresh_bits, signal, with_cell}
+use Rattle.net_builder.specs.Building.{Building, fresh_bits, signal, with_cell}
 use Rattle.elab_expr.specs.Evaluates.{takes_sign}
-use Rattle.elab_expr.specs.Kinds.{unary_kind, binary_kind, is_order}
+use Rattle.expr_plans.specs.Kinds.{unary_kind, binary_kind, is_order}
 use Rattle.elab_expr.specs.Wiring.{fill_bit, bit_or_0}
 
 -- Bits without cells.

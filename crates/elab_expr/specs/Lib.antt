@@ -1,13 +1,4 @@
-pub mod Building
 pub mod Evaluates
 pub mod Expressions
-pub mod Kinds
-pub mod Made
-pub mod Refusals
 pub mod Wiring
-pub mod Written
-pub mod Finished
-pub mod Stepping
-pub mod Tracing
-pub mod Rounds
 pub mod Laid

@@ -8,22 +8,22 @@ ghost use Rattle.vlog_meaning.specs.Integers.{window, extended};
 ghost use Rattle.vlog_meaning.specs.Operators.{IsSized, digit, sizing, pair_shape, unary_shape, joint, operand_context, unary_value};
 ghost use Rattle.vlog_meaning.specs.Scopes.{names_of, decl_shape, decl_low, decl_value};
 ghost use Rattle.vlog_meaning.specs.Senses.{sense, senses, own, binary_step, index_features, is_division, is_empty, total_width, joined, repeated, IsWhole, AreWhole, IsContext};
-ghost use Rattle.elab_expr.specs.Building.{AllBelow, HasSignals, RunsIn, store};
+ghost use Rattle.net_builder.specs.Building.{AllBelow, HasSignals, RunsIn, store};
 ghost use Rattle.elab_expr.specs.Evaluates.{Adds, Builds, Evaluates};
 ghost use Rattle.elab_expr.specs.Laid.{lay, lay_arms, lay_binary, lay_condition, lay_parts, lay_select, lay_unary, layout, layouts, showing, widened};
 ghost use Rattle.elab_expr.specs.Laid as laid;
-ghost use Rattle.elab_expr.specs.Made.{plan, plans, made, all_unsupported, all_cells, cell_of, pick_cells, condition_cells, unary_cells, binary_cells, choice_cells};
-ghost use Rattle.elab_expr.specs.Refusals.{IsShort};
+ghost use Rattle.expr_plans.specs.Made.{plan, plans, made, all_unsupported, all_cells, cell_of, pick_cells, condition_cells, unary_cells, binary_cells, choice_cells};
+ghost use Rattle.net_builder.specs.Refusals.{IsShort};
 
-use crate::builder::Builder;
-use crate::constant::{bound_of, count_of, folded, index_of, is_constant};
-use crate::error::ElabError;
+use crate::folded::folded;
 use crate::names::{named, placed};
 use crate::operators::{
     argument_shape, binary_bits, choice_bits, condition_bits, picked, unary_bits,
 };
 use crate::wiring::{extended_bits, joined_bits, repeated_at};
+use expr_plans::{bound_of, count_of, index_of, is_constant};
 use mcy_base::Span;
+use net_builder::{Builder, ElabError};
 use netlist_core::BitList;
 use vlog_meaning::{Scope, Shape, operand_context, shape_of, sizing_of};
 use vlog_syntax::{BinaryOperator, Expr, Identifier, UnaryOperator};

@@ -6,13 +6,13 @@ ghost use Rattle.vlog_meaning.specs.Integers.{window, bound_integer};
 ghost use Rattle.vlog_meaning.specs.Operators.{IsSized};
 ghost use Rattle.vlog_meaning.specs.Scopes.{names_of, decl_shape, decl_low, decl_value};
 ghost use Rattle.vlog_meaning.specs.Senses.{taken};
-ghost use Rattle.elab_expr.specs.Building.{HasSignals, AllBelow, store};
+ghost use Rattle.net_builder.specs.Building.{HasSignals, AllBelow, store};
 ghost use Rattle.elab_expr.specs.Evaluates.{Holds};
 ghost use Rattle.elab_expr.specs.Laid.{bits_from, widened};
 ghost use Rattle.elab_expr.specs.Laid as laid;
 
-use crate::builder::Builder;
-use crate::wiring::{constant_bits, copied_bits, extended_bits, window_bits};
+use crate::wiring::{constant_bits, extended_bits, window_bits};
+use net_builder::{Builder, copied_bits};
 use netlist_core::{Bit, BitList};
 use std::alloc::{AllocError, Global};
 use vlog_meaning::{Bound, Decl, Scope, Shape};

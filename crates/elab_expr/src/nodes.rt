@@ -6,13 +6,12 @@ ghost use Rattle.netlist_core.specs.Runs.{Nets, values};
 ghost use Rattle.netlist_core.specs.declared.cell.CellKind.TheVariants.{Ror, Mux, Pick, Put};
 ghost use Rattle.vlog_meaning.specs.Integers.{window};
 ghost use Rattle.vlog_meaning.specs.Operators.{IsSized, ArePaired, sizing, result_width, is_reduction, unary_value, binary_value};
-ghost use Rattle.elab_expr.specs.Building.{RunsIn, fresh_bits, with_cell};
-ghost use Rattle.elab_expr.specs.Kinds.{unary_kind, binary_kind, is_order};
-ghost use Rattle.elab_expr.specs.Refusals.{IsShort};
+ghost use Rattle.net_builder.specs.Building.{RunsIn, fresh_bits, with_cell};
+ghost use Rattle.expr_plans.specs.Kinds.{unary_kind, binary_kind, is_order};
+ghost use Rattle.net_builder.specs.Refusals.{IsShort};
 
-use crate::builder::Builder;
-use crate::error::ElabError;
 use mcy_base::Span;
+use net_builder::{Builder, ElabError};
 use netlist_core::{BitList, CellKind, PortList};
 use std::alloc::{AllocError, Global};
 use vlog_meaning::{Shape, Sizing, sizing_of};

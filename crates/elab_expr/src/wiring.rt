@@ -5,11 +5,12 @@ ghost use Rattle.netlist_core.specs.Numbers.{digit, number};
 ghost use Rattle.netlist_core.specs.Runs.{Nets, bit_value, values};
 ghost use Rattle.vlog_meaning.specs.Integers.{extended, window, bound_integer};
 ghost use Rattle.vlog_meaning.specs.Senses.{repeated};
-ghost use Rattle.elab_expr.specs.Building.{AllBelow};
+ghost use Rattle.net_builder.specs.Building.{AllBelow};
 ghost use Rattle.elab_expr.specs.Laid.{bit_of, bits_from, number_bits, widened};
 ghost use Rattle.elab_expr.specs.Laid as laid;
 ghost use Rattle.elab_expr.specs.Wiring.{ShapeOfBits, fill_bit, bit_or_0, window_digit};
 
+use net_builder::copied_bits;
 use netlist_core::{Bit, BitList};
 use std::alloc::{AllocError, Global};
 use vlog_meaning::Bound;
@@ -139,13 +140,6 @@ pub fn joined_bits(low: BitList, high: &[Bit]) -> Result<BitList, AllocError>
         bits.push(*bit)?;
     }
     Ok(bits)
-}
-
-/// The same bits.
-pub fn copied_bits(alloc: Global, bits: &[Bit]) -> Result<BitList, AllocError>
-    ensures { IfOk result (λ found. found ≡ bits.now) }
-{
-    joined_bits(BitList::from_vec(Vec::new(alloc)), bits)
 }
 
 /// So many times the same bits.

@@ -6,8 +6,8 @@ use Rattle.netlist_core.specs.declared.port.Register.{Register}
 use Rattle.netlist_core.specs.declared.raw.RawNetlist.{RawNetlist}
 use Rattle.netlist_core.specs.Runs.{bits_at, q_bits}
 use Rattle.netlist_core.specs.Drivers.{times_at}
-use Rattle.elab_expr.specs.Building.{Building}
-use Rattle.elab_expr.specs.Finished.{LeadsTo, step_of, led_port, Finished}
+use Rattle.net_builder.specs.Building.{Building}
+use Rattle.net_builder.specs.Finished.{LeadsTo, step_of, led_port, Finished}
 use Rattle.elab_finish.specs.declared.left.Left.{Left}
 use Rattle.elab_finish.specs.Endings.{CanFinish, IsEnding, port_of, registers_in}
 use Rattle.elab_finish.specs.Ordering.{AreSlots, AreFilled}

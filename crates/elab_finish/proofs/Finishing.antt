@@ -5,8 +5,8 @@ use Rattle.netlist_core.specs.declared.bit.Bit.{Bit}
 use Rattle.netlist_core.specs.declared.port.Register.{Register}
 use Rattle.netlist_core.specs.declared.raw.RawNetlist.{RawNetlist}
 use Rattle.netlist_core.specs.Runs.{bits_at}
-use Rattle.elab_expr.specs.Building.{Building, signal, start_bits}
-use Rattle.elab_expr.specs.Finished.{LeadsTo, step_of, led_register, Finished}
+use Rattle.net_builder.specs.Building.{Building, signal, start_bits}
+use Rattle.net_builder.specs.Finished.{LeadsTo, step_of, led_register, Finished}
 use Rattle.flat_runs.specs.Designs.{Design}
 use Rattle.flat_runs.specs.Finishing.{IsFirstWith, ArePut, Finishes, IsWhole}
 use Rattle.flat_runs.proofs.Ends.{ready_finishes}

@@ -4,11 +4,11 @@ use Rattle.std.specs.Prelude.{slice_index_or}
 use Rattle.std.proofs.lemmas.Bool.{cases_lt}
 use Rattle.netlist_core.specs.declared.bit.Bit.{Bit}
 use Rattle.netlist_core.specs.declared.bit.Bit.TheVariants.{Fixed, Net}
-use Rattle.elab_expr.specs.declared.steps.Step.TheVariants.{On}
-use Rattle.elab_expr.specs.Building.{Building, signal}
-use Rattle.elab_expr.specs.Written.{IsJoined, joint_of}
-use Rattle.elab_expr.specs.Finished.{stepped, step_of, Follows, direct, further, IsOnLoop}
-use Rattle.elab_expr.proofs.Writing.{joint_found}
+use Rattle.net_builder.specs.declared.steps.Step.TheVariants.{On}
+use Rattle.net_builder.specs.Building.{Building, signal}
+use Rattle.net_builder.specs.Written.{IsJoined, joint_of}
+use Rattle.net_builder.specs.Finished.{stepped, step_of, Follows, direct, further, IsOnLoop}
+use Rattle.net_builder.proofs.Writing.{joint_found}
 use Rattle.flat_runs.specs.Adding.{IsBit}
 use Rattle.elab_finish.specs.Loops.{next_of, IsLooped}
 

@@ -10,8 +10,8 @@ use Rattle.netlist_core.specs.Runs.{input_ports, output_port}
 use Rattle.netlist_core.specs.Shapes.{HasShape, HasWidths, shape_of, widths}
 use Rattle.netlist_core.specs.Drivers.{times, times_at, y_bits, cell_readers}
 use Rattle.netlist_core.specs.Checked.{AllWide, AllNets, AllPortsNets, AllCellsWide, HasBadShape}
-use Rattle.elab_expr.specs.declared.builder.Joint.{Joint}
-use Rattle.elab_expr.specs.Building.{AllBelow, PortsBelow}
+use Rattle.net_builder.specs.declared.builder.Joint.{Joint}
+use Rattle.net_builder.specs.Building.{AllBelow, PortsBelow}
 use Rattle.flat_runs.specs.Parts.{AreCellsBelow, AreJointsBelow, AreRegistersBelow, AreFormed}
 use Rattle.flat_runs.specs.Finishing.{all_led, led_cell}
 use Rattle.flat_runs.proofs.Lists.{contains_none, contains_cases}

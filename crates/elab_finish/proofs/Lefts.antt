@@ -4,8 +4,8 @@ use Rattle.std.proofs.lemmas.Bool.{cases_lt}
 use Rattle.netlist_core.specs.declared.bit.Bit.{Bit}
 use Rattle.netlist_core.specs.declared.bit.Bit.TheVariants.{Net}
 use Rattle.netlist_core.specs.declared.raw.RawNetlist.{RawNetlist}
-use Rattle.elab_expr.specs.Building.{Building}
-use Rattle.elab_expr.proofs.Following.{loop_goes}
+use Rattle.net_builder.specs.Building.{Building}
+use Rattle.net_builder.proofs.Following.{loop_goes}
 use Rattle.flat_runs.proofs.Lists.{contains_get}
 use Rattle.elab_finish.specs.declared.error.DesignError.{DesignError}
 use Rattle.elab_finish.specs.declared.error.DesignError.TheVariants.{Loop, TooMany, Memory}

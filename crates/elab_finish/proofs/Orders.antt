@@ -14,9 +14,9 @@ use Rattle.netlist_core.specs.declared.bit.Bit.TheVariants.{Fixed, Net}
 use Rattle.netlist_core.specs.declared.port.Register.{Register}
 use Rattle.netlist_core.specs.Runs.{q_bits, output_port}
 use Rattle.netlist_core.specs.Drivers.{times_at}
-use Rattle.elab_expr.specs.Building.{Building}
-use Rattle.elab_expr.specs.Written.{IsJoined, IsStored, is_stored}
-use Rattle.elab_expr.proofs.Writing.{stored_there, stored_told}
+use Rattle.net_builder.specs.Building.{Building}
+use Rattle.net_builder.specs.Written.{IsJoined, IsStored, is_stored}
+use Rattle.net_builder.proofs.Writing.{stored_there, stored_told}
 use Rattle.flat_runs.proofs.Signals.{times_get}
 use Rattle.elab_finish.specs.Endings.{AreKnown, is_register, registers_in}
 use Rattle.elab_finish.specs.Heads.{head_in, with_head, after_lowest}

@@ -7,9 +7,9 @@ use Rattle.netlist_core.specs.declared.bit.Bit.TheVariants.{Fixed, Net}
 use Rattle.netlist_core.specs.declared.port.Register.{Register}
 use Rattle.netlist_core.specs.Runs.{q_bits}
 use Rattle.netlist_core.specs.Drivers.{times_at}
-use Rattle.elab_expr.specs.Building.{Building, signal}
-use Rattle.elab_expr.specs.Finished.{led_register}
-use Rattle.elab_expr.proofs.Writing.{stored_there, stored_told}
+use Rattle.net_builder.specs.Building.{Building, signal}
+use Rattle.net_builder.specs.Finished.{led_register}
+use Rattle.net_builder.proofs.Writing.{stored_there, stored_told}
 use Rattle.flat_runs.specs.Meanings.{NoneTwice}
 use Rattle.flat_runs.specs.Adding.{HasOwnNets}
 use Rattle.flat_runs.specs.Writing.{HasOneWriter}

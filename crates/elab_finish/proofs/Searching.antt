@@ -2,10 +2,10 @@
 use Rattle.std.proofs.Common.{◌≡◌, ◌≢◌, ◌⊎◌, ℕ, zero, suc, ◌+◌, ◌<◌, ◌≤◌, List, [], ◌∷◌, length, set, replicate, refl, sym, ◌∙◌, ap, subst, inl, inr, arith}
 use Rattle.std.proofs.lemmas.Bool.Decides.{eqb_tells}
 use Rattle.std.proofs.lemmas.List.{get_or-set_same, get_or-set_other, length-set}
-use Rattle.elab_expr.specs.declared.steps.Step.{Step}
-use Rattle.elab_expr.specs.declared.steps.Step.TheVariants.{On}
-use Rattle.elab_expr.specs.Finished.{Follows, direct, IsOnLoop}
-use Rattle.elab_expr.proofs.Following.{trans, loop_goes, loop_back, closed_follows}
+use Rattle.net_builder.specs.declared.steps.Step.{Step}
+use Rattle.net_builder.specs.declared.steps.Step.TheVariants.{On}
+use Rattle.net_builder.specs.Finished.{Follows, direct, IsOnLoop}
+use Rattle.net_builder.proofs.Following.{trans, loop_goes, loop_back, closed_follows}
 use Rattle.elab_finish.specs.declared.search.Mark.{Mark}
 use Rattle.elab_finish.specs.declared.search.Mark.TheVariants.{Unknown, Free, From, Looped}
 use Rattle.elab_finish.specs.Searching.{mark_in, tally, one_unknown, one_open, IsSettled, LeadsOn, IsWalked, IsRounded}

@@ -12,8 +12,8 @@ use Rattle.netlist_core.specs.Drivers.{times, times_at, y_bits, drivers, cell_re
 use Rattle.mcy_base.specs.declared.kind.Kind.TheVariants as k
 use Rattle.netlist_core.specs.declared.netlist.NetError.TheVariants as e
 use Rattle.netlist_core.specs.Checked.{AllWide, AllPortsNets, AllRegistersFit, AllCellsWide, IsFormed, HasBadShape}
-use Rattle.elab_expr.specs.Building.{Building, PortsBelow, signal}
-use Rattle.elab_expr.specs.Written.{IsStored}
+use Rattle.net_builder.specs.Building.{Building, PortsBelow, signal}
+use Rattle.net_builder.specs.Written.{IsStored}
 use Rattle.flat_runs.specs.Designs.{Design}
 use Rattle.flat_runs.specs.Adding.{IsBit}
 use Rattle.flat_runs.specs.Parts.{AreRegistersBelow, owners}

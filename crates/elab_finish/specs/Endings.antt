@@ -6,9 +6,9 @@ use Rattle.netlist_core.specs.declared.bit.Bit.TheVariants.{Fixed, Net}
 use Rattle.netlist_core.specs.declared.port.Port.{Port}
 use Rattle.netlist_core.specs.declared.port.Register.{Register}
 use Rattle.netlist_core.specs.declared.raw.RawNetlist.{RawNetlist}
-use Rattle.elab_expr.specs.Building.{Building, signal, start_bits, declared_at}
-use Rattle.elab_expr.specs.Written.{is_stored}
-use Rattle.elab_expr.specs.Finished.{LeadsTo, step_of, all_led, led_cell, led_port}
+use Rattle.net_builder.specs.Building.{Building, signal, start_bits, declared_at}
+use Rattle.net_builder.specs.Written.{is_stored}
+use Rattle.net_builder.specs.Finished.{LeadsTo, step_of, all_led, led_cell, led_port}
 use Rattle.flat_runs.specs.Meanings.{NoneTwice}
 use Rattle.flat_runs.specs.Designs.{Design}
 use Rattle.flat_runs.specs.Adding.{HasOwnNets}

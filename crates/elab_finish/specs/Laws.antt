@@ -3,8 +3,8 @@ use Rattle.std.specs.Prelude.{◌≡◌, ◌↔◌, ℕ, ◌≤◌, true, List, 
 use Rattle.std.specs.List.{Contains}
 use Rattle.netlist_core.specs.declared.port.Register.{Register}
 use Rattle.netlist_core.specs.Runs.{q_bits}
-use Rattle.elab_expr.specs.Building.{Building, signal}
-use Rattle.elab_expr.specs.Written.{IsJoined}
+use Rattle.net_builder.specs.Building.{Building, signal}
+use Rattle.net_builder.specs.Written.{IsJoined}
 use Rattle.flat_runs.specs.Adding.{HasOwnNets}
 use Rattle.elab_finish.specs.declared.left.Left.{Left}
 use Rattle.elab_finish.specs.Endings.{is_register}

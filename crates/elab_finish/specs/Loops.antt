@@ -1,10 +1,10 @@
 -- Nets that lead back to themselves without passing through a cell, and the first left side that writes one.
 use Rattle.std.specs.Prelude.{◌≡◌, ◌⊎◌, ℕ, ◌+◌, ◌<◌, ◌≤◌, true, List, [], ◌∷◌, None}
 use Rattle.std.specs.List.{Contains}
-use Rattle.elab_expr.specs.declared.steps.Step.{Step}
-use Rattle.elab_expr.specs.Building.{Building}
-use Rattle.elab_expr.specs.Written.{joint_of}
-use Rattle.elab_expr.specs.Finished.{stepped, IsOnLoop}
+use Rattle.net_builder.specs.declared.steps.Step.{Step}
+use Rattle.net_builder.specs.Building.{Building}
+use Rattle.net_builder.specs.Written.{joint_of}
+use Rattle.net_builder.specs.Finished.{stepped, IsOnLoop}
 use Rattle.flat_runs.specs.Adding.{IsBit}
 use Rattle.elab_finish.specs.declared.left.Left.{Left}
 

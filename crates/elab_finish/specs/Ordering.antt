@@ -2,7 +2,7 @@
 use Rattle.std.specs.Prelude.{◌≡◌, ◌⊎◌, ℕ, true, false, List, [], ◌∷◌, ◌++◌, length, slice_get, Some}
 use Rattle.netlist_core.specs.declared.bit.Bit.{Bit}
 use Rattle.netlist_core.specs.declared.port.Register.{Register}
-use Rattle.elab_expr.specs.Building.{Building, signal, start_bits, declared_at}
+use Rattle.net_builder.specs.Building.{Building, signal, start_bits, declared_at}
 use Rattle.elab_finish.specs.Endings.{is_register}
 
 -- the register of a signal, whatever it takes

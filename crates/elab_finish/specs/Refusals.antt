@@ -7,7 +7,7 @@ use Rattle.netlist_core.specs.declared.raw.RawNetlist.{RawNetlist}
 use Rattle.netlist_core.specs.Runs.{q_bits}
 use Rattle.netlist_core.specs.Orders.{IsOnLoop}
 use Rattle.netlist_core.specs.Checked.{IsFirst, all_bits, net_bits}
-use Rattle.elab_expr.specs.Building.{Building}
+use Rattle.net_builder.specs.Building.{Building}
 use Rattle.elab_finish.specs.declared.error.DesignError.{DesignError}
 use Rattle.elab_finish.specs.declared.error.DesignError.TheVariants.{Loop, TooMany, Memory}
 use Rattle.elab_finish.specs.declared.left.Left.{Left}

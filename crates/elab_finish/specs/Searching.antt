@@ -2,9 +2,9 @@
 use Rattle.std.specs.Prelude.{◌≡◌, ◌≢◌, ◌⊎◌, ℕ, ◌+◌, ◌<◌, ◌≤◌, List, [], ◌∷◌, length, slice_get, slice_index_or, Option, None, Some}
 use Rattle.netlist_core.specs.declared.bit.Bit.{Bit}
 use Rattle.netlist_core.specs.declared.bit.Bit.TheVariants.{Net}
-use Rattle.elab_expr.specs.declared.steps.Step.{Step}
-use Rattle.elab_expr.specs.declared.steps.Step.TheVariants.{On}
-use Rattle.elab_expr.specs.Finished.{Follows, IsOnLoop}
+use Rattle.net_builder.specs.declared.steps.Step.{Step}
+use Rattle.net_builder.specs.declared.steps.Step.TheVariants.{On}
+use Rattle.net_builder.specs.Finished.{Follows, IsOnLoop}
 use Rattle.elab_finish.specs.declared.search.Mark.{Mark}
 use Rattle.elab_finish.specs.declared.search.Mark.TheVariants.{Unknown, Free, From, Looped}
 

@@ -4,7 +4,7 @@ ghost use Rattle.mcy_base.specs.declared.span.Span.{Span as Place};
 ghost use Rattle.netlist_core.specs.Checked.{IsFormed, IsRefused};
 ghost use Rattle.netlist_core.specs.declared.netlist.NetError.{NetError as Refusal};
 ghost use Rattle.netlist_core.specs.declared.netlist.NetError.TheVariants as e;
-ghost use Rattle.elab_expr.specs.Building.{Building};
+ghost use Rattle.net_builder.specs.Building.{Building};
 ghost use Rattle.elab_finish.specs.Checking.{OnlyLoops, span_of};
 ghost use Rattle.elab_finish.specs.Refusals.{IsOver, IsWithin};
 

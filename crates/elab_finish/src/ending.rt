@@ -1,14 +1,14 @@
 //! The netlist of a builder, with its registers in the order of declaration.
 ghost use Rattle.std.specs.Prelude.{◌≡◌, List, IfOk};
-ghost use Rattle.elab_expr.specs.Finished.{Finished};
+ghost use Rattle.net_builder.specs.Finished.{Finished};
 ghost use Rattle.elab_finish.specs.declared.left.Left.{Left as LeftSide};
 ghost use Rattle.elab_finish.specs.Endings.{CanFinish, IsEnding};
 ghost use Rattle.elab_finish.specs.Loops.{IsLoopFree};
 
 use crate::ordering::{all_filled, slots};
 use crate::ports::ports;
-use elab_expr::{Builder, FinishError};
 use mcy_base::Text;
+use net_builder::{Builder, FinishError};
 use netlist_core::{Port, RawNetlist, Register, RegisterList};
 use std::alloc::AllocError;
 

@@ -10,8 +10,8 @@ use crate::ending::ending;
 use crate::error::DesignError;
 use crate::left::{Left, first_looped};
 use crate::limits::test_limits;
-use elab_expr::Builder;
 use mcy_base::Text;
+use net_builder::Builder;
 use netlist_core::Netlist;
 
 /// The netlist of a builder in which all items of a design are built, which can be run.

@@ -2,15 +2,15 @@
 ghost use Rattle.std.specs.Prelude.{◌≡◌, ◌↔◌, ℕ, MatchOption, IfOk, IsTrue};
 ghost use Rattle.netlist_core.specs.declared.bit.Bit.TheVariants.{Net};
 ghost use Rattle.flat_runs.specs.Adding.{IsBit};
-ghost use Rattle.elab_expr.specs.Written.{IsJoined};
+ghost use Rattle.net_builder.specs.Written.{IsJoined};
 ghost use Rattle.elab_finish.specs.Loops.{next_of, IsLooped, IsLoopFree, IsLeftLooped, AreCovered};
 ghost use Rattle.elab_finish.specs.Refusals.{IsLeftAt};
 ghost use Rattle.elab_finish.specs.Searching.{HasNet, IsSettled};
 
 use crate::nets::net_limit;
 use crate::search::Search;
-use elab_expr::Builder;
 use mcy_base::Span;
+use net_builder::Builder;
 use netlist_core::Bit;
 use std::alloc::AllocError;
 

@@ -1,6 +1,6 @@
 //! How many bits a netlist has, and whether they are too many.
 ghost use Rattle.std.specs.Prelude.{◌≡◌, MatchResult};
-ghost use Rattle.elab_expr.specs.Building.{Building};
+ghost use Rattle.net_builder.specs.Building.{Building};
 ghost use Rattle.netlist_core.specs.Runs.{bits_at, q_bits, output_port};
 ghost use Rattle.netlist_core.specs.Drivers.{y_bits};
 ghost use Rattle.netlist_core.specs.Checked.{all_bits, net_bits};

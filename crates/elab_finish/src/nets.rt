@@ -5,7 +5,7 @@ ghost use Rattle.flat_runs.specs.Adding.{IsBit};
 ghost use Rattle.elab_finish.specs.Loops.{next_of};
 ghost use Rattle.elab_finish.specs.Searching.{IsNext};
 
-use elab_expr::Builder;
+use net_builder::Builder;
 use netlist_core::Bit;
 
 /// The net that a net is joined to.

@@ -3,15 +3,15 @@ ghost use Rattle.std.specs.Prelude.{◌≡◌, ◌<◌, ◌≤◌, ◌++◌, ◌
 ghost use Rattle.netlist_core.specs.declared.port.Register.{Register as Slot};
 ghost use Rattle.netlist_core.specs.Runs.{q_bits};
 ghost use Rattle.netlist_core.specs.Drivers.{times_at};
-ghost use Rattle.elab_expr.specs.Written.{IsJoined, IsStored, is_stored};
+ghost use Rattle.net_builder.specs.Written.{IsJoined, IsStored, is_stored};
 ghost use Rattle.elab_finish.specs.Endings.{AreKnown, is_register, registers_in};
 ghost use Rattle.elab_finish.specs.Heads.{head_in, HaveHeads};
 ghost use Rattle.elab_finish.specs.Ordering.{IsSlot, AreSlots, AddsSlot, IsOnly, IsFilled, AreFilled};
 
 use crate::heads::Heads;
 use crate::ports::name_of;
-use elab_expr::{Builder, copied_bits};
 use mcy_base::Text;
+use net_builder::{Builder, copied_bits};
 use netlist_core::{Bit, BitList, Register, copy_bits};
 use std::alloc::{AllocError, Global};
 

@@ -1,10 +1,10 @@
 //! The ports of a netlist, by the numbers of their signals.
 ghost use Rattle.std.specs.Prelude.{◌≡◌, ◌<◌, length, map, IfOk};
-ghost use Rattle.elab_expr.specs.Building.{declared_at};
+ghost use Rattle.net_builder.specs.Building.{declared_at};
 ghost use Rattle.elab_finish.specs.Endings.{AreKnown, port_of};
 
-use elab_expr::{Builder, copied_bits};
 use mcy_base::Text;
+use net_builder::{Builder, copied_bits};
 use netlist_core::Port;
 use std::alloc::AllocError;
 

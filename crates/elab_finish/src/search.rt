@@ -4,13 +4,13 @@
 //! loop, and the loop is gone round once more; no other net of the way is on one. So each net is followed once. `marks` tells what
 //! is known of each net; a net past its end is on no loop.
 ghost use Rattle.std.specs.Prelude.{◌≡◌, ◌≢◌, ◌⊎◌, ◌↔◌, ℕ, ◌+◌, ◌<◌, ◌≤◌, MatchOption, IfOk, IsTrue, length};
-ghost use Rattle.elab_expr.specs.declared.steps.Step.TheVariants.{On};
+ghost use Rattle.net_builder.specs.declared.steps.Step.TheVariants.{On};
 ghost use Rattle.elab_finish.specs.declared.search.Mark.TheVariants.{Unknown, From, Looped};
 ghost use Rattle.elab_finish.specs.Loops.{next_of, IsLooped};
 ghost use Rattle.elab_finish.specs.Searching.{mark_in, tally, one_unknown, IsSettled, IsWalked};
 
 use crate::nets::next_net;
-use elab_expr::Builder;
+use net_builder::Builder;
 use std::alloc::{AllocError, Global};
 
 /// What is known of a net.

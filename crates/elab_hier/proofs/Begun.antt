@@ -3,7 +3,7 @@ use Rattle.std.proofs.Common.{◌≡◌, ℕ, ◌<◌, ◌≤◌, sym, ap, ◌�
 use Rattle.mcy_base.specs.declared.kind.Kind.{Kind}
 use Rattle.mcy_base.specs.declared.kind.Kind.TheVariants as kind
 use Rattle.vlog_meaning.specs.Scopes.{Store, nothing}
-use Rattle.elab_expr.specs.Building.{Building, empty}
+use Rattle.net_builder.specs.Building.{Building, empty}
 use Rattle.flat_items.specs.Flattened.{Flat}
 use Rattle.flat_laws.specs.Sound.{IsSound}
 use Rattle.process_cells.specs.Items.{Widths, widths_in}

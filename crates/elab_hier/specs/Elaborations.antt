@@ -8,7 +8,7 @@ use Rattle.std.specs.Prelude.{ℕ, ◌≤◌, Bool, List}
 use Rattle.netlist_core.specs.declared.raw.RawNetlist.{RawNetlist}
 use Rattle.netlist_core.specs.Checked.{IsSound}
 use Rattle.vlog_syntax.specs.declared.module.Module.{Module}
-use Rattle.elab_expr.specs.Building.{Building, empty}
+use Rattle.net_builder.specs.Building.{Building, empty}
 use Rattle.flat_runs.specs.Designs.{Design}
 use Rattle.flat_runs.specs.Laws.{SameRuns}
 use Rattle.flat_items.specs.Flattened.{Flat}

@@ -3,7 +3,7 @@
 use Rattle.std.specs.Prelude.{◌≡◌, ℕ, ◌<◌, Bool, List, Option, None, Some}
 use Rattle.mcy_base.specs.declared.kind.Kind.TheVariants.{NetBits}
 use Rattle.vlog_syntax.specs.declared.module.Module.{Module}
-use Rattle.elab_expr.specs.Building.{Building}
+use Rattle.net_builder.specs.Building.{Building}
 use Rattle.flat_scopes.specs.declared.signal.Signal.{Signal}
 use Rattle.flat_instances.specs.declared.error.ItemError.{ItemError}
 use Rattle.flat_items.specs.Flattened.{Flat, module_at}

@@ -7,10 +7,10 @@ ghost use Rattle.flat_laws.specs.Sound.{IsSound};
 ghost use Rattle.elab_hier.specs.Parts.{IsBegun, IsFullAs, IsBuilt, IsNotBuilt};
 
 use crate::answers::{build_answer, full_answer};
-use elab_expr::Builder;
 use elab_items::{BuildError, Desk, ElabError, build_items, declare_signals, set_starts};
 use flat_clocks::Clocks;
 use flat_items::Flat;
+use net_builder::Builder;
 use std::alloc::Global;
 
 /// A builder that has the signals of a design, with their start values.

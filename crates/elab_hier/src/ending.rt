@@ -9,10 +9,10 @@ ghost use Rattle.elab_hier.specs.Parts.{IsRefusedAs};
 
 use crate::answers::end_answer;
 use crate::numbers::Lists;
-use elab_expr::Builder;
 use elab_finish::finish_design;
 use elab_items::ElabError;
 use mcy_base::Text;
+use net_builder::Builder;
 use netlist_core::Netlist;
 
 /// The netlist of what was built, for a top of this name that has these outputs.

@@ -18,12 +18,12 @@ use Rattle.vlog_meaning.specs.Answers.{least}
 use Rattle.vlog_meaning.specs.Scopes.{Names}
 use Rattle.vlog_meaning.proofs.Firsts.{least_none}
 use Rattle.vlog_effects.specs.Expressions.{width_of}
-use Rattle.elab_expr.specs.declared.error.ElabError.{ElabError}
-use Rattle.elab_expr.specs.declared.error.ElabError.TheVariants as elab
-use Rattle.elab_expr.specs.Building.{Building, HasSignals, signal}
-use Rattle.elab_expr.specs.Expressions.{elab_error}
-use Rattle.elab_expr.specs.Made.{Made}
-use Rattle.elab_expr.specs.Refusals.{IsShort as IsShortOf}
+use Rattle.net_builder.specs.declared.error.ElabError.{ElabError}
+use Rattle.net_builder.specs.declared.error.ElabError.TheVariants as elab
+use Rattle.net_builder.specs.Building.{Building, HasSignals, signal}
+use Rattle.net_builder.specs.Errors.{elab_error}
+use Rattle.expr_plans.specs.Made.{Made}
+use Rattle.net_builder.specs.Refusals.{IsShort as IsShortOf}
 use Rattle.elab_proc.specs.Refusals.{same_form}
 use Rattle.flat_runs.specs.Meanings.{Meaning, Assign}
 use Rattle.flat_runs.specs.Parts.{whole}

@@ -2,9 +2,9 @@
 use Rattle.std.proofs.Common.{◌≡◌, ℕ, ◌+◌, ◌≤◌, Bool, List, length, sym, ap, ◌∙◌, subst, arith, length-append}
 use Rattle.std.proofs.lemmas.List.{length-map}
 use Rattle.vlog_effects.specs.Steps.{Steps}
-use Rattle.elab_expr.specs.Building.{Building}
-use Rattle.elab_expr.specs.Made.{Made, made_of}
-use Rattle.elab_expr.specs.Refusals.{max_cells}
+use Rattle.net_builder.specs.Building.{Building}
+use Rattle.expr_plans.specs.Made.{Made, made_of}
+use Rattle.net_builder.specs.Refusals.{max_cells}
 use Rattle.process_events.specs.Events.{Sensitivity, Once, Combinational, Clocked, Refused, sensitivity}
 use Rattle.process_cells.specs.Items.{AddsBy, AddsMeaning, BuildsBy, cells_by, meaning_of, process_steps, widths_in}
 use Rattle.process_cells.proofs.Items.{clocked_adds, combinational_adds}

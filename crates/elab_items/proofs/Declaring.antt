@@ -5,8 +5,8 @@ use Rattle.std.specs.List.{Contains}
 use Rattle.std.proofs.lemmas.List.{append-nil, append_assoc, map-append}
 use Rattle.netlist_core.specs.declared.bit.Bit.{Bit}
 use Rattle.flat_scopes.specs.declared.signal.Signal.{Signal}
-use Rattle.elab_expr.specs.declared.builder.Signal.{Signal as Kept}
-use Rattle.elab_expr.specs.Building.{Building, empty, fresh_bits, own_bits, signal, with_declared}
+use Rattle.net_builder.specs.declared.builder.Signal.{Signal as Kept}
+use Rattle.net_builder.specs.Building.{Building, empty, fresh_bits, own_bits, signal, with_declared}
 use Rattle.flat_runs.specs.Adding.{HasOwnNets}
 use Rattle.flat_runs.specs.Designs.{Design}
 use Rattle.flat_runs.specs.Finishing.{Begins}

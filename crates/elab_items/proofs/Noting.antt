@@ -12,8 +12,8 @@ use Rattle.vlog_syntax.specs.declared.left_side.LeftSide.TheVariants as l
 use Rattle.vlog_meaning.specs.Scopes.{Names}
 use Rattle.vlog_effects.specs.LeftSides.{Part, parts_of}
 use Rattle.vlog_effects.specs.Steps.{Steps}
-use Rattle.elab_expr.specs.Building.{Building, signal}
-use Rattle.elab_expr.specs.Written.{IsJoined, IsStored}
+use Rattle.net_builder.specs.Building.{Building, signal}
+use Rattle.net_builder.specs.Written.{IsJoined, IsStored}
 use Rattle.elab_proc.specs.Refusals.{is_written, same_form}
 use Rattle.process_events.specs.Events.{Sensitivity, Once, Combinational, Clocked, Refused, sensitivity}
 use Rattle.process_latches.specs.declared.marks.Write.{Write}

@@ -4,7 +4,7 @@ use Rattle.std.specs.List.{Contains}
 use Rattle.std.proofs.lemmas.Bool.{cases_eq}
 use Rattle.std.proofs.lemmas.List.{take_more}
 use Rattle.std.proofs.lemmas.List.Elements.{Contains-append_cases}
-use Rattle.elab_expr.specs.Building.{Building}
+use Rattle.net_builder.specs.Building.{Building}
 use Rattle.elab_proc.specs.Refusals.{is_written}
 use Rattle.flat_runs.proofs.Lists.{contains_cases, contains_none}
 use Rattle.elab_items.specs.Desks.{AreRenewed, AreSound}

@@ -9,15 +9,15 @@ use Rattle.vlog_meaning.specs.declared.scope.Decl.{Decl}
 use Rattle.vlog_meaning.specs.declared.scope.Decl.TheVariants.{Signal, Constant}
 use Rattle.vlog_meaning.specs.Operators.{IsSized}
 use Rattle.vlog_meaning.specs.Scopes.{Names, decl_shape, names_of}
-use Rattle.elab_expr.specs.declared.error.ElabError.{ElabError}
-use Rattle.elab_expr.specs.declared.error.ElabError.TheVariants as elab
-use Rattle.elab_expr.specs.Building.{Building, IsSignal}
+use Rattle.net_builder.specs.declared.error.ElabError.{ElabError}
+use Rattle.net_builder.specs.declared.error.ElabError.TheVariants as elab
+use Rattle.net_builder.specs.Building.{Building, IsSignal}
 use Rattle.elab_proc.specs.declared.refusal.Refusal.{Refusal}
 use Rattle.elab_proc.specs.Refusals.{AreSized}
 use Rattle.flat_runs.specs.Adding.{HasOwnNets}
 use Rattle.flat_runs.specs.Parts.{StandsBelow}
 use Rattle.elab_proc.specs.Order.{IsFirst}
-use Rattle.elab_expr.specs.Refusals.{IsShort as IsShortOf}
+use Rattle.net_builder.specs.Refusals.{IsShort as IsShortOf}
 use Rattle.process_latches.specs.Refused.{process_refusals}
 use Rattle.process_cells.specs.Items.{Adds, process_cells, process_meaning, widths_in}
 use Rattle.process_cells.proofs.Laying.{processes_laid}

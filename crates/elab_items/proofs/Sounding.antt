@@ -8,7 +8,7 @@ use Rattle.netlist_core.specs.declared.bit.Bit.{Bit}
 use Rattle.vlog_meaning.specs.declared.scope.Decl.{Decl}
 use Rattle.vlog_meaning.specs.declared.scope.Decl.TheVariants as d
 use Rattle.flat_scopes.specs.declared.signal.Signal.{Signal}
-use Rattle.elab_expr.specs.Building.{AllBelow, Building, IsSignal, PortsBelow, empty, signal, with_declared}
+use Rattle.net_builder.specs.Building.{AllBelow, Building, IsSignal, PortsBelow, empty, signal, with_declared}
 use Rattle.flat_runs.specs.Meanings.{Meaning}
 use Rattle.flat_runs.specs.Designs.{Design}
 use Rattle.flat_runs.specs.Finishing.{Begins}

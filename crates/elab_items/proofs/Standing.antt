@@ -11,7 +11,7 @@ use Rattle.elab_proc.specs.declared.refusal.Refusal.{Refusal}
 use Rattle.elab_proc.specs.Order.{IsFirst}
 use Rattle.process_latches.specs.Refused.{process_refusals}
 use Rattle.elab_items.specs.declared.error.Reason.TheVariants.{Found, Start}
-use Rattle.elab_expr.specs.Building.{Building, AllBelow, IsSignal, empty, signal}
+use Rattle.net_builder.specs.Building.{Building, AllBelow, IsSignal, empty, signal}
 use Rattle.flat_runs.specs.Meanings.{Meaning}
 use Rattle.flat_runs.specs.Adding.{AddsItems}
 use Rattle.flat_runs.proofs.Signals.{below_more}

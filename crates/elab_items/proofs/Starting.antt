@@ -8,7 +8,7 @@ use Rattle.vlog_syntax.specs.declared.expr.Expr.{Expr}
 use Rattle.vlog_syntax.specs.declared.item.Process.{Process}
 use Rattle.vlog_meaning.specs.Scopes.{Names, Store, nothing}
 use Rattle.flat_scopes.specs.declared.signal.Signal.{Signal}
-use Rattle.elab_expr.specs.Building.{Building, empty, fresh_bits, signal, start_bits, with_declared, with_start}
+use Rattle.net_builder.specs.Building.{Building, empty, fresh_bits, signal, start_bits, with_declared, with_start}
 use Rattle.process_latches.specs.Refused.{process_refusals}
 use Rattle.process_cells.specs.Items.{Widths, widths_in}
 use Rattle.process_cells.specs.Starts.{SameButStarts, StartsWith, assigned_value, process_starts}

@@ -3,8 +3,8 @@ use Rattle.std.proofs.Common.{◌≡◌, ◌≤◌, Bool, List, length, Option, 
 use Rattle.elab_proc.specs.declared.refusal.Refusal.{Refusal}
 use Rattle.elab_proc.specs.Order.{IsFirst}
 use Rattle.mcy_base.specs.declared.kind.Kind.{Kind}
-use Rattle.elab_expr.specs.Building.{Building}
-use Rattle.elab_expr.specs.Refusals.{max_cells}
+use Rattle.net_builder.specs.Building.{Building}
+use Rattle.net_builder.specs.Refusals.{max_cells}
 use Rattle.flat_items.specs.Flattened.{Flat}
 use Rattle.flat_instances.specs.declared.item.FlatItem.{FlatItem}
 use Rattle.flat_clocks.specs.Clocks.{Clocks}

@@ -17,11 +17,11 @@ use Rattle.vlog_meaning.specs.Answers.{least}
 use Rattle.vlog_meaning.specs.Scopes.{Names}
 use Rattle.vlog_meaning.specs.Senses.{fault}
 use Rattle.vlog_effects.specs.Expressions.{width_of}
-use Rattle.elab_expr.specs.declared.error.ElabError.{ElabError}
-use Rattle.elab_expr.specs.declared.error.ElabError.TheVariants as elab
-use Rattle.elab_expr.specs.Building.{Building, HasSignals, signal}
-use Rattle.elab_expr.specs.Made.{Made, made_of}
-use Rattle.elab_expr.specs.Refusals.{max_cells}
+use Rattle.net_builder.specs.declared.error.ElabError.{ElabError}
+use Rattle.net_builder.specs.declared.error.ElabError.TheVariants as elab
+use Rattle.net_builder.specs.Building.{Building, HasSignals, signal}
+use Rattle.expr_plans.specs.Made.{Made, made_of}
+use Rattle.net_builder.specs.Refusals.{max_cells}
 use Rattle.elab_proc.specs.declared.refusal.Refusal.{Refusal}
 use Rattle.elab_proc.specs.declared.refusal.Refusal.TheVariants.{Wrong, TwoWriters}
 use Rattle.elab_proc.specs.Order.{IsFirst}

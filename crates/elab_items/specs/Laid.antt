@@ -3,7 +3,7 @@
 use Rattle.std.specs.Prelude.{List, [], ◌∷◌}
 use Rattle.vlog_syntax.specs.declared.expr.Expr.TheVariants as e
 use Rattle.vlog_syntax.specs.declared.left_side.LeftSide.TheVariants as l
-use Rattle.elab_expr.specs.Building.{Building}
+use Rattle.net_builder.specs.Building.{Building}
 use Rattle.flat_assigns.specs.Laid.{lay_assignment, lay_input, lay_open, lay_output}
 use Rattle.process_cells.specs.Laid.{lay_process}
 use Rattle.flat_instances.specs.Places.{Place}

@@ -2,7 +2,7 @@
 use Rattle.std.specs.Prelude.{ℕ, ◌+◌, ◌<◌, List, [], ◌∷◌}
 use Rattle.mcy_base.specs.declared.kind.Kind.TheVariants.{NetBits}
 use Rattle.flat_scopes.specs.declared.signal.Signal.{Signal}
-use Rattle.elab_expr.specs.Building.{Building, with_declared}
+use Rattle.net_builder.specs.Building.{Building, with_declared}
 use Rattle.elab_items.specs.declared.error.BuildError.{BuildError}
 use Rattle.elab_items.specs.declared.error.BuildError.TheVariants.{TooMany, Memory}
 

@@ -1,7 +1,7 @@
 -- Items with their use of the clock: an item is refused for what comes first in it by place.
 use Rattle.std.specs.Prelude.{◌≡◌, ◌⊎◌, ◌+◌, ◌≤◌, Bool, List, [], ◌∷◌, length, option_map, Option, None, Some}
-use Rattle.elab_expr.specs.Building.{Building}
-use Rattle.elab_expr.specs.Refusals.{max_cells}
+use Rattle.net_builder.specs.Building.{Building}
+use Rattle.net_builder.specs.Refusals.{max_cells}
 use Rattle.elab_proc.specs.declared.refusal.Refusal.{Refusal}
 use Rattle.elab_proc.specs.Order.{IsFirst}
 use Rattle.process_cells.specs.Items.{widths_in}

@@ -2,8 +2,8 @@
 use Rattle.std.specs.Prelude.{◌⊎◌, ◌↔◌, ℕ, ◌<◌, Bool, false, IsTrue, List, [], ◌∷◌, length, slice_index_or}
 use Rattle.netlist_core.specs.declared.bit.Bit.{Bit}
 use Rattle.netlist_core.specs.declared.bit.Bit.TheVariants.{Fixed, Net}
-use Rattle.elab_expr.specs.Building.{Building, signal}
-use Rattle.elab_expr.specs.Written.{IsJoined, IsStored}
+use Rattle.net_builder.specs.Building.{Building, signal}
+use Rattle.net_builder.specs.Written.{IsJoined, IsStored}
 use Rattle.elab_proc.specs.Refusals.{is_written}
 
 -- the bit is a net that is joined, or one of a register

@@ -2,7 +2,7 @@
 ghost use Rattle.std.specs.Prelude.{◌≡◌, ◌<◌, ◌≤◌, None, length, IfErr, OnOk};
 ghost use Rattle.vlog_meaning.specs.Answers.{least};
 ghost use Rattle.vlog_meaning.specs.Scopes.{names_of};
-ghost use Rattle.elab_expr.specs.Building.{HasSignals, signal};
+ghost use Rattle.net_builder.specs.Building.{HasSignals, signal};
 ghost use Rattle.flat_runs.specs.Meanings.{Assign};
 ghost use Rattle.flat_runs.specs.Parts.{whole};
 ghost use Rattle.flat_assigns.specs.Built.{IsBuilt, IsReady};
@@ -15,11 +15,11 @@ ghost use Rattle.elab_items.specs.Items.{Builds, Fails, FailsInput, Stands, inpu
 use crate::error::{BuildError, Reason};
 use crate::sides::scope_at;
 use crate::writers::has_writer;
-use elab_expr::{Builder, ElabError};
 use elab_proc::Refusal;
 use flat_assigns::{build_input, tie_input};
 use flat_items::Flat;
 use mcy_base::Span;
+use net_builder::{Builder, ElabError};
 use vlog_meaning::{Cause, Fault, Scope};
 use vlog_syntax::{Expr, Feature};
 

@@ -7,8 +7,8 @@ ghost use Rattle.elab_items.specs.Desks.{AreCopies, Serves};
 
 use crate::sides::scope_at;
 use crate::writers::writers;
-use elab_expr::Builder;
 use flat_items::Flat;
+use net_builder::Builder;
 use proc_muxes::Variables;
 use process_cells::nothing_waits;
 use std::alloc::{AllocError, Global};

@@ -13,9 +13,9 @@ use crate::notes::note;
 use crate::run::build_run;
 use crate::sides::{build_sides, scope_at};
 use crate::start::start_of;
-use elab_expr::Builder;
 use flat_instances::FlatItem;
 use flat_items::Flat;
+use net_builder::Builder;
 use vlog_syntax::{Expr, Identifier, LeftSide};
 
 /// Builds the initial value of a net of a scope.

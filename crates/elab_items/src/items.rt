@@ -9,10 +9,10 @@ ghost use Rattle.elab_items.specs.Timed.{BuildsAll, FailsSome};
 use crate::desk::Desk;
 use crate::error::BuildError;
 use crate::timed::build_timed;
-use elab_expr::Builder;
 use flat_clocks::Clocks;
 use flat_instances::FlatItem;
 use flat_items::Flat;
+use net_builder::Builder;
 
 /// Builds items, one after the other. The first one that is refused, or for which there is no room, is
 /// answered; the builder may then hold a part of it and is only to be dropped.

@@ -1,6 +1,6 @@
 //! Which signals have a writer, told again where an item is built.
 ghost use Rattle.std.specs.Prelude.{◌≡◌, ◌∷◌, [], Bool, List, length, OnOk};
-ghost use Rattle.elab_expr.specs.Building.{Building};
+ghost use Rattle.net_builder.specs.Building.{Building};
 ghost use Rattle.flat_items.specs.Views.{flat_of};
 ghost use Rattle.elab_items.specs.Assigned.{item_numbers};
 ghost use Rattle.elab_items.specs.Desks.{AreRenewed, AreSound, Holds};
@@ -9,9 +9,9 @@ ghost use Rattle.elab_items.specs.Items.{Builds, Stands};
 use crate::desk::Desk;
 use crate::numbers::numbers_of;
 use crate::writers::has_writer;
-use elab_expr::Builder;
 use flat_instances::FlatItem;
 use flat_items::Flat;
+use net_builder::Builder;
 use std::alloc::AllocError;
 
 /// Tells again whether a signal has a writer, unless that is known: what is written stays written.

@@ -1,7 +1,7 @@
 //! The numbers of the signals that items give values.
 ghost use Rattle.std.specs.Prelude.{◌≡◌, ◌<◌, ◌∷◌, [], map, length, IfOk, OnOk};
 ghost use Rattle.vlog_meaning.specs.Scopes.{names_of};
-ghost use Rattle.elab_expr.specs.Building.{Building};
+ghost use Rattle.net_builder.specs.Building.{Building};
 ghost use Rattle.flat_assigns.specs.Bits.{targets_of};
 ghost use Rattle.flat_items.specs.Views.{flat_of};
 ghost use Rattle.elab_items.specs.Assigned.{item_numbers, item_targets, process_writes};
@@ -10,10 +10,10 @@ ghost use Rattle.elab_items.specs.Items.{Stands};
 ghost use Rattle.elab_items.specs.Starts.{names_at};
 
 use crate::assigned::{assigned_bits, process_writes};
-use elab_expr::Builder;
 use flat_assigns::WrittenBit;
 use flat_instances::FlatItem;
 use flat_items::Flat;
+use net_builder::Builder;
 use process_latches::Write;
 use std::alloc::{AllocError, Global};
 use vlog_meaning::Scope;

@@ -1,7 +1,7 @@
 //! Processes of a flattened design.
 ghost use Rattle.std.specs.Prelude.{◌≡◌, Bool, List, IfErr, OnOk};
 ghost use Rattle.vlog_meaning.specs.Scopes.{names_of};
-ghost use Rattle.elab_expr.specs.Building.{HasSignals};
+ghost use Rattle.net_builder.specs.Building.{HasSignals};
 ghost use Rattle.elab_proc.specs.Refusals.{AreSized};
 ghost use Rattle.flat_assigns.specs.Built.{IsReady};
 ghost use Rattle.process_cells.specs.Ready.{HasPlaces};
@@ -13,8 +13,8 @@ ghost use Rattle.elab_items.specs.Writers.{TellsWriters};
 
 use crate::desk::Desk;
 use crate::error::{BuildError, Reason};
-use elab_expr::{Builder, ElabError};
 use flat_items::Flat;
+use net_builder::{Builder, ElabError};
 use proc_muxes::Variables;
 use process_cells::build_process;
 use vlog_meaning::Scope;

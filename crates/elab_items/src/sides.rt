@@ -1,17 +1,17 @@
 //! Assignments between scopes: an `assign`, an initial value of a net, and what an output is connected to.
 ghost use Rattle.std.specs.Prelude.{◌≡◌, IfSome, IfErr, OnOk};
 ghost use Rattle.vlog_meaning.specs.Scopes.{names_of};
-ghost use Rattle.elab_expr.specs.Building.{HasSignals};
+ghost use Rattle.net_builder.specs.Building.{HasSignals};
 ghost use Rattle.flat_assigns.specs.Built.{IsReady};
 ghost use Rattle.flat_items.specs.Views.{flat_of};
 ghost use Rattle.elab_items.specs.Starts.{names_at};
 ghost use Rattle.elab_items.specs.Items.{BuildsSides, FailsSides, Stands, assign_error, found_in};
 
 use crate::error::{BuildError, Reason};
-use elab_expr::Builder;
 use elab_proc::Refusal;
 use flat_assigns::{AssignError, build_assign};
 use flat_items::Flat;
+use net_builder::Builder;
 use vlog_meaning::Scope;
 use vlog_syntax::{Expr, LeftSide};
 

@@ -1,7 +1,7 @@
 //! The signals of a flattened design are declared in a builder, in the order of their numbers.
 ghost use Rattle.std.specs.Prelude.{◌≡◌, ◌+◌, ◌<◌, ◌≤◌, ℕ, length, OnOk, IfOk, IfErr};
 ghost use Rattle.std.specs.List.{Contains};
-ghost use Rattle.elab_expr.specs.Building.{empty, own_bits, with_declared};
+ghost use Rattle.net_builder.specs.Building.{empty, own_bits, with_declared};
 ghost use Rattle.flat_runs.specs.Designs.{Design};
 ghost use Rattle.flat_runs.specs.Finishing.{Begins};
 ghost use Rattle.flat_laws.specs.Sound.{AreSized};
@@ -9,9 +9,9 @@ ghost use Rattle.elab_items.specs.Designs.{widths_of};
 ghost use Rattle.elab_items.specs.Signals.{IsFull, bits_of, declared, max_bits};
 
 use crate::error::BuildError;
-use elab_expr::Builder;
 use flat_scopes::Signal;
 use mcy_base::Kind;
+use net_builder::Builder;
 use std::alloc::Global;
 
 /// The most bits of the signals of a design.

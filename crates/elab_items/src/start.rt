@@ -12,10 +12,10 @@ ghost use Rattle.elab_items.specs.Starts.{start_error, started, starts_from, wit
 
 use crate::error::BuildError;
 use crate::sides::scope_at;
-use elab_expr::Builder;
 use flat_instances::FlatItem;
 use flat_items::Flat;
 use mcy_base::Word;
+use net_builder::Builder;
 use process_cells::start_process;
 use vlog_meaning::{ConstError, Scope, constant_at};
 use vlog_syntax::{Expr, Process};

@@ -1,6 +1,6 @@
 //! Items with their use of the clock: an item is refused for what comes first in it by place.
 ghost use Rattle.std.specs.Prelude.{◌≡◌, Bool, List, Some, IfErr, OnOk};
-ghost use Rattle.elab_expr.specs.Building.{Building};
+ghost use Rattle.net_builder.specs.Building.{Building};
 ghost use Rattle.elab_proc.specs.declared.refusal.Refusal.{Refusal as Told};
 ghost use Rattle.elab_proc.specs.Order.{IsFirst};
 ghost use Rattle.flat_clocks.specs.Clocks.{Clocks as Clocking};
@@ -17,11 +17,11 @@ ghost use Rattle.elab_items.specs.declared.error.Reason.TheVariants.{Found};
 use crate::desk::Desk;
 use crate::error::{BuildError, Reason};
 use crate::item::build_item;
-use elab_expr::Builder;
 use elab_proc::{Refusal, earlier};
 use flat_clocks::Clocks;
 use flat_instances::FlatItem;
 use flat_items::Flat;
+use net_builder::Builder;
 
 /// The first by place of what is found in an item and of how it misuses the clock.
 fn first_found(own: Refusal, late: Option<Refusal>) -> Reason

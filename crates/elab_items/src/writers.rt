@@ -1,9 +1,9 @@
 //! Which signals have a writer already.
 ghost use Rattle.std.specs.Prelude.{◌≡◌, ◌↔◌, ◌<◌, false, IsTrue, IfOk, length, slice_index_or};
-ghost use Rattle.elab_expr.specs.Building.{signal};
+ghost use Rattle.net_builder.specs.Building.{signal};
 ghost use Rattle.elab_items.specs.Writers.{HasWriter, IsBitWritten, SomeBitWritten, TellsWriters};
 
-use elab_expr::Builder;
+use net_builder::Builder;
 use netlist_core::Bit;
 use std::alloc::AllocError;
 

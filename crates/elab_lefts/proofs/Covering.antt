@@ -13,9 +13,9 @@ use Rattle.vlog_syntax.specs.declared.left_side.LeftSide.TheVariants as l
 use Rattle.vlog_meaning.specs.Scopes.{Names}
 use Rattle.vlog_effects.specs.LeftSides.{Part, parts_of}
 use Rattle.vlog_effects.specs.Steps.{Steps}
-use Rattle.elab_expr.specs.declared.builder.Joint.{Joint}
-use Rattle.elab_expr.specs.Building.{Building, empty, signal}
-use Rattle.elab_expr.specs.Written.{IsJoined}
+use Rattle.net_builder.specs.declared.builder.Joint.{Joint}
+use Rattle.net_builder.specs.Building.{Building, empty, signal}
+use Rattle.net_builder.specs.Written.{IsJoined}
 use Rattle.elab_proc.specs.Refusals.{same_form}
 use Rattle.process_events.specs.Events.{Sensitivity, Once, Combinational, Clocked, Refused, sensitivity}
 use Rattle.process_latches.specs.Refused.{process_refusals}

@@ -5,7 +5,7 @@ use Rattle.std.specs.List.{flat_map}
 use Rattle.vlog_syntax.specs.declared.item.Process.{Process}
 use Rattle.vlog_meaning.specs.declared.scope.Decl.{Decl}
 use Rattle.vlog_meaning.specs.Scopes.{Names, names_of}
-use Rattle.elab_expr.specs.Building.{empty}
+use Rattle.net_builder.specs.Building.{empty}
 use Rattle.elab_proc.specs.Refusals.{AreSized}
 use Rattle.elab_proc.proofs.Lists.{flat_take}
 use Rattle.flat_laws.specs.Sound.{IsSound}

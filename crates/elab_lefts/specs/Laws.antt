@@ -1,6 +1,6 @@
 -- Left sides of designs that are built.
 use Rattle.std.specs.Prelude.{Bool, List}
-use Rattle.elab_expr.specs.Building.{Building, empty}
+use Rattle.net_builder.specs.Building.{Building, empty}
 use Rattle.process_cells.specs.Starts.{SameButStarts}
 use Rattle.flat_items.specs.Flattened.{Flat}
 use Rattle.flat_clocks.specs.Clocks.{Clocks}

@@ -4,7 +4,7 @@ use Rattle.std.specs.Prelude.{slice_index_or}
 use Rattle.std.proofs.lemmas.Option.{slice_get_within}
 use Rattle.netlist_core.specs.declared.bit.Bit.{Bit}
 use Rattle.netlist_core.specs.declared.bit.Bit.TheVariants.{Net}
-use Rattle.elab_expr.specs.Building.{Building, signal}
+use Rattle.net_builder.specs.Building.{Building, signal}
 use Rattle.flat_runs.specs.Meanings.{Meaning, Writes}
 use Rattle.flat_runs.specs.Adding.{IsWritten, AddsItem}
 use Rattle.process_cells.specs.Items.{Widths, AddsMeaning, widths_in}

@@ -11,7 +11,7 @@ use Rattle.vlog_syntax.specs.declared.stmt.Stmt.TheOpen as s
 use Rattle.vlog_syntax.specs.declared.stmt.Stmt.TheOpen.{Stmt-F}
 use Rattle.vlog_meaning.specs.Scopes.{Names}
 use Rattle.vlog_effects.specs.Steps.{steps_of}
-use Rattle.elab_expr.specs.Building.{Building}
+use Rattle.net_builder.specs.Building.{Building}
 use Rattle.elab_proc.specs.declared.refusal.Refusal.{Refusal}
 use Rattle.elab_proc.specs.Order.{IsFirst}
 use Rattle.elab_proc.proofs.Order.{first_once}

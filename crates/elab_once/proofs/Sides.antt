@@ -6,7 +6,7 @@ use Rattle.vlog_syntax.specs.declared.left_side.LeftSide.{LeftSide}
 use Rattle.vlog_meaning.specs.Answers.{least}
 use Rattle.vlog_meaning.specs.Scopes.{Names}
 use Rattle.vlog_effects.specs.LeftSides.{parts_of}
-use Rattle.elab_expr.specs.Building.{Building}
+use Rattle.net_builder.specs.Building.{Building}
 use Rattle.flat_runs.specs.Meanings.{Place}
 use Rattle.flat_assigns.specs.declared.refusal.Refusal.{Refusal}
 use Rattle.flat_assigns.specs.Assignments.{IsRefusal, assignment_faults, first_refusal}

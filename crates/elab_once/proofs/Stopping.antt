@@ -3,7 +3,7 @@ use Rattle.std.proofs.Common.{◌≡◌, inl, inr, ℕ, Bool, List, [], ◌∷�
 use Rattle.netlist_core.specs.declared.bit.Bit.{Bit}
 use Rattle.vlog_meaning.specs.declared.scope.Decl.{Decl}
 use Rattle.vlog_meaning.specs.declared.scope.Decl.TheVariants.{Signal, Constant}
-use Rattle.elab_expr.specs.Building.{Building, IsSignal}
+use Rattle.net_builder.specs.Building.{Building, IsSignal}
 use Rattle.flat_instances.specs.Places.{Place}
 use Rattle.flat_instances.specs.declared.item.FlatItem.{FlatItem}
 use Rattle.flat_items.specs.Flattened.{Flat}

@@ -3,8 +3,8 @@ use Rattle.std.proofs.Common.{◌≡◌, ◌⊎◌, inl, inr, ℕ, zero, suc, �
 use Rattle.std.proofs.lemmas.Option.{none-some}
 use Rattle.netlist_core.specs.declared.bit.Bit.{Bit}
 use Rattle.netlist_core.specs.declared.bit.Bit.TheVariants.{Fixed, Net}
-use Rattle.elab_expr.specs.Building.{Building, signal}
-use Rattle.elab_expr.specs.Written.{IsJoined, IsStored}
+use Rattle.net_builder.specs.Building.{Building, signal}
+use Rattle.net_builder.specs.Written.{IsJoined, IsStored}
 use Rattle.elab_proc.specs.Refusals.{is_written}
 use Rattle.elab_items.specs.Writers.{HasWriter, IsBitWritten, SomeBitWritten, TellsWriters}
 use Rattle.elab_once.specs.Alike.{AreAlike}

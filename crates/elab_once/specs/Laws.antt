@@ -1,7 +1,7 @@
 -- The items of a flattened design are refused in one way: the definitions of `elab_items` leave no choice but that of a limit.
 use Rattle.std.specs.Prelude.{◌≡◌, ℕ, Bool, List, Option}
 use Rattle.vlog_syntax.specs.declared.identifier.Identifier.{Identifier}
-use Rattle.elab_expr.specs.Building.{Building}
+use Rattle.net_builder.specs.Building.{Building}
 use Rattle.flat_runs.specs.Designs.{Design}
 use Rattle.flat_instances.specs.declared.item.FlatItem.{FlatItem}
 use Rattle.flat_items.specs.Flattened.{Flat}

@@ -20,7 +20,7 @@ use Rattle.vlog_meaning.specs.declared.shapes.Shape.{Shape}
 use Rattle.vlog_meaning.specs.Operators.{IsSized}
 use Rattle.vlog_meaning.specs.Scopes.{Names, decl_shape}
 use Rattle.vlog_meaning.specs.Senses.{sense, assigned, fault, or_else, own_zeros}
-use Rattle.elab_expr.specs.Made.{plan}
+use Rattle.expr_plans.specs.Made.{plan}
 use Rattle.vlog_effects.specs.Expressions.{width_of}
 use Rattle.vlog_effects.specs.LeftSides.{Part, parts_of}
 use Rattle.vlog_effects.specs.Steps.{Assigning, greatest, all_signed, Flaw, Const, Lacks, Turns, Steps, Done, Assign, Choose, Case, Refuse, Arms, Otherwise, Arm}

@@ -4,7 +4,7 @@ ghost use Rattle.vlog_meaning.specs.Answers.{least};
 ghost use Rattle.vlog_meaning.specs.Scopes.{names_of};
 ghost use Rattle.elab_proc.specs.Refusals.{wrong, own_faults, sides_faults};
 
-use elab_expr::unsupported_in;
+use expr_plans::unsupported_in;
 use vlog_meaning::{Fault, Scope, Shape, earlier, fault_in, shape_of, zero_in};
 use vlog_syntax::Expr;
 

@@ -11,7 +11,7 @@ use Rattle.flat_scopes.specs.declared.signal.Signal.{Signal}
 use Rattle.flat_scopes.specs.declared.signal.What.{What}
 use Rattle.flat_scopes.specs.declared.signal.What.TheVariants as w
 use Rattle.flat_scopes.specs.Owns.{Own}
-use Rattle.elab_expr.specs.Building.{Building}
+use Rattle.net_builder.specs.Building.{Building}
 use Rattle.flat_runs.specs.Meanings.{NoneTwice}
 use Rattle.flat_runs.proofs.Lists.{contains_cases, contains_first, contains_more, contains_none}
 use Rattle.flat_instances.specs.declared.item.FlatItem.{FlatItem}

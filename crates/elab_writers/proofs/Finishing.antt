@@ -9,7 +9,7 @@ use Rattle.netlist_core.specs.declared.port.Register.{Register}
 use Rattle.vlog_syntax.specs.declared.item.Direction.TheVariants.{Input, Output}
 use Rattle.vlog_effects.specs.Latches.{Target, targets}
 use Rattle.vlog_effects.specs.Steps.{Steps}
-use Rattle.elab_expr.specs.Building.{Building, empty, signal}
+use Rattle.net_builder.specs.Building.{Building, empty, signal}
 use Rattle.flat_scopes.specs.declared.signal.Signal.{Signal}
 use Rattle.flat_runs.specs.Meanings.{Meaning, stored_by}
 use Rattle.flat_runs.specs.Adding.{AddsItem}

@@ -10,7 +10,7 @@ use Rattle.vlog_effects.specs.LeftSides.{parts_of}
 use Rattle.vlog_meaning.specs.declared.fault.Fault.{Fault}
 use Rattle.vlog_meaning.specs.Answers.{least}
 use Rattle.vlog_meaning.specs.Scopes.{Names, Store}
-use Rattle.elab_expr.specs.Building.{Building}
+use Rattle.net_builder.specs.Building.{Building}
 use Rattle.flat_runs.specs.Meanings.{Assign, NamesOnce, Place}
 use Rattle.flat_runs.specs.Writing.{IsNew}
 use Rattle.flat_runs.proofs.Lists.{contains_cases, contains_first, contains_more, contains_none}

@@ -19,7 +19,7 @@ use Rattle.vlog_meaning.proofs.Blanks.{left_nil, right_nil}
 use Rattle.vlog_effects.specs.Latches.{targets}
 use Rattle.vlog_effects.specs.Steps.{Steps, steps_of}
 use Rattle.netlist_core.specs.declared.bit.Bit.{Bit}
-use Rattle.elab_expr.specs.Building.{Building, signal}
+use Rattle.net_builder.specs.Building.{Building, signal}
 use Rattle.elab_proc.specs.Refusals.{is_written, step_refusals}
 use Rattle.flat_runs.specs.Meanings.{Meaning, Combinational, Clocked, NoneTwice}
 use Rattle.flat_runs.specs.Writing.{IsNew}

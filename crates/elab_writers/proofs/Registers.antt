@@ -7,7 +7,7 @@ use Rattle.std.proofs.lemmas.List.Elements.{Contains-append_cases, Contains-appe
 use Rattle.netlist_core.specs.declared.bit.Bit.{Bit}
 use Rattle.netlist_core.specs.declared.port.Register.{Register}
 use Rattle.netlist_core.specs.Runs.{q_bits}
-use Rattle.elab_expr.specs.Building.{Building, signal}
+use Rattle.net_builder.specs.Building.{Building, signal}
 use Rattle.flat_runs.specs.Meanings.{Meaning, Assign, Combinational, Clocked, all_stored}
 use Rattle.flat_runs.specs.Adding.{AddsItems, HasOwnNets}
 use Rattle.flat_runs.specs.Designs.{Design}

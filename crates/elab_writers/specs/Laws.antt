@@ -2,7 +2,7 @@
 use Rattle.std.specs.Prelude.{ℕ, Bool, List, Option}
 use Rattle.vlog_syntax.specs.declared.identifier.Identifier.{Identifier}
 use Rattle.vlog_meaning.specs.Scopes.{Store}
-use Rattle.elab_expr.specs.Building.{Building, empty}
+use Rattle.net_builder.specs.Building.{Building, empty}
 use Rattle.flat_runs.specs.Meanings.{NoneTwice}
 use Rattle.flat_runs.specs.Adding.{AddsItems}
 use Rattle.flat_runs.specs.Designs.{Design}

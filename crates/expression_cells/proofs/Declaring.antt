@@ -8,9 +8,9 @@ use Rattle.netlist_core.specs.declared.bit.Bit.{Bit}
 use Rattle.vlog_meaning.specs.declared.scope.Decl.{Decl}
 use Rattle.vlog_meaning.specs.declared.scope.Decl.TheVariants.{Signal, Constant}
 use Rattle.vlog_meaning.specs.Scopes.{Names, with_name}
-use Rattle.elab_expr.specs.declared.builder.Joint.{Joint}
-use Rattle.elab_expr.specs.Building.{Building, own_bits, HasSignals, IsSignal, AllBelow, fresh_bits, signal, with_declared}
-use Rattle.elab_expr.proofs.Parts.{own_more, below_later, fresh_below, length_fresh}
+use Rattle.net_builder.specs.declared.builder.Joint.{Joint}
+use Rattle.net_builder.specs.Building.{Building, own_bits, HasSignals, IsSignal, AllBelow, fresh_bits, signal, with_declared}
+use Rattle.net_builder.proofs.Parts.{own_more, below_later, fresh_below, length_fresh}
 
 -- one more at the end
 kept_at : (xs : List (List Bit)) (y : List Bit) (k : ℕ) → k < length xs → slice_index_or (xs ++ y ∷ []) k [] ≡ slice_index_or xs k []

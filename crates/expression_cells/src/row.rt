@@ -1,12 +1,13 @@
 //! A row: the value that the cells of its expression compute.
 ghost use Rattle.std.specs.Prelude.{◌≤◌};
 ghost use Rattle.vlog_meaning.specs.Scopes.{names_of};
-ghost use Rattle.elab_expr.specs.Building.{HasSignals};
+ghost use Rattle.net_builder.specs.Building.{HasSignals};
 
 use crate::computing::{compute, number_at};
 use crate::signals::Signals;
-use elab_expr::{Builder, build_expr};
+use elab_expr::build_expr;
 use expression_rows::Stack;
+use net_builder::Builder;
 use netlist_core::BitList;
 use std::alloc::Global;
 use vlog_meaning::{Scope, shape};

@@ -1,12 +1,12 @@
 //! Signals that have values: a scope and a builder with the same signals, and the values of their nets.
 ghost use Rattle.std.specs.Prelude.{◌≡◌, ◌≤◌, ◌+◌, IfSome};
 ghost use Rattle.vlog_meaning.specs.Scopes.{names_of};
-ghost use Rattle.elab_expr.specs.Building.{HasSignals, own_bits};
+ghost use Rattle.net_builder.specs.Building.{HasSignals, own_bits};
 
 use crate::computing::push_word;
-use elab_expr::Builder;
 use expression_rows::{Given, read_given};
 use mcy_base::{Span, Word};
+use net_builder::Builder;
 use netlist_core::Bit;
 use std::alloc::Global;
 use vlog_meaning::{Decl, Scope};

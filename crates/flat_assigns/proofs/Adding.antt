@@ -8,9 +8,9 @@ use Rattle.netlist_core.specs.Runs.{Nets, values}
 use Rattle.vlog_syntax.specs.declared.expr.Expr.{Expr}
 use Rattle.vlog_meaning.specs.declared.shapes.Shape.{Shape}
 use Rattle.vlog_meaning.specs.Scopes.{Names, Store}
-use Rattle.elab_expr.specs.Building.{Building, AllBelow, Grows, signal}
+use Rattle.net_builder.specs.Building.{Building, AllBelow, Grows, signal}
 use Rattle.elab_expr.specs.Evaluates.{Builds, Evaluates}
-use Rattle.elab_expr.specs.Made.{Made}
+use Rattle.expr_plans.specs.Made.{Made}
 use Rattle.flat_runs.specs.Meanings.{Place, Assign}
 use Rattle.flat_runs.specs.Adding.{HasOwnNets, AddsItem}
 use Rattle.flat_runs.specs.Parts.{AreJoints, StandsBelow, places_from, whole}

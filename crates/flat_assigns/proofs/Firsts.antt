@@ -7,9 +7,9 @@ use Rattle.std.proofs.lemmas.List.Elements.{Contains-append_left, Contains-appen
 use Rattle.mcy_base.specs.declared.span.Span.{Span}
 use Rattle.netlist_core.specs.declared.bit.Bit.{Bit}
 use Rattle.netlist_core.specs.declared.bit.Bit.TheVariants.{Net}
-use Rattle.elab_expr.specs.Building.{Building, signal}
+use Rattle.net_builder.specs.Building.{Building, signal}
 use Rattle.flat_runs.specs.Meanings.{Place}
-use Rattle.elab_expr.specs.Written.{IsJoined, IsStored}
+use Rattle.net_builder.specs.Written.{IsJoined, IsStored}
 use Rattle.flat_runs.specs.Adding.{HasOwnNets, IsBit}
 use Rattle.flat_runs.proofs.Lists.{contains_first, contains_cases, contains_none}
 use Rattle.flat_runs.proofs.Signals.{are_apart, net_of}

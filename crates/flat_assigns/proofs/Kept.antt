@@ -19,7 +19,7 @@ use Rattle.vlog_meaning.proofs.Refusals.{pair_first}
 use Rattle.vlog_meaning.proofs.Whole.{whole_index, whole_indexed}
 use Rattle.vlog_meaning.proofs.Steps.{sense_name, sense_bit_select, sense_part_select, sense_indexed_part_select}
 use Rattle.vlog_effects.specs.LeftSides.{Part, Select, Whole, Bit, Range, Indexed, Vector, bits_from, part_vector, parts_of, select_base, select_width, vector_of}
-use Rattle.elab_expr.specs.Building.{Building, HasSignals}
+use Rattle.net_builder.specs.Building.{Building, HasSignals}
 use Rattle.elab_proc.specs.Refusals.{same_form}
 use Rattle.flat_assigns.specs.declared.slice.Slice.{Slice as Kept}
 use Rattle.flat_assigns.specs.Parts.{AllInside, AllWithin, HasIndex, IsPart, IsPartOf, IsScanned, kept_slices, listed, slice_of, slices_of, vector_in}

@@ -6,8 +6,8 @@ use Rattle.vlog_meaning.specs.declared.shapes.Shape.{Shape}
 use Rattle.vlog_meaning.specs.Scopes.{Names}
 use Rattle.vlog_effects.specs.Expressions.{width_of}
 use Rattle.vlog_effects.specs.LeftSides.{parts_of}
-use Rattle.elab_expr.specs.declared.builder.Joint.{Joint}
-use Rattle.elab_expr.specs.Building.{Building, signal}
+use Rattle.net_builder.specs.declared.builder.Joint.{Joint}
+use Rattle.net_builder.specs.Building.{Building, signal}
 use Rattle.elab_expr.specs.Laid.{lay, number_bits, showing}
 use Rattle.flat_runs.specs.Meanings.{Place}
 use Rattle.flat_runs.specs.Parts.{AreJoints, places_from, whole, with_joints}

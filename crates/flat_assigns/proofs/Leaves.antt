@@ -18,7 +18,7 @@ use Rattle.vlog_meaning.specs.Senses.{sense, own, constant_faults, constant_inte
 use Rattle.vlog_meaning.proofs.Blanks.{left_nil}
 use Rattle.vlog_meaning.proofs.Whole.{whole_part}
 use Rattle.vlog_effects.specs.LeftSides.{Part, Select, Whole, Bit, Range, Indexed, Vector, part_vector, parts_of, select_base, select_width, vector_of}
-use Rattle.elab_expr.specs.Building.{Building, HasSignals}
+use Rattle.net_builder.specs.Building.{Building, HasSignals}
 use Rattle.elab_proc.specs.Refusals.{form_step, same_form}
 use Rattle.flat_assigns.specs.declared.slice.Slice.{Slice as Kept}
 use Rattle.flat_assigns.specs.Parts.{AllWithin, HasIndex, IsIndexed, IsName, IsPart, IsPartOf, IsRange, IsScanned, listed}

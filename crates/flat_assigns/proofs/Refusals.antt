@@ -11,7 +11,7 @@ use Rattle.vlog_meaning.proofs.Blanks.{left_nil, right_nil, these_nil, those_nil
 use Rattle.vlog_meaning.proofs.Firsts.{least_none}
 use Rattle.vlog_meaning.proofs.Refusals.{kept, passed, pair_first}
 use Rattle.vlog_effects.specs.LeftSides.{parts_of}
-use Rattle.elab_expr.specs.Building.{Building}
+use Rattle.net_builder.specs.Building.{Building}
 use Rattle.flat_assigns.specs.declared.refusal.Refusal.{Refusal}
 use Rattle.flat_assigns.specs.declared.refusal.Writer.{Writer}
 use Rattle.flat_assigns.specs.Assignments.{IsRefusal, assignment_faults, first_refusal}

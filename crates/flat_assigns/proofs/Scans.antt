@@ -13,7 +13,7 @@ use Rattle.vlog_meaning.proofs.Refusals.{pair_first, least_empty}
 use Rattle.vlog_effects.specs.LeftSides.{Part, concatenated, parts_of}
 use Rattle.vlog_effects.proofs.Writing.{length-bits_from}
 use Rattle.elab_proc.proofs.Lists.{parts_take}
-use Rattle.elab_expr.specs.Building.{Building}
+use Rattle.net_builder.specs.Building.{Building}
 use Rattle.flat_assigns.specs.declared.slice.Slice.{Slice as Kept}
 use Rattle.flat_assigns.specs.Built.{IsJoinedTo}
 use Rattle.flat_assigns.specs.Parts.{IsInside, AllInside, IsScanned, bit_in, first_bits, slice_of, slices_of, vector_in}

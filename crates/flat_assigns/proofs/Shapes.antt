@@ -7,7 +7,7 @@ use Rattle.vlog_meaning.specs.Answers.{least}
 use Rattle.vlog_meaning.specs.Scopes.{Names}
 use Rattle.vlog_meaning.specs.Senses.{sense, fault, or_else, IsWhole}
 use Rattle.vlog_meaning.specs.declared.fault.Cause.TheVariants.{DivideByZero}
-use Rattle.elab_expr.specs.Made.{plan}
+use Rattle.expr_plans.specs.Made.{plan}
 use Rattle.vlog_meaning.proofs.Blanks.{left_nil, these_nil}
 use Rattle.vlog_meaning.proofs.Firsts.{least_none}
 use Rattle.elab_expr.specs.Expressions.{refusals}

@@ -2,7 +2,7 @@
 use Rattle.std.proofs.Common.{◌≡◌, ℕ, suc, ◌+◌, ◌<◌, List, [], ◌∷◌, map, length, drop, get_or, Option, Some, None, sym, ◌∙◌, subst, arith, drop-cons}
 use Rattle.std.proofs.lemmas.List.{drop-drop, length-map}
 use Rattle.netlist_core.specs.declared.bit.Bit.{Bit}
-use Rattle.elab_expr.specs.Building.{Building, signal, with_joint}
+use Rattle.net_builder.specs.Building.{Building, signal, with_joint}
 use Rattle.flat_runs.specs.Meanings.{Place}
 use Rattle.flat_runs.specs.Adding.{IsBit}
 use Rattle.vlog_effects.proofs.Writing.{length-bits_from}

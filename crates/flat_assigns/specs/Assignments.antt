@@ -9,7 +9,7 @@ use Rattle.vlog_meaning.specs.declared.fault.Fault.{Fault}
 use Rattle.vlog_meaning.specs.Answers.{least}
 use Rattle.vlog_meaning.specs.Scopes.{Names}
 use Rattle.vlog_meaning.specs.Senses.{sense, or_else}
-use Rattle.elab_expr.specs.Building.{Building}
+use Rattle.net_builder.specs.Building.{Building}
 use Rattle.elab_proc.specs.Refusals.{wrong, divisions}
 use Rattle.flat_runs.specs.Meanings.{Meaning, Assign}
 use Rattle.flat_assigns.specs.declared.refusal.Refusal.{Refusal}

@@ -3,10 +3,10 @@ use Rattle.std.specs.Prelude.{◌≡◌, ◌<◌, ℕ, List, ◌++◌, map, Opti
 use Rattle.mcy_base.specs.declared.kind.Kind.TheVariants.{Cells}
 use Rattle.netlist_core.specs.declared.bit.Bit.{Bit}
 use Rattle.netlist_core.specs.declared.cell.Cell.{Cell}
-use Rattle.elab_expr.specs.declared.builder.Joint.{Joint}
-use Rattle.elab_expr.specs.Building.{Building}
-use Rattle.elab_expr.specs.Made.{Made, made_of}
-use Rattle.elab_expr.specs.Refusals.{max_cells}
+use Rattle.net_builder.specs.declared.builder.Joint.{Joint}
+use Rattle.net_builder.specs.Building.{Building}
+use Rattle.expr_plans.specs.Made.{Made, made_of}
+use Rattle.net_builder.specs.Refusals.{max_cells}
 use Rattle.flat_runs.specs.Meanings.{Place, Meaning}
 use Rattle.flat_runs.specs.Adding.{HasOwnNets, AddsItem}
 use Rattle.flat_runs.specs.Parts.{StandsBelow, AreJoints, with_joints}

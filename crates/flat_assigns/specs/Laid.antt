@@ -12,8 +12,8 @@ use Rattle.vlog_syntax.specs.declared.left_side.LeftSide.{LeftSide}
 use Rattle.vlog_meaning.specs.Scopes.{Names}
 use Rattle.vlog_effects.specs.Expressions.{width_of}
 use Rattle.vlog_effects.specs.LeftSides.{Part, parts_of}
-use Rattle.elab_expr.specs.declared.builder.Joint.{Joint}
-use Rattle.elab_expr.specs.Building.{Building, signal}
+use Rattle.net_builder.specs.declared.builder.Joint.{Joint}
+use Rattle.net_builder.specs.Building.{Building, signal}
 use Rattle.elab_expr.specs.Laid.{Laid, lay, number_bits, showing}
 use Rattle.elab_proc.specs.Refusals.{same_form}
 use Rattle.flat_runs.specs.Meanings.{Place}

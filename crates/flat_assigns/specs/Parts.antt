@@ -10,7 +10,7 @@ use Rattle.vlog_meaning.specs.Answers.{least}
 use Rattle.vlog_meaning.specs.Integers.{bound_integer}
 use Rattle.vlog_meaning.specs.Scopes.{Names}
 use Rattle.vlog_effects.specs.LeftSides.{Part, Select, Whole, Bit, Range, Indexed, Vector, bit_at, bits_from, parts_of}
-use Rattle.elab_expr.specs.Building.{Building, HasSignals, signal}
+use Rattle.net_builder.specs.Building.{Building, HasSignals, signal}
 use Rattle.elab_proc.specs.Refusals.{same_form}
 use Rattle.flat_assigns.specs.declared.slice.Slice.{Slice as Kept}
 use Rattle.flat_assigns.specs.declared.refusal.Writer.{Writer}

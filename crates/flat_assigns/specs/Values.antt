@@ -7,7 +7,7 @@ use Rattle.vlog_meaning.specs.declared.shapes.Shape.{Shape}
 use Rattle.vlog_meaning.specs.Scopes.{Names, Store}
 use Rattle.vlog_meaning.specs.Senses.{sense, assigned}
 use Rattle.elab_expr.specs.Expressions.{refusals}
-use Rattle.elab_expr.specs.Made.{Made, made}
+use Rattle.expr_plans.specs.Made.{Made, made}
 
 -- The right side is evaluated at the greater of both widths, by its own sign (5.4.1 and 5.5).
 abbrev pub right_shape : Names → Expr → ℕ → Shape

@@ -2,7 +2,7 @@
 use Rattle.std.specs.Prelude.{◌≡◌, ◌⊎◌, ℕ, Bool, false, IsTrue, List, [], ◌∷◌, ◌++◌, Option, Some, None, slice_index_or}
 use Rattle.std.specs.List.{Contains}
 use Rattle.mcy_base.specs.declared.span.Span.{Span}
-use Rattle.elab_expr.specs.Building.{Building}
+use Rattle.net_builder.specs.Building.{Building}
 use Rattle.flat_runs.specs.Meanings.{Place}
 use Rattle.flat_runs.specs.Adding.{IsWritten}
 use Rattle.flat_assigns.specs.Sides.{Slice}

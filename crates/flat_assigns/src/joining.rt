@@ -1,7 +1,7 @@
 //! The bits of a port or of a left side are joined to bits: parts from the last one on, each from its lowest bit on.
 ghost use Rattle.std.specs.Prelude.{◌≡◌, ◌+◌, ◌<◌, ◌≤◌, ℕ, List, [], ◌∷◌, drop, length, OnOk};
 ghost use Rattle.netlist_core.specs.declared.bit.Bit.{Bit as Wire};
-ghost use Rattle.elab_expr.specs.Building.{signal, with_joint};
+ghost use Rattle.net_builder.specs.Building.{signal, with_joint};
 ghost use Rattle.flat_runs.specs.Adding.{HasOwnNets, IsBit};
 ghost use Rattle.flat_runs.specs.Parts.{places_from};
 ghost use Rattle.flat_assigns.specs.Built.{IsJoinedTo};
@@ -9,7 +9,7 @@ ghost use Rattle.flat_assigns.specs.Parts.{AllInside, IsInside, bit_in, slice_of
 ghost use Rattle.flat_assigns.specs.Sides.{all_places, placed, slice_places};
 
 use crate::slice::Slice;
-use elab_expr::Builder;
+use net_builder::Builder;
 use netlist_core::Bit;
 use std::alloc::AllocError;
 

@@ -1,14 +1,14 @@
 //! Why an assignment is not built, and which of several reasons is answered.
 ghost use Rattle.std.specs.Prelude.{◌≡◌, Option, ℕ};
 ghost use Rattle.flat_assigns.specs.declared.refusal.AssignError.TheVariants.{Memory};
-ghost use Rattle.elab_expr.specs.Refusals.{IsShort};
+ghost use Rattle.net_builder.specs.Refusals.{IsShort};
 ghost use Rattle.flat_assigns.specs.Assignments.{comes_before, first_refusal};
 ghost use Rattle.flat_assigns.specs.Built.{IsLimit};
 ghost use Rattle.flat_assigns.specs.Parts.{IsWriter};
 ghost use Rattle.flat_assigns.specs.Writers.{Target};
 
-use elab_expr::ElabError;
 use mcy_base::{Kind, Span};
+use net_builder::ElabError;
 use std::alloc::AllocError;
 use vlog_meaning::Fault;
 

@@ -9,8 +9,8 @@ ghost use Rattle.flat_assigns.specs.Parts.{IsName, IsIndexed, IsRange, IsScanned
 ghost use Rattle.flat_assigns.specs.Sides.{constant_target};
 
 use crate::slice::Slice;
-use elab_expr::{bound_of, index_of};
 use elab_proc::same_form;
+use expr_plans::{bound_of, index_of};
 use std::alloc::{AllocError, Global};
 use vlog_meaning::{Cause, Decl, Fault, Scope, constant_fault, earlier, fault_in, shape_of};
 use vlog_syntax::{Expr, Identifier, LeftSide};

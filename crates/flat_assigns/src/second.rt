@@ -3,7 +3,7 @@
 //! `seen` has the nets of the bits that the same left side writes before. Each signal has nets of its own, so a bit is
 //! written twice just where its net is met twice.
 ghost use Rattle.std.specs.Prelude.{◌≡◌, ◌<◌, [], ◌∷◌, Option, false, length, IfOk, List, slice_index_or};
-ghost use Rattle.elab_expr.specs.Building.{signal};
+ghost use Rattle.net_builder.specs.Building.{signal};
 ghost use Rattle.flat_runs.specs.Adding.{HasOwnNets};
 ghost use Rattle.flat_runs.specs.Meanings.{Place};
 ghost use Rattle.flat_assigns.specs.Parts.{AllInside, IsInside, IsWriter, bit_in, first_bits, slices_of};
@@ -12,7 +12,7 @@ ghost use Rattle.flat_assigns.specs.Writers.{Target, IsFirstWritten, targets};
 
 use crate::refusal::Writer;
 use crate::slice::Slice;
-use elab_expr::Builder;
+use net_builder::Builder;
 use netlist_core::Bit;
 use std::alloc::AllocError;
 use std::collections::BTreeSet;

@@ -6,7 +6,7 @@ ghost use Rattle.std.specs.Prelude.{◌≡◌, pos};
 ghost use Rattle.vlog_meaning.specs.Integers.{bound_integer};
 ghost use Rattle.vlog_meaning.specs.Scopes.{names_of};
 ghost use Rattle.vlog_effects.specs.LeftSides.{bit_at, vector_of};
-ghost use Rattle.elab_expr.specs.Building.{Building, HasSignals};
+ghost use Rattle.net_builder.specs.Building.{Building, HasSignals};
 ghost use Rattle.flat_assigns.specs.Parts.{AllWithin, IsPartOf, bit_in, vector_in};
 
 use mcy_base::Span;

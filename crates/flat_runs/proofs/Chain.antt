@@ -5,7 +5,7 @@ use Rattle.netlist_core.specs.declared.bit.Bit.{Bit}
 use Rattle.netlist_core.specs.declared.port.Register.{Register}
 use Rattle.netlist_core.specs.Runs.{Nets}
 use Rattle.vlog_meaning.specs.Scopes.{Store}
-use Rattle.elab_expr.specs.Building.{Building, RunsIn, signal, store}
+use Rattle.net_builder.specs.Building.{Building, RunsIn, signal, store}
 use Rattle.flat_runs.specs.Meanings.{Meaning, AllSay, Taken, leaves, all_leave, SomeWrites}
 use Rattle.flat_runs.specs.Adding.{IsWritten, Extended, Take, AddsItem, AddsItems}
 use Rattle.flat_runs.specs.Laws.{ItemFollows}

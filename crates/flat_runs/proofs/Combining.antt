@@ -9,8 +9,8 @@ use Rattle.std.proofs.Math.Nat.{pow-suc}
 use Rattle.netlist_core.specs.declared.bit.Bit.{Bit}
 use Rattle.netlist_core.specs.Runs.{Nets}
 use Rattle.vlog_meaning.specs.Scopes.{Store}
-use Rattle.elab_expr.specs.declared.builder.Joint.{Joint}
-use Rattle.elab_expr.specs.Building.{Building, signal, store}
+use Rattle.net_builder.specs.declared.builder.Joint.{Joint}
+use Rattle.net_builder.specs.Building.{Building, signal, store}
 use Rattle.flat_runs.specs.Meanings.{Place, Meaning, Assign, LeftIs, AllSay, SomeWrites, NoneTwice, NamesOnce}
 use Rattle.flat_runs.specs.Adding.{HasOwnNets, IsBit, Extends, AddsItem}
 use Rattle.flat_runs.specs.Parts.{with_joints, AreJoints, places_from, whole, AllMean, AllJoin}

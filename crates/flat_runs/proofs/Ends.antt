@@ -13,12 +13,12 @@ use Rattle.netlist_core.specs.declared.port.Register.{Register}
 use Rattle.netlist_core.specs.Drivers.{times, times_at}
 use Rattle.netlist_core.specs.Numbers.{digit}
 use Rattle.netlist_core.specs.Runs.{bits_at}
-use Rattle.elab_expr.specs.declared.steps.Step.TheVariants.{Stays, Constant, On}
-use Rattle.elab_expr.specs.Building.{Building, signal}
-use Rattle.elab_expr.specs.Written.{IsJoined, joint_of, has_net, is_stored}
-use Rattle.elab_expr.specs.Finished.{some_has, later, start_among, start_of, stepped, step_of, stays, fixed, goes, led_register, led_port}
-use Rattle.elab_expr.specs.Finished.{LeadsTo as Leads}
-use Rattle.elab_expr.proofs.Writing.{joint_found, joint_none, stored_there, stored_told, has_net_there, has_net_told}
+use Rattle.net_builder.specs.declared.steps.Step.TheVariants.{Stays, Constant, On}
+use Rattle.net_builder.specs.Building.{Building, signal}
+use Rattle.net_builder.specs.Written.{IsJoined, joint_of, has_net, is_stored}
+use Rattle.net_builder.specs.Finished.{some_has, later, start_among, start_of, stepped, step_of, stays, fixed, goes, led_register, led_port}
+use Rattle.net_builder.specs.Finished.{LeadsTo as Leads}
+use Rattle.net_builder.proofs.Writing.{joint_found, joint_none, stored_there, stored_told, has_net_there, has_net_told}
 use Rattle.flat_runs.specs.Designs.{Design}
 use Rattle.flat_runs.specs.Adding.{IsBit, IsWritten}
 use Rattle.flat_runs.specs.Finishing.{LeadsTo, no_signal, of_input, of_register, unwritten, to_constant, to_net, all_led, IsFirstWith, AreRegisters, IsPut, ArePut, IsWhole}

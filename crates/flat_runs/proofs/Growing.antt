@@ -14,8 +14,8 @@ use Rattle.netlist_core.specs.Drivers.{times, times_at, y_bits}
 use Rattle.netlist_core.specs.Checked.{AllNets, AllWide}
 use Rattle.netlist_core.specs.Settled.{laid, number_at}
 use Rattle.netlist_core.proofs.Settles.{laid-other, laid-number}
-use Rattle.elab_expr.specs.declared.builder.Joint.{Joint}
-use Rattle.elab_expr.specs.Building.{Building, AllBelow, PortsBelow, AreAdded, empty, fresh_bits, with_declared}
+use Rattle.net_builder.specs.declared.builder.Joint.{Joint}
+use Rattle.net_builder.specs.Building.{Building, AllBelow, PortsBelow, AreAdded, empty, fresh_bits, with_declared}
 use Rattle.flat_runs.specs.Adding.{AgreeBelow, Extended, Extends}
 use Rattle.flat_runs.specs.Parts.{AreCellsBelow, AreJointsBelow, AreRegistersBelow, AreFormed, owners, StandsBelow}
 use Rattle.flat_runs.specs.Laws.{CellsExtend, DeclaredStandBelow, StartsStandBelow, RegistersStandBelow}

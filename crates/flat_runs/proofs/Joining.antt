@@ -9,10 +9,10 @@ use Rattle.netlist_core.specs.declared.port.Register.{Register}
 use Rattle.netlist_core.specs.Numbers.{digit, number}
 use Rattle.netlist_core.specs.Runs.{Nets, bit_value, values}
 use Rattle.vlog_meaning.specs.Scopes.{Store}
-use Rattle.elab_expr.specs.declared.builder.Joint.{Joint}
-use Rattle.elab_expr.specs.Building.{Building, RunsIn, AllBelow, PortsBelow, signal, store}
+use Rattle.net_builder.specs.declared.builder.Joint.{Joint}
+use Rattle.net_builder.specs.Building.{Building, RunsIn, AllBelow, PortsBelow, signal, store}
 use Rattle.flat_runs.specs.Meanings.{Place, LeftIs, NamesOnce}
-use Rattle.elab_expr.specs.Written.{IsJoined, IsStored}
+use Rattle.net_builder.specs.Written.{IsJoined, IsStored}
 use Rattle.flat_runs.specs.Adding.{HasOwnNets, IsBit, IsWritten, Extended, Extends}
 use Rattle.flat_runs.specs.Parts.{with_joints, AreJoints, AreJointsBelow, StandsBelow, whole, AllJoin}
 use Rattle.flat_runs.specs.Laws.{AssignsAdd, JointsStandBelow, VariablesStandBelow}

@@ -13,8 +13,8 @@ use Rattle.netlist_core.specs.Runs.{Nets, bit_value, values, plain, Computes, Ho
 use Rattle.netlist_core.specs.Settled.{laid_all, all_zero}
 use Rattle.netlist_core.proofs.Settles.{laid_all-numbers}
 use Rattle.vlog_meaning.specs.Scopes.{Store}
-use Rattle.elab_expr.specs.declared.builder.Joint.{Joint}
-use Rattle.elab_expr.specs.Building.{Building, RunsIn, signal, store}
+use Rattle.net_builder.specs.declared.builder.Joint.{Joint}
+use Rattle.net_builder.specs.Building.{Building, RunsIn, signal, store}
 use Rattle.flat_runs.specs.Meanings.{AllSay, all_leave, SomeWrites}
 use Rattle.flat_runs.specs.Designs.{Design, IsFree, Cycle, outputs_of, next_of, IsSourceRun, source_outputs, source_states}
 use Rattle.flat_runs.specs.Adding.{HasOwnNets, IsBit, IsWritten, AgreeBelow, Extended, Take, AddsItems}

@@ -7,8 +7,8 @@ use Rattle.netlist_core.specs.declared.bit.Bit.TheVariants.{Fixed, Net}
 use Rattle.netlist_core.specs.declared.cell.CellKind.TheVariants.{Add}
 use Rattle.netlist_core.specs.declared.port.Register.{Register}
 use Rattle.vlog_meaning.specs.Scopes.{Store}
-use Rattle.elab_expr.specs.declared.builder.Joint.{Joint}
-use Rattle.elab_expr.specs.Building.{Building, Grows, empty, with_declared, with_cell, signal}
+use Rattle.net_builder.specs.declared.builder.Joint.{Joint}
+use Rattle.net_builder.specs.Building.{Building, Grows, empty, with_declared, with_cell, signal}
 use Rattle.flat_runs.specs.Meanings.{Assign, Clocked}
 use Rattle.flat_runs.specs.Adding.{HasOwnNets, IsBit, Means, Extends, AddsItem}
 use Rattle.flat_runs.specs.Parts.{with_joints, with_registers, StandsBelow, places_from}

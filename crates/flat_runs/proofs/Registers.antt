@@ -6,7 +6,7 @@ use Rattle.netlist_core.specs.declared.bit.Bit.{Bit}
 use Rattle.netlist_core.specs.declared.port.Register.{Register}
 use Rattle.netlist_core.specs.Numbers.{number}
 use Rattle.netlist_core.specs.Runs.{Nets, values, plain, q_bits, taken}
-use Rattle.elab_expr.specs.Building.{Building, signal}
+use Rattle.net_builder.specs.Building.{Building, signal}
 use Rattle.flat_runs.specs.Meanings.{Taken, taken_by}
 use Rattle.flat_runs.specs.Designs.{Design}
 use Rattle.flat_runs.specs.Adding.{HasOwnNets, Take}

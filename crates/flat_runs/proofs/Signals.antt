@@ -12,8 +12,8 @@ use Rattle.netlist_core.specs.Drivers.{times, times_at}
 use Rattle.netlist_core.specs.Checked.{AllNets, AllPortsNets}
 use Rattle.netlist_core.specs.Solutions.{FitPorts}
 use Rattle.vlog_meaning.specs.Scopes.{Store}
-use Rattle.elab_expr.specs.Building.{Building, AllBelow, PortsBelow, fresh_bits, empty, signal, store}
-use Rattle.elab_expr.proofs.Bits.{number-fits}
+use Rattle.net_builder.specs.Building.{Building, AllBelow, PortsBelow, fresh_bits, empty, signal, store}
+use Rattle.netlist_core.proofs.Settles.{length-values, number-fits}
 use Rattle.flat_runs.specs.Adding.{HasOwnNets, IsBit}
 use Rattle.flat_runs.specs.Laws.{DeclaredOwnNets, OwnNetsStay}
 use Rattle.flat_runs.proofs.Lists.{contains_first, contains_more}
@@ -130,7 +130,7 @@ store_same signals a b h =
     λ p k. each k p
 
 pub store_fits : (b : Building) (nets : Nets) (k w : ℕ) → length (signal b k) ≡ w → store b nets k < 2 ^ w
-store_fits b nets k w long = subst (λ (n : ℕ). store b nets k < 2 ^ n) long (number-fits nets (signal b k))
+store_fits b nets k w long = subst (λ (n : ℕ). store b nets k < 2 ^ n) (length-values nets (signal b k) ∙ long) (number-fits (values nets (signal b k)))
 
 -- the numbers at the bits of signals are their values
 pub kept_numbers : (signals : List (List Bit)) (a b : Nets) (ks : List ℕ) → ((k : ℕ) → Contains ks k → values a (bits_in signals k) ≡ values b (bits_in signals k)) → port_numbers b (map (bits_in signals) ks) ≡ map (store_in signals a) ks

@@ -9,7 +9,7 @@ use Rattle.netlist_core.specs.declared.port.Register.{Register}
 use Rattle.netlist_core.specs.Numbers.{number}
 use Rattle.netlist_core.specs.Runs.{Nets, values, q_bits}
 use Rattle.vlog_meaning.specs.Scopes.{Store}
-use Rattle.elab_expr.specs.Building.{Building, RunsIn, signal, store}
+use Rattle.net_builder.specs.Building.{Building, RunsIn, signal, store}
 use Rattle.flat_runs.specs.Adding.{HasOwnNets, IsBit, IsWritten, Extended, Extends, Take}
 use Rattle.flat_runs.specs.Parts.{with_registers, AllMean, AreStored}
 use Rattle.flat_runs.specs.Laws.{ClockedAdd}

@@ -10,9 +10,9 @@ use Rattle.netlist_core.specs.declared.bit.Bit.TheVariants.{Fixed, Net}
 use Rattle.netlist_core.specs.declared.port.Register.{Register}
 use Rattle.netlist_core.specs.Runs.{q_bits}
 use Rattle.netlist_core.specs.Drivers.{times, times_at}
-use Rattle.elab_expr.specs.declared.builder.Joint.{Joint}
-use Rattle.elab_expr.specs.Building.{Building, signal}
-use Rattle.elab_expr.specs.Written.{IsJoined, IsStored}
+use Rattle.net_builder.specs.declared.builder.Joint.{Joint}
+use Rattle.net_builder.specs.Building.{Building, signal}
+use Rattle.net_builder.specs.Written.{IsJoined, IsStored}
 use Rattle.flat_runs.specs.Meanings.{Meaning, Assign, Combinational, Clocked, Writes, WritesOnce, Joins, NoneTwice, stored_by, all_stored}
 use Rattle.flat_runs.specs.Adding.{HasOwnNets, IsBit, AddsItem}
 use Rattle.flat_runs.specs.Writing.{HasOneWriter, IsNew}

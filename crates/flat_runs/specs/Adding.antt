@@ -9,9 +9,9 @@ use Rattle.netlist_core.specs.Runs.{Nets, values, q_bits}
 use Rattle.netlist_core.specs.Drivers.{times_at}
 use Rattle.netlist_core.specs.Checked.{AllPortsNets}
 use Rattle.vlog_meaning.specs.Scopes.{Store}
-use Rattle.elab_expr.specs.declared.builder.Joint.{Joint}
-use Rattle.elab_expr.specs.Building.{Building, RunsIn, PortsBelow, signal, store}
-use Rattle.elab_expr.specs.Written.{IsJoined, IsStored}
+use Rattle.net_builder.specs.declared.builder.Joint.{Joint}
+use Rattle.net_builder.specs.Building.{Building, RunsIn, PortsBelow, signal, store}
+use Rattle.net_builder.specs.Written.{IsJoined, IsStored}
 use Rattle.flat_runs.specs.Meanings.{Meaning, Says, Taken, leaves, Writes, WritesOnce, Joins, stored_by}
 
 -- Signals have nets of their own: each bit is a net that stands there, and each net is one bit of one signal.

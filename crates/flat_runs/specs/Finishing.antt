@@ -10,9 +10,9 @@ use Rattle.netlist_core.specs.declared.port.Register.{Register}
 use Rattle.netlist_core.specs.declared.raw.RawNetlist.{RawNetlist}
 use Rattle.netlist_core.specs.Numbers.{digit}
 use Rattle.netlist_core.specs.Runs.{bits_at}
-use Rattle.elab_expr.specs.Building.{Building, signal, start_bits}
+use Rattle.net_builder.specs.Building.{Building, signal, start_bits}
 use Rattle.flat_runs.specs.Designs.{Design}
-use Rattle.elab_expr.specs.Written.{IsJoined, IsStored}
+use Rattle.net_builder.specs.Written.{IsJoined, IsStored}
 use Rattle.flat_runs.specs.Adding.{IsBit, IsWritten, HasOwnNets}
 
 -- A builder with the design's signals alone.

@@ -7,9 +7,9 @@ use Rattle.netlist_core.specs.declared.port.Register.{Register}
 use Rattle.netlist_core.specs.declared.raw.RawNetlist.{RawNetlist}
 use Rattle.netlist_core.specs.Runs.{Nets, plain, IsRun, outputs_by, port_numbers, q_bits}
 use Rattle.vlog_meaning.specs.Scopes.{Store}
-use Rattle.elab_expr.specs.declared.builder.Joint.{Joint}
-use Rattle.elab_expr.specs.Building.{Building, Grows, AllBelow, PortsBelow, empty, signal, with_declared, with_start}
-use Rattle.elab_expr.specs.Finished.{Finished}
+use Rattle.net_builder.specs.declared.builder.Joint.{Joint}
+use Rattle.net_builder.specs.Building.{Building, Grows, AllBelow, PortsBelow, empty, signal, with_declared, with_start}
+use Rattle.net_builder.specs.Finished.{Finished}
 use Rattle.flat_runs.specs.Meanings.{Place, Meaning, Assign, Combinational, Clocked, all_stored}
 use Rattle.flat_runs.specs.Designs.{Design, IsSourceRun, source_outputs, source_states}
 use Rattle.flat_runs.specs.Adding.{HasOwnNets, Extends, Means, AddsItem, AddsItems}

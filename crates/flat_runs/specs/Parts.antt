@@ -9,8 +9,8 @@ use Rattle.netlist_core.specs.Shapes.{HasShape}
 use Rattle.netlist_core.specs.Drivers.{times_at, y_bits}
 use Rattle.netlist_core.specs.Checked.{AllWide, AllNets}
 use Rattle.vlog_meaning.specs.Scopes.{Store}
-use Rattle.elab_expr.specs.declared.builder.Joint.{Joint}
-use Rattle.elab_expr.specs.Building.{Building, AllBelow, PortsBelow, signal}
+use Rattle.net_builder.specs.declared.builder.Joint.{Joint}
+use Rattle.net_builder.specs.Building.{Building, AllBelow, PortsBelow, signal}
 use Rattle.flat_runs.specs.Meanings.{Place, SameBut}
 use Rattle.flat_runs.specs.Adding.{IsBit, Means}
 

@@ -5,8 +5,8 @@ use Rattle.netlist_core.specs.declared.bit.Bit.{Bit}
 use Rattle.netlist_core.specs.declared.port.Register.{Register}
 use Rattle.netlist_core.specs.Runs.{q_bits}
 use Rattle.netlist_core.specs.Drivers.{times_at}
-use Rattle.elab_expr.specs.Building.{Building, signal}
-use Rattle.elab_expr.specs.Written.{IsJoined, IsStored}
+use Rattle.net_builder.specs.Building.{Building, signal}
+use Rattle.net_builder.specs.Written.{IsJoined, IsStored}
 use Rattle.flat_runs.specs.Meanings.{Meaning, Writes, WritesOnce}
 use Rattle.flat_runs.specs.Adding.{IsBit, IsWritten}
 

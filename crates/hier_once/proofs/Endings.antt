@@ -5,8 +5,8 @@ use Rattle.netlist_core.specs.declared.bit.Bit.{Bit}
 use Rattle.netlist_core.specs.declared.port.Register.{Register}
 use Rattle.netlist_core.specs.declared.raw.RawNetlist.{RawNetlist}
 use Rattle.vlog_effects.specs.Steps.{word_of}
-use Rattle.elab_expr.specs.Building.{Building, signal}
-use Rattle.elab_expr.specs.Finished.{LeadsTo, step_of, all_led, led_cell, led_port}
+use Rattle.net_builder.specs.Building.{Building, signal}
+use Rattle.net_builder.specs.Finished.{LeadsTo, step_of, all_led, led_cell, led_port}
 use Rattle.elab_proc.proofs.TurnLemmas.{word_again}
 use Rattle.flat_runs.specs.Finishing.{IsFirstWith}
 use Rattle.elab_finish.specs.Endings.{AreRegistersOf, IsEnding, IsRegisterOf, port_of, registers_in}

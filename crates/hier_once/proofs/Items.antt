@@ -4,8 +4,8 @@ use Rattle.std.specs.Prelude.{slice_index_or}
 use Rattle.mcy_base.specs.declared.kind.Kind.{Kind}
 use Rattle.mcy_base.specs.declared.kind.Kind.TheVariants as kind
 use Rattle.netlist_core.specs.declared.bit.Bit.{Bit}
-use Rattle.elab_expr.specs.Building.{Building}
-use Rattle.elab_expr.specs.Refusals.{max_cells}
+use Rattle.net_builder.specs.Building.{Building}
+use Rattle.net_builder.specs.Refusals.{max_cells}
 use Rattle.process_cells.specs.Items.{Widths, widths_in}
 use Rattle.flat_instances.specs.Places.{Place}
 use Rattle.flat_instances.specs.declared.item.FlatItem.{FlatItem}

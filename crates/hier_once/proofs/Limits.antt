@@ -2,9 +2,9 @@
 use Rattle.std.proofs.Common.{◌≡◌, ℕ, ◌≤◌, Bool, List, [], ◌∷◌, length, sym, ap, ◌∙◌, subst, arith}
 use Rattle.std.proofs.lemmas.List.{length-map}
 use Rattle.netlist_core.specs.declared.raw.RawNetlist.{RawNetlist}
-use Rattle.elab_expr.specs.Building.{Building, empty}
-use Rattle.elab_expr.specs.Finished.{led_cell}
-use Rattle.elab_expr.specs.Refusals.{max_cells}
+use Rattle.net_builder.specs.Building.{Building, empty}
+use Rattle.net_builder.specs.Finished.{led_cell}
+use Rattle.net_builder.specs.Refusals.{max_cells}
 use Rattle.flat_instances.specs.declared.item.FlatItem.{FlatItem}
 use Rattle.flat_items.specs.Flattened.{Flat}
 use Rattle.flat_clocks.specs.Clocks.{Clocks, clocks_of}

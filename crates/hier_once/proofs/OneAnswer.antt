@@ -3,7 +3,7 @@ use Rattle.std.proofs.Common.{◌≡◌, ◌≢◌, ℕ, ◌<◌, List, length, 
 use Rattle.std.proofs.lemmas.Grind.{same_number_lists}
 use Rattle.netlist_core.specs.declared.raw.RawNetlist.{RawNetlist}
 use Rattle.vlog_meaning.specs.Scopes.{Store}
-use Rattle.elab_expr.specs.Building.{Building, empty}
+use Rattle.net_builder.specs.Building.{Building, empty}
 use Rattle.flat_runs.specs.Designs.{Design}
 use Rattle.flat_items.specs.Flattened.{Flat}
 use Rattle.flat_clocks.specs.Clocks.{clocks_of}

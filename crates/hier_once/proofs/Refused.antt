@@ -11,11 +11,11 @@ use Rattle.netlist_core.specs.declared.cell.Cell.{Cell}
 use Rattle.netlist_core.specs.declared.raw.RawNetlist.{RawNetlist}
 use Rattle.netlist_core.specs.Orders.{IsOnLoop}
 use Rattle.netlist_core.specs.Checked.{IsFirst, Never, net_bits}
-use Rattle.elab_expr.specs.declared.steps.Step.TheVariants.{On}
-use Rattle.elab_expr.specs.Building.{Building, signal}
-use Rattle.elab_expr.specs.Finished.{Follows, direct, further, step_of, stepped}
-use Rattle.elab_expr.specs.Written.{joint_of}
-use Rattle.elab_expr.proofs.Following.{leads_no_loop}
+use Rattle.net_builder.specs.declared.steps.Step.TheVariants.{On}
+use Rattle.net_builder.specs.Building.{Building, signal}
+use Rattle.net_builder.specs.Finished.{Follows, direct, further, step_of, stepped}
+use Rattle.net_builder.specs.Written.{joint_of}
+use Rattle.net_builder.proofs.Following.{leads_no_loop}
 use Rattle.elab_finish.specs.declared.error.DesignError.{DesignError}
 use Rattle.elab_finish.specs.declared.error.DesignError.TheVariants.{Loop, TooMany, Memory}
 use Rattle.elab_finish.specs.declared.left.Left.{Left}

@@ -2,7 +2,7 @@
 use Rattle.std.specs.Prelude.{◌≡◌, ◌≢◌, ℕ, ◌≤◌, List, length, Result, Ok, Err}
 use Rattle.netlist_core.specs.declared.raw.RawNetlist.{RawNetlist}
 use Rattle.vlog_syntax.specs.declared.module.Module.{Module}
-use Rattle.elab_expr.specs.Refusals.{max_cells}
+use Rattle.net_builder.specs.Refusals.{max_cells}
 use Rattle.elab_items.specs.declared.answer.ElabError.{ElabError}
 use Rattle.elab_items.specs.declared.answer.ElabError.TheVariants.{Memory}
 use Rattle.elab_hier.specs.Elaborations.{Elaborates}

@@ -10,7 +10,7 @@ use Rattle.vlog_effects.specs.Effects.{bit_same}
 use Rattle.vlog_effects.specs.LeftSides.{Select, Part, Vector, part_vector, parts_of, parts_width, places, written}
 use Rattle.vlog_effects.specs.Latches.{Target, targets, arms_targets, part_targets, parts_targets}
 use Rattle.vlog_effects.specs.Steps.{Assigning, Selection, Steps, Done, Assign, Choose, Case, Refuse, Arms, Otherwise, Arm}
-use Rattle.elab_expr.specs.Building.{Building, signal, with_signal}
+use Rattle.net_builder.specs.Building.{Building, signal, with_signal}
 use Rattle.elab_expr.specs.Laid.{Laid, cell, lay}
 use Rattle.proc_muxes.specs.declared.choice.Choice.{Choice}
 use Rattle.proc_muxes.specs.Builds.{Work, held, with_held, Index, variable_index, distinct_after, distinct, choices, stands, restored, case_shape}

@@ -13,13 +13,13 @@ use Rattle.vlog_meaning.specs.Senses.{sense, assigned}
 use Rattle.vlog_effects.specs.LeftSides.{Part, Vector, part_vector, part_width, width_by, parts_of, parts_width, select_base, bits_from, written}
 use Rattle.vlog_effects.specs.Steps.{Assigning, Done, Assign}
 use Rattle.vlog_effects.specs.Latches.{Target, part_targets, parts_targets}
-use Rattle.elab_expr.specs.Building.{Building, Grows, AllBelow}
+use Rattle.net_builder.specs.Building.{Building, Grows, AllBelow}
 use Rattle.elab_expr.specs.Evaluates.{Evaluates}
-use Rattle.elab_expr.specs.Made.{made}
-use Rattle.elab_expr.specs.Refusals.{IsShort}
-use Rattle.elab_expr.specs.declared.error.ElabError.{ElabError}
+use Rattle.expr_plans.specs.Made.{made}
+use Rattle.net_builder.specs.Refusals.{IsShort}
+use Rattle.net_builder.specs.declared.error.ElabError.{ElabError}
 use Rattle.elab_expr.proofs.Growing.{count, more_short}
-use Rattle.elab_expr.proofs.Parts.{below_later, grown_nets, grows_again}
+use Rattle.net_builder.proofs.Parts.{below_later, grown_nets, grows_again}
 use Rattle.proc_muxes.specs.declared.change.Change.{Change}
 use Rattle.proc_muxes.specs.declared.piece.Piece.{Piece}
 use Rattle.proc_muxes.specs.declared.piece.Place.{Place}

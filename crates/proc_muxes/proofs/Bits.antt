@@ -9,7 +9,7 @@ use Rattle.netlist_core.specs.Numbers.{digit, number}
 use Rattle.netlist_core.specs.Runs.{Nets, bit_value, values}
 use Rattle.vlog_effects.specs.Expressions.{bits_of, number as value_of}
 use Rattle.vlog_effects.specs.LeftSides.{written}
-use Rattle.elab_expr.specs.Building.{AllBelow}
+use Rattle.net_builder.specs.Building.{AllBelow}
 
 -- both count a list of bits alike
 pub number-same : (bs : List Bool) → value_of bs ≡ number bs

@@ -11,10 +11,10 @@ use Rattle.vlog_meaning.specs.Scopes.{Names}
 use Rattle.vlog_meaning.specs.Senses.{sense}
 use Rattle.vlog_effects.specs.Steps.{Test, Steps, Done, Choose, in_turn, steps_of, else_steps}
 use Rattle.vlog_effects.specs.Latches.{targets}
-use Rattle.elab_expr.specs.Building.{AllBelow}
+use Rattle.net_builder.specs.Building.{AllBelow}
 use Rattle.elab_expr.specs.Expressions.{refusals}
-use Rattle.elab_expr.specs.Refusals.{IsShort}
-use Rattle.elab_expr.specs.declared.error.ElabError.{ElabError}
+use Rattle.net_builder.specs.Refusals.{IsShort}
+use Rattle.net_builder.specs.declared.error.ElabError.{ElabError}
 use Rattle.elab_expr.proofs.Growing.{more_short}
 use Rattle.proc_muxes.specs.declared.change.Change.{Change}
 use Rattle.proc_muxes.specs.declared.choice.Choice.{Choice}

@@ -17,12 +17,12 @@ use Rattle.vlog_effects.specs.Laws.{item_steps}
 use Rattle.vlog_effects.specs.Latches.{Target, targets, arms_targets}
 use Rattle.vlog_effects.specs.Steps.{Steps, Selection, Item, Arms, Otherwise, Arm, labelled, default_of, chosen_arms, selection_of, case_steps, steps_of}
 use Rattle.vlog_effects.proofs.Variants.{steps-case}
-use Rattle.elab_expr.specs.Building.{Building, AllBelow}
+use Rattle.net_builder.specs.Building.{Building, AllBelow}
 use Rattle.elab_expr.specs.Evaluates.{Evaluates}
 use Rattle.elab_expr.specs.Expressions.{refusals}
-use Rattle.elab_expr.specs.Made.{made}
-use Rattle.elab_expr.specs.Refusals.{IsShort}
-use Rattle.elab_expr.specs.declared.error.ElabError.{ElabError}
+use Rattle.expr_plans.specs.Made.{made}
+use Rattle.net_builder.specs.Refusals.{IsShort}
+use Rattle.net_builder.specs.declared.error.ElabError.{ElabError}
 use Rattle.elab_expr.proofs.Growing.{count, more_short}
 use Rattle.elab_proc.specs.Refusals.{wrong, case_faults, common_size, labels_in}
 use Rattle.elab_proc.specs.Sizes.{LabelsWithin}

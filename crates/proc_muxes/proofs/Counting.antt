@@ -15,8 +15,8 @@ use Rattle.vlog_effects.specs.Expressions.{bits_of}
 use Rattle.vlog_effects.specs.LeftSides.{Part, Vector, parts_of, part_vector, parts_width}
 use Rattle.vlog_effects.specs.Steps.{Assigning, Test, Selection, Steps, Done, Assign, Choose, Case, Refuse, Arms, Otherwise, Arm, dont_care}
 use Rattle.vlog_effects.specs.Latches.{Target, targets, arms_targets}
-use Rattle.elab_expr.specs.Building.{Building, fresh_bits}
-use Rattle.elab_expr.specs.Made.{made}
+use Rattle.net_builder.specs.Building.{Building, fresh_bits}
+use Rattle.expr_plans.specs.Made.{made}
 use Rattle.elab_expr.proofs.Growing.{count}
 use Rattle.proc_muxes.specs.Builds.{Work, held, with_held, AddsCell, Index, variable_index, PutsBits, PutsPart, PutsParts, BuildsAssign, BuildsBit, BuildsTest, distinct, choices, ChoosesAll, restored, kept, mattering, case_shape, BuildsEqual, BuildsLabel, BuildsMore, BuildsMatch, Builds, BuildsArms}
 use Rattle.proc_muxes.specs.Counts.{put_cells, puts_cells, assign_cells, equal_cells, label_cells, labels_cells, match_cells, cells_of, arms_cells}

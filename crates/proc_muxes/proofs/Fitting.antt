@@ -5,8 +5,8 @@ use Rattle.std.proofs.lemmas.List.{length-map}
 use Rattle.netlist_core.specs.declared.bit.Bit.{Bit}
 use Rattle.vlog_effects.specs.Steps.{Steps}
 use Rattle.vlog_effects.specs.Latches.{Target, targets}
-use Rattle.elab_expr.specs.Building.{AllBelow}
-use Rattle.elab_expr.proofs.Parts.{below_later}
+use Rattle.net_builder.specs.Building.{AllBelow}
+use Rattle.net_builder.proofs.Parts.{below_later}
 use Rattle.proc_muxes.specs.declared.change.Change.{Change}
 use Rattle.proc_muxes.specs.declared.choice.Choice.{Choice}
 use Rattle.proc_muxes.specs.Builds.{Work, held, choices, restored, stands, distinct_after, distinct}

@@ -9,9 +9,9 @@ use Rattle.netlist_core.specs.Runs.{Nets}
 use Rattle.vlog_effects.specs.Effects.{bit_same}
 use Rattle.vlog_effects.specs.Latches.{Target}
 use Rattle.vlog_effects.proofs.Bools.{or-left, or-right, and-left, and-right}
-use Rattle.elab_expr.specs.declared.builder.Joint.{Joint}
-use Rattle.elab_expr.specs.Building.{Building, RunsIn, Grows, AllBelow, signal, with_signal}
-use Rattle.elab_expr.proofs.Parts.{below_later, nets_le, added_append}
+use Rattle.net_builder.specs.declared.builder.Joint.{Joint}
+use Rattle.net_builder.specs.Building.{Building, RunsIn, Grows, AllBelow, signal, with_signal}
+use Rattle.net_builder.proofs.Parts.{below_later, nets_le, added_append}
 use Rattle.proc_muxes.specs.Builds.{Work, held, with_held, stands, distinct_after, distinct, restored}
 use Rattle.proc_muxes.specs.Shows.{Known, Adds, StandsBelow, Keeps}
 

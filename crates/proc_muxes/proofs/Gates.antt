@@ -12,8 +12,8 @@ use Rattle.netlist_core.specs.Cells.{cell_number, some_one}
 use Rattle.netlist_core.specs.Runs.{Nets, bit_value, values, plain, ports_seen}
 use Rattle.vlog_effects.specs.Expressions.{bits_of}
 use Rattle.vlog_effects.specs.Effects.{bit_same, agree}
-use Rattle.elab_expr.specs.Building.{Building, RunsIn, fresh_bits, with_cell}
-use Rattle.elab_expr.proofs.Parts.{cell_computes, length_fresh}
+use Rattle.net_builder.specs.Building.{Building, RunsIn, fresh_bits, with_cell}
+use Rattle.net_builder.proofs.Parts.{cell_computes, length_fresh}
 use Rattle.elab_expr.proofs.KindLemmas.{some_tells}
 use Rattle.proc_muxes.specs.Builds.{AddsCell, kept, mattering, BuildsEqual}
 use Rattle.proc_muxes.proofs.Bits.{values-are}

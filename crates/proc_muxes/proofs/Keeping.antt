@@ -12,8 +12,8 @@ use Rattle.vlog_effects.specs.LeftSides.{Part, Vector, parts_of, part_vector, pa
 use Rattle.vlog_effects.specs.Steps.{Assigning, Test, Selection, Steps, Done, Assign, Choose, Case, Refuse, Arms, Otherwise, Arm, dont_care}
 use Rattle.vlog_effects.specs.Latches.{Target, targets, arms_targets, part_targets, parts_targets}
 use Rattle.vlog_effects.proofs.Bools.{or-right}
-use Rattle.elab_expr.specs.Building.{Building, Grows, AllBelow, fresh_bits}
-use Rattle.elab_expr.proofs.Parts.{below_later, fresh_below, length_fresh, grows_not, grows_again}
+use Rattle.net_builder.specs.Building.{Building, Grows, AllBelow, fresh_bits}
+use Rattle.net_builder.proofs.Parts.{below_later, fresh_below, length_fresh, grows_not, grows_again}
 use Rattle.proc_muxes.specs.Builds.{Work, held, with_held, AddsCell, Index, variable_index, BuildsIndex, BuildsIndices, PutsBits, PutsPart, PutsParts, BuildsAssign, BuildsBit, BuildsTest, stands, distinct, choice_of, choices, Chooses, ChoosesAll, restored, kept, mattering, BuildsEqual, BuildsLabel, BuildsMore, BuildsMatch, Builds, BuildsArms}
 use Rattle.proc_muxes.specs.Shows.{Keeps}
 use Rattle.proc_muxes.proofs.Bits.{length-written, below-written, below-take, below-drop}

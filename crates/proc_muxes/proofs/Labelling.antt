@@ -14,13 +14,13 @@ use Rattle.vlog_meaning.specs.Scopes.{Names}
 use Rattle.vlog_effects.specs.Expressions.{bits_of}
 use Rattle.vlog_effects.specs.Steps.{Selection, dont_care}
 use Rattle.vlog_effects.proofs.Numbers.{length-bits_of}
-use Rattle.elab_expr.specs.Building.{Building, Grows, AllBelow, fresh_bits}
+use Rattle.net_builder.specs.Building.{Building, Grows, AllBelow, fresh_bits}
 use Rattle.elab_expr.specs.Evaluates.{Evaluates}
-use Rattle.elab_expr.specs.Made.{made}
-use Rattle.elab_expr.specs.Refusals.{IsShort}
-use Rattle.elab_expr.specs.declared.error.ElabError.{ElabError}
+use Rattle.expr_plans.specs.Made.{made}
+use Rattle.net_builder.specs.Refusals.{IsShort}
+use Rattle.net_builder.specs.declared.error.ElabError.{ElabError}
 use Rattle.elab_expr.proofs.Growing.{count, more_short}
-use Rattle.elab_expr.proofs.Parts.{grows_again, length_fresh}
+use Rattle.net_builder.proofs.Parts.{grows_again, length_fresh}
 use Rattle.case_arms.specs.Naming.{IsOf}
 use Rattle.proc_muxes.specs.Builds.{IsLaid, AddsCell, kept, mattering, case_shape, BuildsEqual, BuildsLabel, BuildsMore, BuildsMatch}
 use Rattle.proc_muxes.specs.Clear.{IsClearLabel, AreClearLabels}

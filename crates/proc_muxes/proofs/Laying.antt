@@ -13,8 +13,8 @@ use Rattle.vlog_effects.specs.Expressions.{bits_of}
 use Rattle.vlog_effects.specs.LeftSides.{Select, Part, Vector, part_vector, parts_of, parts_width}
 use Rattle.vlog_effects.specs.Latches.{Target, targets, arms_targets}
 use Rattle.vlog_effects.specs.Steps.{Assigning, Test, Selection, Steps, Done, Assign, Choose, Case, Refuse, Arms, Otherwise, Arm, dont_care}
-use Rattle.elab_expr.specs.Building.{Building, fresh_bits}
-use Rattle.elab_expr.specs.declared.error.ElabError.{ElabError}
+use Rattle.net_builder.specs.Building.{Building, fresh_bits}
+use Rattle.net_builder.specs.declared.error.ElabError.{ElabError}
 use Rattle.elab_expr.specs.Laid.{Laid, showing, cell, reduced}
 use Rattle.proc_muxes.specs.declared.change.Change.{Change}
 use Rattle.proc_muxes.specs.declared.choice.Choice.{Choice}

@@ -8,8 +8,8 @@ use Rattle.vlog_effects.specs.Steps.{Test, Steps, Done, Choose}
 use Rattle.vlog_effects.specs.Effects.{bit_same}
 use Rattle.vlog_effects.specs.Latches.{Target, targets}
 use Rattle.vlog_effects.proofs.Bools.{and-left, and-right, or-right}
-use Rattle.elab_expr.specs.Building.{AllBelow}
-use Rattle.elab_expr.proofs.Parts.{below_later}
+use Rattle.net_builder.specs.Building.{AllBelow}
+use Rattle.net_builder.proofs.Parts.{below_later}
 use Rattle.proc_muxes.specs.declared.change.Change.{Change}
 use Rattle.proc_muxes.specs.declared.choice.Choice.{Choice}
 use Rattle.proc_muxes.specs.Builds.{Work, held, with_held, choice_of, choices, ChoosesAll, restored, stands, distinct_after, distinct, BuildsTest}

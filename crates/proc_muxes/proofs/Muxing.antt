@@ -7,8 +7,8 @@ use Rattle.mcy_base.specs.declared.span.Span.{Span}
 use Rattle.netlist_core.specs.declared.bit.Bit.{Bit}
 use Rattle.netlist_core.specs.declared.cell.CellKind.TheVariants.{Mux}
 use Rattle.vlog_effects.specs.Latches.{Target}
-use Rattle.elab_expr.specs.Building.{Building, Grows, AllBelow, fresh_bits, with_cell}
-use Rattle.elab_expr.proofs.Parts.{below_later, grown_by, length_fresh}
+use Rattle.net_builder.specs.Building.{Building, Grows, AllBelow, fresh_bits, with_cell}
+use Rattle.net_builder.proofs.Parts.{below_later, grown_by, length_fresh}
 use Rattle.proc_muxes.specs.declared.change.Change.{Change}
 use Rattle.proc_muxes.specs.declared.choice.Choice.{Choice}
 use Rattle.proc_muxes.specs.Builds.{Work, held, with_held, Chooses, ChoosesAll}

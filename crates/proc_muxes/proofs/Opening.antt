@@ -18,10 +18,10 @@ use Rattle.vlog_meaning.proofs.Blanks.{left_nil, right_nil, these_nil, those_nil
 use Rattle.vlog_effects.specs.Laws.{item_steps}
 use Rattle.vlog_effects.specs.Latches.{targets, arms_targets}
 use Rattle.vlog_effects.specs.Steps.{Steps, Selection, InNames, Item, Arms, labelled, steps_of, done_by}
-use Rattle.elab_expr.specs.Building.{Building, Grows, HasSignals}
+use Rattle.net_builder.specs.Building.{Building, Grows, HasSignals}
 use Rattle.elab_expr.specs.Expressions.{refusals}
-use Rattle.elab_expr.specs.Refusals.{IsShort}
-use Rattle.elab_expr.specs.declared.error.ElabError.{ElabError}
+use Rattle.net_builder.specs.Refusals.{IsShort}
+use Rattle.net_builder.specs.declared.error.ElabError.{ElabError}
 use Rattle.elab_expr.proofs.Growing.{more_short}
 use Rattle.elab_proc.specs.Refusals.{wrong, divisions, zeros_at, common_size, case_faults, labels_in, AreSized}
 use Rattle.elab_proc.specs.Sizes.{AllWithin, LabelsWithin}

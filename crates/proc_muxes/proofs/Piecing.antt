@@ -10,14 +10,14 @@ use Rattle.vlog_meaning.specs.Scopes.{Names, nothing}
 use Rattle.vlog_meaning.specs.Senses.{sense, own}
 use Rattle.vlog_effects.specs.Expressions.{is_constant}
 use Rattle.vlog_effects.specs.LeftSides.{Bit as BitOf, Indexed, Part, Vector, part_vector, parts_of, parts_width, select_base, select_width, concatenated}
-use Rattle.elab_expr.specs.Building.{Building, Grows, HasSignals}
+use Rattle.net_builder.specs.Building.{Building, Grows, HasSignals}
 use Rattle.elab_expr.specs.Evaluates.{Evaluates}
 use Rattle.elab_expr.specs.Expressions.{refusals}
-use Rattle.elab_expr.specs.Made.{made}
-use Rattle.elab_expr.specs.Refusals.{IsShort}
-use Rattle.elab_expr.specs.declared.error.ElabError.{ElabError}
+use Rattle.expr_plans.specs.Made.{made}
+use Rattle.net_builder.specs.Refusals.{IsShort}
+use Rattle.net_builder.specs.declared.error.ElabError.{ElabError}
 use Rattle.elab_expr.proofs.Growing.{count, more_short, signals_kept}
-use Rattle.elab_expr.proofs.Parts.{below_later, grown_nets}
+use Rattle.net_builder.proofs.Parts.{below_later, grown_nets}
 use Rattle.proc_muxes.specs.declared.piece.Piece.{Piece}
 use Rattle.proc_muxes.specs.declared.piece.Place.{Place}
 use Rattle.proc_muxes.specs.declared.piece.Place.TheVariants.{From, At}

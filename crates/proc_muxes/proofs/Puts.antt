@@ -12,7 +12,7 @@ use Rattle.netlist_core.specs.Cells.{laid_at}
 use Rattle.netlist_core.specs.Runs.{Nets, bit_value, values}
 use Rattle.vlog_effects.specs.Expressions.{bits_of}
 use Rattle.vlog_effects.specs.LeftSides.{Vector, bit_at, bits_from, written}
-use Rattle.elab_expr.specs.Building.{Building, RunsIn, fresh_bits}
+use Rattle.net_builder.specs.Building.{Building, RunsIn, fresh_bits}
 use Rattle.proc_muxes.specs.Builds.{AddsCell}
 use Rattle.proc_muxes.proofs.Bits.{bits_of-number}
 use Rattle.proc_muxes.proofs.Gates.{cell-values}

@@ -3,8 +3,8 @@ use Rattle.std.proofs.Common.{◌≡◌, ℕ, ℤ, ◌≤◌, Bool, true, false,
 use Rattle.mcy_base.specs.declared.span.Span.{Span}
 use Rattle.netlist_core.specs.declared.bit.Bit.{Bit}
 use Rattle.netlist_core.specs.declared.cell.CellKind.TheVariants.{Put}
-use Rattle.elab_expr.specs.Building.{Building, Grows, fresh_bits, with_cell}
-use Rattle.elab_expr.proofs.Parts.{grown_by, length_fresh}
+use Rattle.net_builder.specs.Building.{Building, Grows, fresh_bits, with_cell}
+use Rattle.net_builder.proofs.Parts.{grown_by, length_fresh}
 use Rattle.vlog_effects.specs.LeftSides.{Vector, bits_from, written}
 use Rattle.proc_muxes.specs.Builds.{Work, held, with_held}
 use Rattle.proc_muxes.specs.Shows.{StandsBelow}

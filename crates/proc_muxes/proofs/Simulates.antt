@@ -20,9 +20,9 @@ use Rattle.vlog_effects.specs.Effects.{Values, numbers, Update, updated, updated
 use Rattle.vlog_effects.specs.Latches.{Target, targets, arms_targets, part_targets, parts_targets}
 use Rattle.vlog_effects.proofs.Alike.{value-constant}
 use Rattle.vlog_effects.proofs.Bools.{or-left, or-right, and-left, and-right, or-again}
-use Rattle.elab_expr.specs.Building.{Building, RunsIn, Grows, AllBelow, fresh_bits, signal, store}
+use Rattle.net_builder.specs.Building.{Building, RunsIn, Grows, AllBelow, fresh_bits, signal, store}
 use Rattle.elab_expr.specs.Evaluates.{Evaluates}
-use Rattle.elab_expr.proofs.Parts.{runs_before, store_same, below_later, grows_again}
+use Rattle.net_builder.proofs.Parts.{runs_before, store_same, below_later, grows_again}
 use Rattle.proc_muxes.specs.Builds.{Work, held, with_held, Index, variable_index, BuildsIndex, BuildsIndices, PutsBits, PutsPart, PutsParts, BuildsAssign, BuildsBit, BuildsTest, stands, distinct, choice_of, choices, Chooses, ChoosesAll, restored, kept, mattering, case_shape, BuildsLabel, BuildsMore, BuildsMatch, BuildsArms}
 use Rattle.proc_muxes.specs.Shows.{Shows, Conforms, Keeps}
 use Rattle.proc_muxes.specs.Laws.{BuildingKeeps, BuildsTheEffect, LeavesTheEffect}

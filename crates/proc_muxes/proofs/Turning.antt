@@ -24,9 +24,9 @@ use Rattle.vlog_meaning.proofs.Powers.{power_le}
 use Rattle.vlog_effects.specs.Expressions.{told, constant_of, constant_faults}
 use Rattle.vlog_effects.specs.Steps.{Steps, Done, Refuse, Turns, Flaw, InNames, Loop, followed, refused, flaws_of, tested, stepped, step_flaws, turns, max_turns, all_turns, looped, loop_steps, name_alone, steps_of}
 use Rattle.vlog_effects.proofs.Variants.{steps-loop}
-use Rattle.elab_expr.specs.Building.{IsSignal, Building}
-use Rattle.elab_expr.specs.Refusals.{IsShort}
-use Rattle.elab_expr.specs.declared.error.ElabError.{ElabError}
+use Rattle.net_builder.specs.Building.{IsSignal, Building}
+use Rattle.net_builder.specs.Refusals.{IsShort}
+use Rattle.net_builder.specs.declared.error.ElabError.{ElabError}
 use Rattle.elab_expr.proofs.Growing.{more_short}
 use Rattle.elab_proc.specs.declared.refusal.Refusal.{Refusal}
 use Rattle.elab_proc.specs.Order.{IsFirst}

@@ -18,9 +18,9 @@ use Rattle.vlog_effects.specs.LeftSides.{parts_of}
 use Rattle.vlog_effects.specs.Steps.{Assigning, Test, Steps, Done, Assign, Choose, Case, Refuse, followed, InNames, Item, in_turn, assigning, step_of, item_of, steps_of, else_steps}
 use Rattle.vlog_effects.specs.Latches.{Target, targets, parts_targets}
 use Rattle.vlog_effects.proofs.Variants.{steps-block, steps-conditional}
-use Rattle.elab_expr.specs.Building.{IsSignal}
-use Rattle.elab_expr.specs.Refusals.{IsShort}
-use Rattle.elab_expr.specs.declared.error.ElabError.{ElabError}
+use Rattle.net_builder.specs.Building.{IsSignal}
+use Rattle.net_builder.specs.Refusals.{IsShort}
+use Rattle.net_builder.specs.declared.error.ElabError.{ElabError}
 use Rattle.elab_expr.proofs.Growing.{more_short}
 use Rattle.proc_muxes.specs.declared.change.Change.{Change}
 use Rattle.proc_muxes.specs.Builds.{Work, BuildsTest}

@@ -15,7 +15,7 @@ use Rattle.vlog_effects.specs.LeftSides.{Select, Whole, Bit as BitOf, Range, Ind
 use Rattle.vlog_effects.specs.Steps.{Assigning, Test, Selection, Steps, Done, Assign, Choose, Case, Refuse, Arms, Otherwise, Arm, dont_care}
 use Rattle.vlog_effects.specs.Effects.{bit_same}
 use Rattle.vlog_effects.specs.Latches.{Target, targets, arms_targets}
-use Rattle.elab_expr.specs.Building.{Building, Grows, fresh_bits, signal, with_signal, with_cell}
+use Rattle.net_builder.specs.Building.{Building, Grows, fresh_bits, signal, with_signal, with_cell}
 use Rattle.elab_expr.specs.Evaluates.{Evaluates}
 use Rattle.elab_expr.specs.Laid.{lay, showing}
 use Rattle.proc_muxes.specs.declared.choice.Choice.{Choice}

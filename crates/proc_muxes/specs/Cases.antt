@@ -6,7 +6,7 @@ use Rattle.vlog_meaning.specs.declared.shapes.Shape.{Shape}
 use Rattle.vlog_meaning.specs.Scopes.{Names}
 use Rattle.vlog_meaning.specs.Senses.{is_empty}
 use Rattle.vlog_effects.specs.Steps.{Selection, Item, steps_of}
-use Rattle.elab_expr.specs.Building.{Building}
+use Rattle.net_builder.specs.Building.{Building}
 use Rattle.elab_proc.specs.Refusals.{labels_in}
 use Rattle.proc_muxes.specs.declared.open_arms.OpenArm.{OpenArm}
 use Rattle.proc_muxes.specs.Builds.{Work, BuildsMatch}

@@ -7,7 +7,7 @@ use Rattle.vlog_meaning.specs.Senses.{sense, assigned, IsWhole, IsContext}
 use Rattle.vlog_effects.specs.LeftSides.{Select, Whole, Bit as BitOf, Range, Indexed, Part, Vector, parts_of, part_vector, parts_width, select_width}
 use Rattle.vlog_effects.specs.Steps.{Assigning, Steps, Done, Assign, Choose, Case, Refuse, Arms, Otherwise, Arm}
 use Rattle.vlog_effects.specs.Latches.{Target, targets}
-use Rattle.elab_expr.specs.Building.{HasSignals}
+use Rattle.net_builder.specs.Building.{HasSignals}
 use Rattle.elab_expr.specs.Expressions.{refusals}
 use Rattle.elab_proc.specs.Refusals.{case_faults, AreSized}
 use Rattle.proc_muxes.specs.Builds.{Work, held, Index, variable_index}

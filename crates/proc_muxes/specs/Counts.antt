@@ -7,7 +7,7 @@ use Rattle.vlog_effects.specs.Expressions.{bits_of}
 use Rattle.vlog_effects.specs.LeftSides.{Part, parts_of, parts_width}
 use Rattle.vlog_effects.specs.Steps.{Assigning, Selection, Steps, Done, Assign, Choose, Case, Refuse, Arms, Otherwise, Arm, Item, dont_care}
 use Rattle.vlog_effects.specs.Latches.{targets, arms_targets}
-use Rattle.elab_expr.specs.Made.{made}
+use Rattle.expr_plans.specs.Made.{made}
 use Rattle.proc_muxes.specs.declared.piece.Piece.{Piece}
 use Rattle.proc_muxes.specs.declared.piece.Place.{Place}
 use Rattle.proc_muxes.specs.declared.piece.Place.TheVariants.{From, At}

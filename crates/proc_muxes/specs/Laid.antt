@@ -17,7 +17,7 @@ use Rattle.vlog_effects.specs.Expressions.{bits_of}
 use Rattle.vlog_effects.specs.LeftSides.{Select, Part, Vector, parts_of, part_vector, parts_width}
 use Rattle.vlog_effects.specs.Steps.{Assigning, Test, Selection, Steps, Done, Assign, Choose, Case, Refuse, Arms, Otherwise, Arm, dont_care}
 use Rattle.vlog_effects.specs.Latches.{targets, arms_targets}
-use Rattle.elab_expr.specs.Building.{Building}
+use Rattle.net_builder.specs.Building.{Building}
 use Rattle.elab_expr.specs.Laid.{Laid, showing, cell, reduced, lay}
 use Rattle.proc_muxes.specs.declared.choice.Choice.{Choice}
 use Rattle.proc_muxes.specs.Builds.{Work, held, with_held, Index, variable_index, put_fixed, distinct, choices, restored, kept, mattering, case_shape}

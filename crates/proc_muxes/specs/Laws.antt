@@ -6,7 +6,7 @@ use Rattle.netlist_core.specs.Runs.{Nets, values}
 use Rattle.vlog_effects.specs.Steps.{Steps, Test, Done, Choose, followed}
 use Rattle.vlog_effects.specs.Effects.{State, effect, left_by}
 use Rattle.vlog_effects.specs.Latches.{Target, targets}
-use Rattle.elab_expr.specs.Building.{RunsIn, signal}
+use Rattle.net_builder.specs.Building.{RunsIn, signal}
 use Rattle.proc_muxes.specs.declared.change.Change.{Change}
 use Rattle.proc_muxes.specs.Builds.{Work, Builds, BuildsTest, ChoosesAll}
 use Rattle.proc_muxes.specs.Laid.{lay_steps}

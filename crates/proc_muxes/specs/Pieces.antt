@@ -9,7 +9,7 @@ use Rattle.vlog_meaning.specs.Senses.{sense, own}
 use Rattle.vlog_effects.specs.Expressions.{is_constant}
 use Rattle.vlog_effects.specs.LeftSides.{Part, Vector, part_vector, select_base, select_width}
 use Rattle.vlog_effects.specs.Latches.{Target}
-use Rattle.elab_expr.specs.Building.{Building}
+use Rattle.net_builder.specs.Building.{Building}
 use Rattle.proc_muxes.specs.declared.piece.Piece.{Piece}
 use Rattle.proc_muxes.specs.declared.piece.Place.{Place}
 use Rattle.proc_muxes.specs.declared.piece.Place.TheVariants.{From, At}

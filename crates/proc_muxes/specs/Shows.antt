@@ -5,7 +5,7 @@ use Rattle.netlist_core.specs.declared.cell.Cell.{Cell}
 use Rattle.netlist_core.specs.Runs.{Nets, values}
 use Rattle.vlog_effects.specs.Effects.{Values, State, settled, updated_all}
 use Rattle.vlog_effects.specs.Latches.{Target}
-use Rattle.elab_expr.specs.Building.{Building, AreAdded, AllBelow, signal}
+use Rattle.net_builder.specs.Building.{Building, AreAdded, AllBelow, signal}
 use Rattle.proc_muxes.specs.Builds.{Work, held, stands}
 
 -- `kinds` tells which variables have blocking assignments. What the builder has are the values of a state: those that

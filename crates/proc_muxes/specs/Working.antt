@@ -9,8 +9,8 @@ use Rattle.vlog_meaning.specs.Senses.{sense}
 use Rattle.vlog_effects.specs.Effects.{bit_same}
 use Rattle.vlog_effects.specs.Steps.{Steps}
 use Rattle.vlog_effects.specs.Latches.{Target, targets}
-use Rattle.elab_expr.specs.Building.{fresh_bits, Building, AllBelow}
-use Rattle.elab_expr.specs.Made.{made}
+use Rattle.net_builder.specs.Building.{fresh_bits, Building, AllBelow}
+use Rattle.expr_plans.specs.Made.{made}
 use Rattle.proc_muxes.specs.declared.change.Change.{Change}
 use Rattle.proc_muxes.specs.declared.choice.Choice.{Choice}
 use Rattle.proc_muxes.specs.Builds.{AddsCell, Work, held, with_held, distinct, Builds}

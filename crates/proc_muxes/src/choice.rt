@@ -6,16 +6,17 @@
 ghost use Rattle.std.specs.Prelude.{◌≡◌, ◌+◌, ◌<◌, [], ◌∷◌, ◌++◌, map, length, IfOk, IfErr, OnOk};
 ghost use Rattle.std.specs.Prelude.{List};
 ghost use Rattle.proc_muxes.specs.declared.change.Change.{Change as Changed};
-ghost use Rattle.elab_expr.specs.Building.{AllBelow};
-ghost use Rattle.elab_expr.specs.Refusals.{IsShort};
+ghost use Rattle.net_builder.specs.Building.{AllBelow};
+ghost use Rattle.net_builder.specs.Refusals.{IsShort};
 ghost use Rattle.proc_muxes.specs.Builds.{Chooses, ChoosesAll, with_held};
 ghost use Rattle.proc_muxes.specs.Shows.{StandsBelow};
 ghost use Rattle.proc_muxes.specs.Working.{work, now_has, all_have, had_before, all_had, joined, given_back, chosen, FitsChange, AllFit, FitsChoice, AllChoicesFit};
 
 use crate::change::{Change, Changes};
 use crate::variables::{Variables, copied, width_of};
-use elab_expr::{Builder, ElabError, mux_cell};
+use elab_expr::mux_cell;
 use mcy_base::Span;
+use net_builder::{Builder, ElabError};
 use netlist_core::BitList;
 use std::alloc::{AllocError, Global};
 

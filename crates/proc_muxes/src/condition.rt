@@ -3,14 +3,15 @@ ghost use Rattle.std.specs.Prelude.{◌≡◌, ◌+◌, ◌≤◌, ℕ, List, []
 ghost use Rattle.netlist_core.specs.declared.bit.Bit.{Bit as AnyBit};
 ghost use Rattle.vlog_meaning.specs.Scopes.{names_of};
 ghost use Rattle.vlog_meaning.specs.Senses.{sense};
-ghost use Rattle.elab_expr.specs.Building.{AllBelow, HasSignals};
+ghost use Rattle.net_builder.specs.Building.{AllBelow, HasSignals};
 ghost use Rattle.elab_expr.specs.Expressions.{refusals};
-ghost use Rattle.elab_expr.specs.Refusals.{IsShort};
+ghost use Rattle.net_builder.specs.Refusals.{IsShort};
 ghost use Rattle.proc_muxes.specs.Builds.{BuildsBit, BuildsTest};
 ghost use Rattle.proc_muxes.specs.Working.{test_cells};
 
-use elab_expr::{Builder, ElabError, build_expr, ror_cell};
+use elab_expr::{build_expr, ror_cell};
 use mcy_base::Span;
+use net_builder::{Builder, ElabError};
 use netlist_core::BitList;
 use vlog_meaning::{Scope, shape_of};
 use vlog_syntax::Expr;

@@ -3,14 +3,15 @@
 ghost use Rattle.std.specs.Prelude.{◌≡◌, ◌+◌, ◌<◌, ◌≤◌, ◌^◌, pos, ◌+ℤ◌, length, IfOk, IfErr, IfSome, IsTrue, OnOk};
 ghost use Rattle.vlog_meaning.specs.Integers.{bound_integer};
 ghost use Rattle.vlog_effects.specs.LeftSides.{Vector, bit_at, bits_from, written};
-ghost use Rattle.elab_expr.specs.Refusals.{IsShort};
+ghost use Rattle.net_builder.specs.Refusals.{IsShort};
 ghost use Rattle.proc_muxes.specs.Builds.{held, with_held};
 ghost use Rattle.proc_muxes.specs.Shows.{StandsBelow};
 ghost use Rattle.proc_muxes.specs.Working.{work, AreBits, PutsAt};
 
 use crate::variables::{Variables, width_of};
-use elab_expr::{Builder, ElabError, put_cell};
+use elab_expr::put_cell;
 use mcy_base::Span;
+use net_builder::{Builder, ElabError};
 use netlist_core::{Bit, BitList};
 use std::alloc::{AllocError, Global};
 use vlog_meaning::Bound;

@@ -7,7 +7,7 @@ ghost use Rattle.std.specs.Prelude.{◌≡◌, ◌<◌, ◌≤◌, length, slice
 ghost use Rattle.proc_muxes.specs.Builds.{held, with_held};
 ghost use Rattle.proc_muxes.specs.Working.{work};
 
-use elab_expr::{Builder, copied_bits};
+use net_builder::{Builder, copied_bits};
 use netlist_core::BitList;
 use std::alloc::{AllocError, Global};
 use std::marker::Model;

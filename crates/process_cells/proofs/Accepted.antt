@@ -15,8 +15,8 @@ use Rattle.vlog_effects.specs.Steps.{Assigning, Steps, Done, Assign, Choose, Cas
 use Rattle.vlog_effects.specs.Effects.{IsBlocking, AreBlocking}
 use Rattle.vlog_effects.specs.Latches.{Target, targets, arms_targets, part_targets, parts_targets}
 use Rattle.vlog_effects.proofs.Sizes.{IsSized, AreSized, Sized, SizedArms, sized-steps}
-use Rattle.elab_expr.specs.Building.{Building, IsSignal, signal}
-use Rattle.elab_expr.specs.Made.{plan}
+use Rattle.net_builder.specs.Building.{Building, IsSignal, signal}
+use Rattle.expr_plans.specs.Made.{plan}
 use Rattle.elab_proc.specs.Refusals.{same_form, wrong, sides_faults, part_refusals, kind_refusals, assign_refusals, step_refusals, arm_refusals, own_faults, case_faults, unless}
 use Rattle.elab_proc.specs.declared.refusal.Refusal.{Refusal}
 use Rattle.elab_proc.specs.declared.refusal.Refusal.TheVariants.{Wrong}

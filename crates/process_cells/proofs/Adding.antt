@@ -14,7 +14,7 @@ use Rattle.vlog_effects.specs.Latches.{targets, is_assigned}
 use Rattle.vlog_effects.specs.Steps.{Steps, steps_of}
 use Rattle.vlog_effects.proofs.Numbers.{number-small, length-bits_of}
 use Rattle.vlog_effects.proofs.Unlatched.{leaves-one}
-use Rattle.elab_expr.specs.Building.{Building, RunsIn, Grows, AreAdded, IsSignal, HasSignals, signal, store}
+use Rattle.net_builder.specs.Building.{Building, RunsIn, Grows, AreAdded, IsSignal, HasSignals, signal, store}
 use Rattle.flat_runs.specs.Meanings.{Combinational, Clocked}
 use Rattle.flat_runs.specs.Adding.{AddsItem, Means}
 use Rattle.flat_runs.specs.Parts.{AllMean, IsSettled}

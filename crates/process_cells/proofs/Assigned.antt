@@ -13,7 +13,7 @@ use Rattle.flat_runs.proofs.Lists.{contains_none, contains_cases}
 use Rattle.proc_muxes.specs.Builds.{Work, distinct_after, stands}
 use Rattle.proc_muxes.specs.Shows.{Conforms}
 use Rattle.proc_muxes.proofs.Frames.{number-true}
-use Rattle.elab_expr.specs.Building.{signal}
+use Rattle.net_builder.specs.Building.{signal}
 use Rattle.process_cells.specs.Processes.{variables}
 use Rattle.process_cells.specs.Ready.{AllWait}
 

@@ -9,7 +9,7 @@ use Rattle.vlog_meaning.specs.Scopes.{Names}
 use Rattle.vlog_effects.specs.Steps.{steps_of}
 use Rattle.vlog_effects.specs.Latches.{Target, targets}
 use Rattle.elab_proc.specs.Refusals.{AreSized}
-use Rattle.elab_expr.specs.Building.{Building, AllBelow, IsSignal, HasSignals, signal, with_signal}
+use Rattle.net_builder.specs.Building.{Building, AllBelow, IsSignal, HasSignals, signal, with_signal}
 use Rattle.flat_runs.specs.Adding.{HasOwnNets}
 use Rattle.flat_runs.proofs.Signals.{ports_in}
 use Rattle.proc_muxes.specs.Builds.{Work, distinct}

@@ -6,7 +6,7 @@ use Rattle.std.proofs.lemmas.List.{length-map, length-set}
 use Rattle.std.proofs.lemmas.Bool.Decides.{eqb_tells}
 use Rattle.netlist_core.specs.declared.bit.Bit.{Bit}
 use Rattle.netlist_core.specs.declared.bit.Bit.TheVariants.{Fixed}
-use Rattle.elab_expr.specs.Building.{Building, signal, with_signal}
+use Rattle.net_builder.specs.Building.{Building, signal, with_signal}
 use Rattle.flat_runs.proofs.Lists.{contains_first, contains_more}
 use Rattle.vlog_effects.specs.Latches.{Target}
 use Rattle.proc_muxes.specs.Shows.{Known}

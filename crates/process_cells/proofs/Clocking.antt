@@ -8,9 +8,9 @@ use Rattle.vlog_syntax.specs.declared.stmt.Stmt.{Stmt}
 use Rattle.vlog_meaning.specs.Scopes.{Names}
 use Rattle.vlog_effects.specs.Steps.{steps_of}
 use Rattle.vlog_effects.specs.Latches.{Target, targets}
-use Rattle.elab_expr.specs.declared.builder.Signal.{Signal as Declared}
-use Rattle.elab_expr.specs.Building.{Building, Grows, AllBelow, PortsBelow, signal, declared_at, start_bits}
-use Rattle.elab_expr.proofs.Parts.{below_later}
+use Rattle.net_builder.specs.declared.builder.Signal.{Signal as Declared}
+use Rattle.net_builder.specs.Building.{Building, Grows, AllBelow, PortsBelow, signal, declared_at, start_bits}
+use Rattle.net_builder.proofs.Parts.{below_later}
 use Rattle.flat_runs.specs.Parts.{StandsBelow as Stands, AreRegistersBelow, AreStored, with_registers}
 use Rattle.flat_runs.proofs.Growing.{cells_extend, registers_stand}
 use Rattle.proc_muxes.specs.declared.change.Change.{Change}

@@ -10,7 +10,7 @@ use Rattle.vlog_effects.specs.Effects.{bit_same}
 use Rattle.vlog_effects.specs.Steps.{steps_of}
 use Rattle.vlog_effects.specs.Latches.{Target, targets}
 use Rattle.vlog_effects.proofs.Bools.{and-left}
-use Rattle.elab_expr.specs.Building.{Building, Grows, AllBelow, PortsBelow, signal}
+use Rattle.net_builder.specs.Building.{Building, Grows, AllBelow, PortsBelow, signal}
 use Rattle.flat_runs.specs.Parts.{StandsBelow as Stands, AllJoin, with_joints}
 use Rattle.flat_runs.proofs.Combining.{join_of}
 use Rattle.flat_runs.proofs.Growing.{cells_extend}

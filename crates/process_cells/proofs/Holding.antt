@@ -8,7 +8,7 @@ use Rattle.std.proofs.lemmas.List.{length-set}
 use Rattle.netlist_core.specs.declared.bit.Bit.{Bit}
 use Rattle.vlog_effects.specs.Effects.{bit_same}
 use Rattle.vlog_effects.specs.Latches.{Target}
-use Rattle.elab_expr.specs.Building.{Building, AllBelow, signal}
+use Rattle.net_builder.specs.Building.{Building, AllBelow, signal}
 use Rattle.flat_runs.proofs.Lists.{contains_none, contains_cases}
 use Rattle.proc_muxes.specs.Builds.{stands}
 use Rattle.proc_muxes.specs.Working.{pending_of, work}

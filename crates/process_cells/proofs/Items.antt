@@ -16,10 +16,10 @@ use Rattle.elab_proc.specs.declared.refusal.Refusal.{Refusal}
 use Rattle.elab_proc.specs.Order.{IsFirst}
 use Rattle.process_latches.specs.Refused.{process_refusals}
 use Rattle.vlog_effects.specs.Steps.{Steps, steps_of}
-use Rattle.elab_expr.specs.declared.error.ElabError.{ElabError}
-use Rattle.elab_expr.specs.declared.error.ElabError.TheVariants.{TooMany, Memory}
-use Rattle.elab_expr.specs.Building.{Building, Grows, signal}
-use Rattle.elab_expr.specs.Refusals.{IsShort}
+use Rattle.net_builder.specs.declared.error.ElabError.{ElabError}
+use Rattle.net_builder.specs.declared.error.ElabError.TheVariants.{TooMany, Memory}
+use Rattle.net_builder.specs.Building.{Building, Grows, signal}
+use Rattle.net_builder.specs.Refusals.{IsShort}
 use Rattle.flat_runs.specs.Meanings.{Meaning}
 use Rattle.flat_runs.specs.Meanings as m
 use Rattle.flat_runs.specs.Adding.{HasOwnNets, AddsItem}

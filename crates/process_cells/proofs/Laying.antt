@@ -8,9 +8,9 @@ use Rattle.vlog_syntax.specs.declared.item.Process.{Process}
 use Rattle.vlog_meaning.specs.Scopes.{Names}
 use Rattle.vlog_effects.specs.Latches.{Target, targets}
 use Rattle.vlog_effects.specs.Steps.{Steps, word_of}
-use Rattle.elab_expr.specs.declared.builder.Joint.{Joint}
-use Rattle.elab_expr.specs.declared.error.ElabError.{ElabError}
-use Rattle.elab_expr.specs.Building.{Building, signal, declared_at, start_bits}
+use Rattle.net_builder.specs.declared.builder.Joint.{Joint}
+use Rattle.net_builder.specs.declared.error.ElabError.{ElabError}
+use Rattle.net_builder.specs.Building.{Building, signal, declared_at, start_bits}
 use Rattle.elab_proc.specs.declared.refusal.Refusal.{Refusal}
 use Rattle.elab_proc.proofs.TurnLemmas.{word_again}
 use Rattle.flat_runs.specs.Parts.{AreJoints, AllJoin, AreStored, places_from, with_joints, with_registers}

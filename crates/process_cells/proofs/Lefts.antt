@@ -27,7 +27,7 @@ use Rattle.vlog_meaning.proofs.Whole.{whole_index, whole_part, whole_indexed, wh
 use Rattle.vlog_effects.specs.Expressions.{is_constant}
 use Rattle.vlog_effects.specs.LeftSides.{Part, Select, Whole, Bit, Range, Indexed, Vector, vector_of, part_vector, width_by, parts_width, parts_of, parts_step, select_width, concatenated}
 use Rattle.elab_expr.specs.Expressions.{refusals}
-use Rattle.elab_expr.specs.Made.{plan, plans, all_unsupported}
+use Rattle.expr_plans.specs.Made.{plan, plans, all_unsupported}
 use Rattle.elab_expr.proofs.Facts.{bit_parts, indexed_parts, join_supported}
 use Rattle.elab_proc.specs.Refusals.{same_form, form_step, name_refusals, part_refusals}
 use Rattle.process_latches.specs.Sound.{part_form}

@@ -6,8 +6,8 @@ use Rattle.std.proofs.lemmas.Bool.Decides.{eqb_tells}
 use Rattle.netlist_core.specs.declared.bit.Bit.{Bit}
 use Rattle.netlist_core.specs.declared.bit.Bit.TheVariants.{Fixed, Net}
 use Rattle.netlist_core.specs.Checked.{AllNets}
-use Rattle.elab_expr.specs.declared.builder.Joint.{Joint}
-use Rattle.elab_expr.specs.Building.{Building, signal, with_signal}
+use Rattle.net_builder.specs.declared.builder.Joint.{Joint}
+use Rattle.net_builder.specs.Building.{Building, signal, with_signal}
 use Rattle.flat_runs.specs.Adding.{HasOwnNets}
 use Rattle.flat_runs.specs.Parts.{AreJoints, AllJoin, places_from, whole, with_joints}
 use Rattle.flat_runs.proofs.Lists.{contains_none, contains_cases}

@@ -44,7 +44,7 @@ use Rattle.vlog_effects.proofs.Numbers.{number-small, length-bits_of}
 use Rattle.vlog_effects.proofs.Running.{effects-follow, steps-blocking}
 use Rattle.vlog_effects.proofs.Variants.{steps-block}
 use Rattle.vlog_effects.proofs.Writing.{length-written}
-use Rattle.elab_expr.specs.Building.{Building, HasSignals, IsSignal, signal, start_bits, with_start}
+use Rattle.net_builder.specs.Building.{Building, HasSignals, IsSignal, signal, start_bits, with_start}
 use Rattle.elab_proc.specs.declared.refusal.Refusal.{Refusal}
 use Rattle.elab_proc.specs.declared.refusal.Refusal.TheVariants.{Wrong, Unsupported}
 use Rattle.elab_proc.proofs.Lists.{flat_take, map_take}

@@ -6,7 +6,7 @@ use Rattle.mcy_base.specs.declared.span.Span.{Span}
 use Rattle.mcy_base.specs.declared.word.Word.{Word}
 use Rattle.netlist_core.specs.declared.bit.Bit.{Bit}
 use Rattle.netlist_core.specs.declared.port.Register.{Register}
-use Rattle.elab_expr.specs.Building.{Building, with_register, signal, declared_at, start_bits}
+use Rattle.net_builder.specs.Building.{Building, with_register, signal, declared_at, start_bits}
 use Rattle.flat_runs.specs.Parts.{AreStored}
 use Rattle.proc_muxes.specs.declared.choice.Choice.{Choice}
 use Rattle.process_cells.specs.Processes.{AreNamed, CanStore, CanStoreAll, StoresOne, Stores}

@@ -12,8 +12,8 @@ use Rattle.vlog_meaning.specs.Scopes.{Names, Store}
 use Rattle.vlog_effects.specs.Effects.{numbers, left_by}
 use Rattle.vlog_effects.specs.Expressions.{bits_of}
 use Rattle.vlog_effects.specs.Steps.{Steps, steps_of}
-use Rattle.elab_expr.specs.declared.builder.Joint.{Joint}
-use Rattle.elab_expr.specs.Building.{Building, signal}
+use Rattle.net_builder.specs.declared.builder.Joint.{Joint}
+use Rattle.net_builder.specs.Building.{Building, signal}
 use Rattle.flat_runs.specs.Meanings.{Meaning}
 use Rattle.flat_runs.specs.Meanings as m
 use Rattle.flat_runs.specs.Adding.{AddsItem}

@@ -10,8 +10,8 @@ use Rattle.netlist_core.specs.declared.port.Register.{Register}
 use Rattle.vlog_syntax.specs.declared.item.Process.{Process}
 use Rattle.vlog_meaning.specs.Scopes.{Names}
 use Rattle.vlog_effects.specs.Steps.{Steps, word_of}
-use Rattle.elab_expr.specs.declared.builder.Joint.{Joint}
-use Rattle.elab_expr.specs.Building.{Building, signal, declared_at, start_bits}
+use Rattle.net_builder.specs.declared.builder.Joint.{Joint}
+use Rattle.net_builder.specs.Building.{Building, signal, declared_at, start_bits}
 use Rattle.elab_proc.specs.declared.refusal.Refusal.{Refusal}
 use Rattle.flat_runs.specs.Parts.{with_joints, with_registers}
 use Rattle.process_events.specs.Events.{Sensitivity, Combinational, Clocked, sensitivity}

@@ -9,7 +9,7 @@ use Rattle.vlog_meaning.specs.Scopes.{Names}
 use Rattle.vlog_effects.specs.Effects.{IsBlocking}
 use Rattle.vlog_effects.specs.Steps.{Steps, steps_of}
 use Rattle.vlog_effects.specs.Latches.{targets, latch_of}
-use Rattle.elab_expr.specs.Building.{Building, HasSignals}
+use Rattle.net_builder.specs.Building.{Building, HasSignals}
 use Rattle.flat_runs.specs.Meanings.{Combinational, Clocked}
 use Rattle.flat_runs.specs.Adding.{HasOwnNets, AddsItem}
 use Rattle.flat_runs.specs.Parts.{StandsBelow as Stands}

@@ -9,8 +9,8 @@ use Rattle.vlog_effects.specs.Effects.{IsBlocking, Values, numbers, left_by}
 use Rattle.vlog_effects.specs.Expressions.{bits_of}
 use Rattle.vlog_effects.specs.Latches.{targets, latch_of}
 use Rattle.vlog_effects.specs.Steps.{Steps}
-use Rattle.elab_expr.specs.declared.builder.Joint.{Joint}
-use Rattle.elab_expr.specs.Building.{Building, signal, with_signal, with_register, start_bits, declared_at}
+use Rattle.net_builder.specs.declared.builder.Joint.{Joint}
+use Rattle.net_builder.specs.Building.{Building, signal, with_signal, with_register, start_bits, declared_at}
 use Rattle.flat_runs.specs.Parts.{AllJoin, AreStored, with_joints, with_registers}
 use Rattle.process_latches.specs.declared.marks.Write.{Write}
 use Rattle.process_latches.specs.Sound.{sound}

@@ -3,7 +3,7 @@ use Rattle.std.specs.Prelude.{◌≡◌, ℕ, Bool, false, List, [], ◌∷◌, 
 use Rattle.netlist_core.specs.declared.bit.Bit.{Bit}
 use Rattle.vlog_effects.specs.Steps.{Steps}
 use Rattle.vlog_effects.specs.Latches.{Target}
-use Rattle.elab_expr.specs.Building.{Building, AllBelow, signal}
+use Rattle.net_builder.specs.Building.{Building, AllBelow, signal}
 use Rattle.elab_proc.specs.Refusals.{step_refusals}
 use Rattle.proc_muxes.specs.Builds.{Work}
 use Rattle.proc_muxes.specs.Working.{pending_of}

@@ -7,7 +7,7 @@ use Rattle.vlog_meaning.specs.Senses.{sense, assigned}
 use Rattle.vlog_effects.specs.Effects.{State, effect}
 use Rattle.vlog_effects.specs.Expressions.{number}
 use Rattle.vlog_effects.specs.Steps.{Steps}
-use Rattle.elab_expr.specs.Building.{Building, signal, start_bits}
+use Rattle.net_builder.specs.Building.{Building, signal, start_bits}
 use Rattle.process_events.specs.Events.{Sensitivity, Once, sensitivity}
 use Rattle.process_cells.specs.Items.{Widths, process_steps, effect_of}
 

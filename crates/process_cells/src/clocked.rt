@@ -2,8 +2,8 @@
 ghost use Rattle.std.specs.Prelude.{◌≡◌, ◌+◌, false, length, OnOk, IfErr};
 ghost use Rattle.vlog_meaning.specs.Scopes.{names_of};
 ghost use Rattle.vlog_effects.specs.Steps.{steps_of};
-ghost use Rattle.elab_expr.specs.Building.{HasSignals};
-ghost use Rattle.elab_expr.specs.Refusals.{IsShort};
+ghost use Rattle.net_builder.specs.Building.{HasSignals};
+ghost use Rattle.net_builder.specs.Refusals.{IsShort};
 ghost use Rattle.elab_proc.specs.Refusals.{AreSized};
 ghost use Rattle.flat_runs.specs.Meanings.{Clocked};
 ghost use Rattle.flat_runs.specs.Adding.{HasOwnNets, AddsItem};
@@ -14,7 +14,7 @@ ghost use Rattle.process_cells.specs.Processes.{variables, process_effect, HasOn
 
 use crate::registers::store_all;
 use crate::waiting::all_waiting;
-use elab_expr::{Builder, ElabError};
+use net_builder::{Builder, ElabError};
 use proc_muxes::{Variables, build_statement, set_aside};
 use vlog_meaning::Scope;
 use vlog_syntax::Stmt;

@@ -3,8 +3,8 @@ ghost use Rattle.std.specs.Prelude.{◌≡◌, ◌+◌, true, false, None, lengt
 ghost use Rattle.vlog_meaning.specs.Scopes.{names_of};
 ghost use Rattle.vlog_effects.specs.Latches.{latch_of};
 ghost use Rattle.vlog_effects.specs.Steps.{steps_of};
-ghost use Rattle.elab_expr.specs.Building.{HasSignals};
-ghost use Rattle.elab_expr.specs.Refusals.{IsShort};
+ghost use Rattle.net_builder.specs.Building.{HasSignals};
+ghost use Rattle.net_builder.specs.Refusals.{IsShort};
 ghost use Rattle.elab_proc.specs.Refusals.{AreSized};
 ghost use Rattle.flat_runs.specs.Meanings.{Combinational};
 ghost use Rattle.flat_runs.specs.Adding.{HasOwnNets, AddsItem};
@@ -15,7 +15,7 @@ ghost use Rattle.process_cells.specs.Processes.{variables, process_effect, Combi
 
 use crate::joints::rejoin_all;
 use crate::kept::{all_kept, blank};
-use elab_expr::{Builder, ElabError};
+use net_builder::{Builder, ElabError};
 use proc_muxes::{Variables, build_statement};
 use vlog_meaning::Scope;
 use vlog_syntax::Stmt;

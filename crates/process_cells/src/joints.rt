@@ -1,12 +1,12 @@
 //! The own bits of variables are joined to the bits that these have at the end.
 ghost use Rattle.std.specs.Prelude.{◌≡◌, ◌<◌, ◌∷◌, [], List, length, OnOk};
-ghost use Rattle.elab_expr.specs.Building.{signal};
+ghost use Rattle.net_builder.specs.Building.{signal};
 ghost use Rattle.flat_runs.specs.Parts.{with_joints};
 ghost use Rattle.process_cells.specs.declared.kept.Kept.{Kept as Variable};
 ghost use Rattle.process_cells.specs.Processes.{joints_of, rejoined, all_rejoined, AllReturn};
 
 use crate::kept::Kept;
-use elab_expr::{Builder, copied_bits};
+use net_builder::{Builder, copied_bits};
 use netlist_core::Bit;
 use std::alloc::AllocError;
 

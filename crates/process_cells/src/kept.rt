@@ -1,9 +1,9 @@
 //! Variables of a process with bits that are kept for them, and zeros in their place.
 ghost use Rattle.std.specs.Prelude.{◌≡◌, ◌<◌, ◌∷◌, [], ◌++◌, map, length, IfOk, OnOk};
-ghost use Rattle.elab_expr.specs.Building.{signal, with_signal};
+ghost use Rattle.net_builder.specs.Building.{signal, with_signal};
 ghost use Rattle.process_cells.specs.Processes.{AllKnown, zeros, blank, kept_of, all_kept};
 
-use elab_expr::{Builder, copied_bits};
+use net_builder::{Builder, copied_bits};
 use netlist_core::{Bit, BitList};
 use std::alloc::{AllocError, Global};
 

@@ -1,10 +1,10 @@
 //! Registers of variables, with their names, places and start values.
 ghost use Rattle.std.specs.Prelude.{◌≡◌, ◌<◌, length, IfOk, OnOk};
-ghost use Rattle.elab_expr.specs.Building.{declared_at};
+ghost use Rattle.net_builder.specs.Building.{declared_at};
 ghost use Rattle.process_cells.specs.Processes.{CanStore, CanStoreAll, StoresOne, Stores};
 
-use elab_expr::{Builder, copied_bits};
 use mcy_base::Text;
+use net_builder::{Builder, copied_bits};
 use proc_muxes::Choice;
 use std::alloc::AllocError;
 

@@ -5,14 +5,14 @@ ghost use Rattle.vlog_syntax.specs.declared.left_side.LeftSide.{out-LeftSide};
 ghost use Rattle.vlog_meaning.specs.Scopes.{Store, names_of};
 ghost use Rattle.vlog_meaning.specs.Senses.{sense, assigned, constant_faults_at};
 ghost use Rattle.vlog_effects.specs.Steps.{name_alone, assigning, Assign, Done, in_turn, steps_of};
-ghost use Rattle.elab_expr.specs.Building.{HasSignals, signal, with_start};
+ghost use Rattle.net_builder.specs.Building.{HasSignals, signal, with_start};
 ghost use Rattle.elab_proc.specs.Refusals.{AreSized};
 ghost use Rattle.process_latches.specs.Initial.{assignment_refusals, initial_refusals};
 ghost use Rattle.process_latches.specs.Refused.{process_refusals};
 ghost use Rattle.process_cells.specs.Items.{widths_in};
 ghost use Rattle.process_cells.specs.Starts.{assigned_value, process_starts, StartsWith, SameButStarts, GoesOn};
 
-use elab_expr::Builder;
+use net_builder::Builder;
 use process_events::{Sensitivity, sensitivity_of};
 use vlog_meaning::{Decl, Scope, constant_at};
 use vlog_syntax::{Assignment, Expr, LeftSide, Process, Stmt};

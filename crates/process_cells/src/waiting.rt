@@ -1,10 +1,10 @@
 //! The own bits of variables wait before the statements of a clocked process.
 ghost use Rattle.std.specs.Prelude.{◌≡◌, ◌<◌, [], length, replicate, slice_set, IfOk, OnOk};
-ghost use Rattle.elab_expr.specs.Building.{signal};
+ghost use Rattle.net_builder.specs.Building.{signal};
 ghost use Rattle.process_cells.specs.Processes.{AllKnown, all_waiting};
 ghost use Rattle.process_cells.specs.Ready.{HasPlaces};
 
-use elab_expr::{Builder, copied_bits};
+use net_builder::{Builder, copied_bits};
 use netlist_core::BitList;
 use proc_muxes::Variables;
 use std::alloc::{AllocError, Global};

@@ -8,7 +8,7 @@ ghost use Rattle.tb_assigns.specs.Updates.{AreParts};
 use crate::piece::{
     Piece, bit_piece, indexed_piece, range_piece, range_size, vector_of, whole_piece,
 };
-use elab_expr::{bound_of, count_of};
+use expr_plans::{bound_of, count_of};
 use rand_pcg::Lcg64Xsh32;
 use std::alloc::AllocError;
 use tb_values::Moment;

@@ -8,7 +8,7 @@ ghost use Rattle.vlog_effects.specs.LeftSides.{Whole, Bit, Range, Indexed, Vecto
 ghost use Rattle.tb_assigns.specs.Pieces.{vector_is, IsDrawn};
 ghost use Rattle.tb_assigns.specs.Updates.{IsPart, index_drawn};
 
-use elab_expr::{bound_of, count_of};
+use expr_plans::{bound_of, count_of};
 use mcy_base::Span;
 use rand_pcg::Lcg64Xsh32;
 use std::alloc::AllocError;

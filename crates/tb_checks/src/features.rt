@@ -4,7 +4,7 @@ ghost use Rattle.vlog_meaning.specs.Answers.{least};
 ghost use Rattle.vlog_meaning.specs.Scopes.{names_of};
 ghost use Rattle.vlog_meaning.specs.Senses.{sense, senses, is_division, index_features, binary_features, all_features};
 
-use elab_expr::is_constant;
+use expr_plans::is_constant;
 use mcy_base::Span;
 use vlog_meaning::{Cause, Decl, Fault, Scope, earlier};
 use vlog_syntax::{BinaryOperator, Expr, Identifier};
@@ -60,7 +60,7 @@ fn is_division(op: BinaryOperator) -> bool
 }
 
 /// A division or power of what is no constant.
-#[tactic(auto, using(elab_expr::proofs::Plans::both_empty), unfolding(vlog_meaning::specs::Answers::earlier, vlog_meaning::specs::Answers::least))]
+#[tactic(auto, using(expr_plans::proofs::Plans::both_empty), unfolding(vlog_meaning::specs::Answers::earlier, vlog_meaning::specs::Answers::least))]
 fn division_feature(
     scope: &Scope,
     span: Span,

@@ -12,7 +12,7 @@ ghost use Rattle.tb_formulas.specs.Made.{Makes};
 use crate::formula::Formula;
 use crate::parts::{fixed, indexed};
 use crate::signals::{name_formula, number_formula};
-use elab_expr::{bound_of, count_of, is_constant};
+use expr_plans::{bound_of, count_of, is_constant};
 use std::alloc::{AllocError, Global};
 use vlog_meaning::{
     Bound, Decl, Function, Scope, Shape, clog2, function_of, operand_context, part_width, shape_of,

@@ -11,7 +11,7 @@ ghost use Rattle.tb_plans.specs.Transfers.{target_updates, TargetFits};
 
 use crate::target::Target;
 use crate::value::own_value_of;
-use elab_expr::count_of;
+use expr_plans::count_of;
 use mcy_base::Span;
 use std::alloc::{AllocError, Global};
 use tb_assigns::{Piece, Vector, clip_of, positive, range_piece, vector_of, whole_piece};

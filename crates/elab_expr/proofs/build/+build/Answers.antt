@@ -12,10 +12,11 @@ use Rattle.vlog_meaning.specs.Senses.{sense, senses, total_width, joined}
 use Rattle.vlog_meaning.proofs.Contexts.{own_context, context_sized}
 use Rattle.vlog_meaning.proofs.Whole as whole
 use Rattle.vlog_meaning.proofs.Whole.{element_whole}
-use Rattle.elab_expr.specs.Made.{plans, all_cells}
+use Rattle.expr_plans.specs.Made.{plans, all_cells}
 use Rattle.elab_expr.proofs.Growing.{folded_evaluates, held, signals_kept, short_before, short_after}
-use Rattle.elab_expr.proofs.Operands.{sized_as, operand_is, left_is, right_is, right_fits, element_supported, both_ok, same_err, place_built}
-use Rattle.elab_expr.proofs.Parts.{below_later, grown_nets, grows_again}
+use Rattle.elab_expr.proofs.Operands.{sized_as, operand_is, left_is, right_is, right_fits, element_supported, both_ok, place_built}
+use Rattle.net_builder.proofs.Handed.{same_err}
+use Rattle.net_builder.proofs.Parts.{below_later, grown_nets, grows_again}
 use Rattle.elab_expr.proofs.Arms.{same_short, unary_cells_are, unary_built, binary_cells_are, binary_built, condition_cells_are, condition_built, choice_adds, conditional_built, pick_cells_are, pick_built, joins_none, joins_more, joins_short, joined_extended, joined_fits, replicated_built}
 use Rattle.elab_expr.proofs.Facts as fact
 use Rattle.elab_expr.specs.Laid.{showing, layout, lay_arms, lay_condition}

@@ -5,7 +5,7 @@ use Rattle.vlog_meaning.specs.Senses.{sense, fault}
 use Rattle.vlog_meaning.proofs.Blanks.{left_nil}
 use Rattle.vlog_meaning.proofs.Firsts.{least_none}
 use Rattle.vlog_meaning.proofs.Refusals.{kept, passed}
-use Rattle.elab_expr.specs.Made.{plan}
+use Rattle.expr_plans.specs.Made.{plan}
 use Rattle.elab_expr.proofs.expression.refusal.Goals as goal
 
 pub zero_in-requires-clause-whole : goal.zero_in-requires-clause-whole

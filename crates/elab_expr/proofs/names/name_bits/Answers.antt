@@ -1,6 +1,6 @@
 use Rattle.std.proofs.Common.{ap, ◌∙◌}
 use Rattle.vlog_meaning.specs.Scopes.{decl_value}
-use Rattle.elab_expr.specs.Building.{store}
+use Rattle.net_builder.specs.Building.{store}
 use Rattle.elab_expr.specs.Laid.{name_bits}
 use Rattle.elab_expr.proofs.names.name_bits.Goals as goal
 

@@ -1,5 +1,5 @@
 use Rattle.std.proofs.Common.{◌-◌, ◌+◌, ◌%◌, nat_eq, List, arith, ap, ◌∙◌, subst, sym}
-use Rattle.elab_expr.specs.Building.{AllBelow}
+use Rattle.net_builder.specs.Building.{AllBelow}
 use Rattle.netlist_core.specs.declared.bit.Bit.{Bit}
 use Rattle.netlist_core.specs.declared.bit.Bit.TheVariants.{Fixed}
 use Rattle.netlist_core.specs.Numbers.{number}

@@ -1,7 +1,7 @@
 use Rattle.std.proofs.Common.{◌≡◌, ◌+◌, ◌-◌, ◌*◌, ◌<◌, ◌^◌, ◌++◌, ℕ, length}
 use Rattle.netlist_core.specs.Numbers.{number}
 use Rattle.netlist_core.specs.Runs.{Nets, values}
-use Rattle.elab_expr.specs.Building.{AllBelow}
+use Rattle.net_builder.specs.Building.{AllBelow}
 use Rattle.elab_expr.specs.Laid.{number_bits}
 use Rattle.elab_expr.proofs.wiring.constant_bits.Given as goal
 

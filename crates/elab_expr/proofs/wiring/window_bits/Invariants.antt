@@ -2,7 +2,7 @@ use Rattle.std.proofs.Common.{◌≡◌, ℕ, pos, ◌-ℤ◌, length}
 use Rattle.netlist_core.specs.Numbers.{number}
 use Rattle.netlist_core.specs.Runs.{Nets, values}
 use Rattle.vlog_meaning.specs.Integers.{window, bound_integer}
-use Rattle.elab_expr.specs.Building.{AllBelow}
+use Rattle.net_builder.specs.Building.{AllBelow}
 use Rattle.elab_expr.specs.Laid.{bits_from}
 use Rattle.elab_expr.proofs.wiring.window_bits.Given as goal
 

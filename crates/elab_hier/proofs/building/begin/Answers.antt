@@ -3,7 +3,7 @@ use Rattle.vlog_meaning.specs.Scopes.{Store}
 use Rattle.flat_scopes.specs.declared.signal.Signal.{Signal}
 use Rattle.flat_instances.specs.declared.item.FlatItem.{FlatItem}
 use Rattle.flat_items.specs.Views.{flat_of}
-use Rattle.elab_expr.specs.Building.{empty}
+use Rattle.net_builder.specs.Building.{empty}
 use Rattle.process_cells.specs.Items.{widths_in}
 use Rattle.process_cells.specs.Starts.{StartsWith}
 use Rattle.elab_items.specs.Signals.{bits_of, declared, max_bits}

@@ -1,7 +1,7 @@
 use Rattle.std.proofs.Common.{length}
 use Rattle.vlog_meaning.specs.Answers.{least}
 use Rattle.vlog_meaning.specs.Scopes.{names_of}
-use Rattle.elab_expr.specs.Building.{signal}
+use Rattle.net_builder.specs.Building.{signal}
 use Rattle.flat_assigns.specs.Values.{right_refusals}
 use Rattle.elab_items.proofs.Building.{input_fails, nothing_refused}
 use Rattle.elab_items.proofs.connection.enter.Goals as goal

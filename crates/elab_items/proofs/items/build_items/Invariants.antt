@@ -1,5 +1,5 @@
 use Rattle.std.proofs.Common.{length}
-use Rattle.elab_expr.specs.Building.{Building}
+use Rattle.net_builder.specs.Building.{Building}
 use Rattle.flat_items.specs.Views.{flat_of}
 use Rattle.flat_clocks.specs.Views.{clocks_in}
 use Rattle.elab_items.specs.declared.error.BuildError.{BuildError}

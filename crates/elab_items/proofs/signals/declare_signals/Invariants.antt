@@ -1,5 +1,5 @@
 use Rattle.std.proofs.Common.{◌≡◌, ◌+◌, ◌≤◌, length}
-use Rattle.elab_expr.specs.Building.{empty, own_bits}
+use Rattle.net_builder.specs.Building.{empty, own_bits}
 use Rattle.flat_laws.specs.Sound.{AreSized}
 use Rattle.elab_items.specs.Signals.{bits_of, declared, max_bits}
 use Rattle.elab_items.proofs.signals.declare_signals.Given as goal

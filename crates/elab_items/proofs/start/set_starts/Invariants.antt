@@ -1,6 +1,6 @@
 use Rattle.std.proofs.Common.{length}
 use Rattle.vlog_meaning.specs.Scopes.{Store}
-use Rattle.elab_expr.specs.Building.{Building}
+use Rattle.net_builder.specs.Building.{Building}
 use Rattle.process_cells.specs.Items.{widths_in}
 use Rattle.process_cells.specs.Starts.{SameButStarts, StartsWith}
 use Rattle.flat_items.specs.Views.{flat_of}

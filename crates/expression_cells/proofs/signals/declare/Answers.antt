@@ -2,7 +2,7 @@ use Rattle.std.proofs.Common.{◌≡◌, ◌+◌, ◌∙◌, ap, length, rules}
 use Rattle.std.specs.Prelude.{Some}
 use Rattle.vlog_meaning.specs.declared.scope.Decl.TheVariants.{Signal}
 use Rattle.vlog_meaning.specs.Scopes.{names_of, with_name}
-use Rattle.elab_expr.specs.Building.{Building, own_bits, with_declared}
+use Rattle.net_builder.specs.Building.{Building, own_bits, with_declared}
 use Rattle.expression_cells.proofs.Declaring.{declares, bits_more, where_some}
 use Rattle.expression_cells.proofs.signals.declare.Goals as goal
 

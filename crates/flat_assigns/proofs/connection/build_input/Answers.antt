@@ -5,10 +5,10 @@ use Rattle.vlog_meaning.specs.declared.shapes.Shape.{Shape}
 use Rattle.vlog_meaning.specs.Answers.{least}
 use Rattle.vlog_meaning.specs.Scopes.{names_of}
 use Rattle.vlog_meaning.specs.Senses.{IsWhole}
-use Rattle.elab_expr.specs.Building.{signal}
-use Rattle.elab_expr.specs.Expressions.{elab_error}
-use Rattle.elab_expr.specs.Made.{made}
-use Rattle.elab_expr.specs.Refusals.{IsShort}
+use Rattle.net_builder.specs.Building.{signal}
+use Rattle.net_builder.specs.Errors.{elab_error}
+use Rattle.expr_plans.specs.Made.{made}
+use Rattle.net_builder.specs.Refusals.{IsShort}
 use Rattle.flat_assigns.specs.Values.{right_shape}
 use Rattle.flat_assigns.proofs.Adding.{own_between, signals_between, input_built}
 use Rattle.flat_assigns.proofs.Laying.{input_laid}

@@ -4,10 +4,10 @@ use Rattle.vlog_meaning.specs.Scopes.{names_of}
 use Rattle.vlog_meaning.specs.Senses.{sense}
 use Rattle.vlog_effects.specs.LeftSides.{parts_of, parts_width}
 use Rattle.vlog_effects.specs.Steps.{Assign, Done, assigning}
-use Rattle.elab_expr.specs.Building.{AllBelow}
-use Rattle.elab_expr.specs.Refusals.{IsShort}
+use Rattle.net_builder.specs.Building.{AllBelow}
+use Rattle.net_builder.specs.Refusals.{IsShort}
 use Rattle.elab_expr.proofs.Growing.{signals_kept}
-use Rattle.elab_expr.proofs.Operands.{same_err}
+use Rattle.net_builder.proofs.Handed.{same_err}
 use Rattle.proc_muxes.specs.declared.piece.Piece.{Piece}
 use Rattle.proc_muxes.specs.Counts.{pieces_cells}
 use Rattle.proc_muxes.specs.Pieces.{AreHeldPieces, MakesPieces, piece_targets}

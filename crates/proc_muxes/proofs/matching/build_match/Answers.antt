@@ -1,8 +1,8 @@
 use Rattle.std.proofs.Common.{arith}
 use Rattle.vlog_meaning.specs.Scopes.{names_of}
 use Rattle.elab_expr.proofs.Growing.{signals_kept}
-use Rattle.elab_expr.proofs.Operands.{same_err}
-use Rattle.elab_expr.proofs.Parts.{below_later, grown_nets}
+use Rattle.net_builder.proofs.Handed.{same_err}
+use Rattle.net_builder.proofs.Parts.{below_later, grown_nets}
 use Rattle.proc_muxes.proofs.Labelling.{clear-at, match-first, match-more, match-end, label-short, lor-short}
 use Rattle.proc_muxes.proofs.matching.build_match.Goals as goal
 

@@ -9,13 +9,13 @@ use Rattle.vlog_meaning.specs.declared.scope.Decl.TheVariants.{Constant}
 use Rattle.vlog_meaning.specs.Scopes.{Names, names_of, with_name}
 use Rattle.vlog_effects.specs.Laws.{item_steps}
 use Rattle.vlog_effects.specs.Steps.{Steps, assigning, steps_of, else_steps, done_by, labelled}
-use Rattle.elab_expr.specs.Building.{HasSignals}
-use Rattle.elab_expr.specs.Made.{made}
-use Rattle.elab_expr.specs.Refusals.{IsShort}
-use Rattle.elab_expr.specs.declared.error.ElabError.{ElabError}
+use Rattle.net_builder.specs.Building.{HasSignals}
+use Rattle.expr_plans.specs.Made.{made}
+use Rattle.net_builder.specs.Refusals.{IsShort}
+use Rattle.net_builder.specs.declared.error.ElabError.{ElabError}
 use Rattle.elab_expr.proofs.Growing.{signals_kept}
-use Rattle.elab_expr.proofs.Operands.{same_err}
-use Rattle.elab_expr.proofs.Parts.{below_later}
+use Rattle.net_builder.proofs.Handed.{same_err}
+use Rattle.net_builder.proofs.Parts.{below_later}
 use Rattle.elab_proc.specs.Refusals.{labels_in}
 use Rattle.elab_proc.specs.Turns.{loop_of, turn_steps, GoesOn}
 use Rattle.elab_proc.proofs.TurnLemmas.{some_after, alike_after, put_back}

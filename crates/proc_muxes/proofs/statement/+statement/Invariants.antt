@@ -4,7 +4,7 @@ use Rattle.vlog_syntax.specs.declared.stmt.Stmt.TheViews.{size-Stmt}
 use Rattle.vlog_meaning.specs.Scopes.{names_of}
 use Rattle.vlog_effects.specs.Laws.{item_steps}
 use Rattle.vlog_effects.specs.Steps.{Selection, steps_of, in_turn, labelled}
-use Rattle.elab_expr.specs.Building.{Building}
+use Rattle.net_builder.specs.Building.{Building}
 use Rattle.elab_expr.specs.Evaluates.{Evaluates}
 use Rattle.case_arms.specs.Naming.{IsOf}
 use Rattle.elab_proc.specs.Turns.{loop_of, AlikeBut}

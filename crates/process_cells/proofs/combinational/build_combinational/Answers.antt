@@ -1,8 +1,8 @@
 use Rattle.std.proofs.Common.{true, ◌≡◌, ◌+◌, ℕ, List, length, sym, subst, ap, ◌∙◌}
 use Rattle.vlog_meaning.specs.Scopes.{names_of}
 use Rattle.vlog_effects.specs.Steps.{steps_of}
-use Rattle.elab_expr.specs.Refusals.{IsShort}
-use Rattle.elab_expr.proofs.Operands.{same_err}
+use Rattle.net_builder.specs.Refusals.{IsShort}
+use Rattle.net_builder.proofs.Handed.{same_err}
 use Rattle.proc_muxes.specs.Counts.{cells_of}
 use Rattle.process_cells.specs.declared.kept.Kept.{Kept}
 use Rattle.process_cells.specs.Processes.{AllKnown, AllReturn, variables, blank, all_kept}

@@ -3,7 +3,7 @@ use Rattle.std.specs.Prelude.{OnOk, IfErr}
 use Rattle.std.proofs.lemmas.Result.{on_ok_weaker}
 use Rattle.vlog_meaning.specs.Scopes.{names_of}
 use Rattle.vlog_effects.specs.Steps.{steps_of}
-use Rattle.elab_expr.specs.Refusals.{IsShort}
+use Rattle.net_builder.specs.Refusals.{IsShort}
 use Rattle.process_events.specs.declared.sensitivity.Sensitivity.{Sensitivity}
 use Rattle.process_events.specs.Events.{said}
 use Rattle.process_cells.specs.Items.{cells_by, AddsBy, IsFit}

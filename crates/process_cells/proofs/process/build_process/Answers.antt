@@ -1,6 +1,6 @@
 use Rattle.std.proofs.Common.{sym, subst}
 use Rattle.vlog_meaning.specs.Scopes.{Names, names_of}
-use Rattle.elab_expr.specs.Building.{HasSignals}
+use Rattle.net_builder.specs.Building.{HasSignals}
 use Rattle.elab_proc.specs.Refusals.{AreSized}
 use Rattle.process_latches.specs.Refused.{process_refusals}
 use Rattle.process_cells.proofs.Items.{first_stays, accepted_stays, adds_stays, short_stays, kept_stays, fit_stays, no_memory}

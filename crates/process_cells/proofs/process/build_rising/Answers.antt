@@ -2,8 +2,8 @@ use Rattle.std.proofs.Common.{◌+◌, false, length, sym, subst, ap, ◌∙◌}
 use Rattle.std.proofs.lemmas.Result.{IfErr-weaker, on_ok_weaker}
 use Rattle.vlog_meaning.specs.Scopes.{Names, names_of}
 use Rattle.vlog_effects.specs.Steps.{steps_of}
-use Rattle.elab_expr.specs.Building.{HasSignals}
-use Rattle.elab_expr.specs.Refusals.{IsShort}
+use Rattle.net_builder.specs.Building.{HasSignals}
+use Rattle.net_builder.specs.Refusals.{IsShort}
 use Rattle.elab_proc.specs.Refusals.{AreSized}
 use Rattle.process_events.specs.Events as v
 use Rattle.proc_muxes.specs.Counts.{cells_of}

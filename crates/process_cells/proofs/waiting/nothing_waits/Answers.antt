@@ -1,7 +1,7 @@
 use Rattle.std.proofs.Common.{◌≡◌, ℕ, zero, suc, List, [], length, replicate, refl, sym, ap, ◌∙◌, subst}
 use Rattle.std.proofs.lemmas.List.{length-replicate}
 use Rattle.netlist_core.specs.declared.bit.Bit.{Bit}
-use Rattle.elab_expr.specs.Building.{Building, AllBelow}
+use Rattle.net_builder.specs.Building.{Building, AllBelow}
 use Rattle.proc_muxes.specs.Working.{pending_of}
 use Rattle.process_cells.specs.Ready.{HasPlaces}
 use Rattle.process_cells.proofs.waiting.nothing_waits.Goals as goal

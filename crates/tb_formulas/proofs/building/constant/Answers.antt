@@ -1,6 +1,6 @@
 use Rattle.std.proofs.Common.{[], sym, ◌∙◌}
 use Rattle.vlog_meaning.specs.Scopes.{names_of, store_of}
-use Rattle.elab_expr.proofs.Plans.{constant_value}
+use Rattle.expr_plans.proofs.Plans.{constant_value}
 use Rattle.tb_formulas.proofs.building.constant.Goals as goal
 
 pub returns-then-is_constant-clause-means : goal.returns-then-is_constant-clause-means

@@ -2,7 +2,7 @@ use Rattle.std.proofs.Common.{◌≡◌, ℕ, List, length, Some, false, subst, 
 use Rattle.mcy_base.specs.declared.span.Span.{Span}
 use Rattle.vlog_meaning.specs.declared.scope.Decl.TheVariants.{Signal}
 use Rattle.vlog_meaning.specs.Scopes.{Names, names_of, with_name}
-use Rattle.elab_expr.specs.Building.{Building, HasSignals, with_declared}
+use Rattle.net_builder.specs.Building.{Building, HasSignals, with_declared}
 use Rattle.flat_assigns.specs.Built.{IsReady}
 use Rattle.assign_cases.proofs.Sound.{declared_ready, declared_signals}
 use Rattle.assign_cases.proofs.bench.Bench.declare.Goals as goal

@@ -1,7 +1,7 @@
 use Rattle.std.proofs.Common.{◌≡◌, ℕ, false, set, inl, inr, sym, ◌∙◌, subst, arith}
 use Rattle.std.proofs.lemmas.Bool.{false≢true}
 use Rattle.std.proofs.lemmas.List.{length-set}
-use Rattle.elab_expr.proofs.Following.{loop_goes, loop_next}
+use Rattle.net_builder.proofs.Following.{loop_goes, loop_next}
 use Rattle.elab_finish.specs.declared.search.Mark.TheVariants.{Looped}
 use Rattle.elab_finish.specs.Loops.{next_of}
 use Rattle.elab_finish.specs.Searching.{mark_in}

@@ -1,5 +1,5 @@
 use Rattle.std.proofs.Common.{◌≡◌, ◌≢◌, ◌⊎◌, ◌<◌, ℕ, length}
-use Rattle.elab_expr.specs.declared.steps.Step.TheVariants.{On}
+use Rattle.net_builder.specs.declared.steps.Step.TheVariants.{On}
 use Rattle.elab_finish.specs.declared.search.Mark.TheVariants.{Unknown, Looped}
 use Rattle.elab_finish.specs.Loops.{next_of, IsLooped}
 use Rattle.elab_finish.specs.Searching.{mark_in, tally, one_open, IsWalked, IsRounded}

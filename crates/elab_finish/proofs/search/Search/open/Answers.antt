@@ -1,5 +1,5 @@
 use Rattle.std.proofs.Common.{◌≡◌, refl, subst}
-use Rattle.elab_expr.specs.declared.steps.Step.TheVariants.{On}
+use Rattle.net_builder.specs.declared.steps.Step.TheVariants.{On}
 use Rattle.elab_finish.specs.declared.search.Mark.TheVariants.{From}
 use Rattle.elab_finish.specs.Loops.{next_of}
 use Rattle.elab_finish.specs.Searching.{IsNext}

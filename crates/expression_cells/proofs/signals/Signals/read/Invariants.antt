@@ -1,6 +1,6 @@
 use Rattle.std.proofs.Common.{◌≡◌, length}
 use Rattle.vlog_meaning.specs.Scopes.{names_of}
-use Rattle.elab_expr.specs.Building.{HasSignals, own_bits}
+use Rattle.net_builder.specs.Building.{HasSignals, own_bits}
 use Rattle.expression_cells.proofs.signals.Signals.read.Given as goal
 
 abbrev pub invariant-loop-word : goal.invariant-loop-word

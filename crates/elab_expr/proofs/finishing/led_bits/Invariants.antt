@@ -1,7 +1,0 @@
-use Rattle.std.proofs.Common.{◌≡◌, take}
-use Rattle.elab_expr.specs.Finished.{all_led}
-use Rattle.elab_expr.specs.Tracing.{known_of, end_in}
-use Rattle.elab_expr.proofs.finishing.led_bits.Given as goal
-
-abbrev pub invariant-loop-bit : goal.invariant-loop-bit
-invariant-loop-bit l = l.found.items ≡ all_led (end_in (known_of l.trace)) (take l.bit-index l.bits)

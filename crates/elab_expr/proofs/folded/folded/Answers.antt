@@ -1,0 +1,13 @@
+use Rattle.std.proofs.Common.{◌∙◌, []}
+use Rattle.vlog_meaning.specs.Scopes.{names_of, store_of}
+use Rattle.expr_plans.proofs.Plans.{constant_value}
+use Rattle.std.proofs.Common.{ap}
+use Rattle.vlog_meaning.specs.Scopes.{nothing}
+use Rattle.elab_expr.specs.Laid.{number_bits}
+use Rattle.elab_expr.proofs.folded.folded.Goals as goal
+
+pub returns-clause-value : goal.returns-clause-value
+returns-clause-value c = λ nets signals. c.in_ok-constant_bits.ensures.value nets ∙ c.value_of.ensures.value ∙ constant_value (names_of c.args.scope.now) c.args.expr.now (store_of []) signals c.args.context c.requires.constant
+
+pub returns-clause-is : goal.returns-clause-is
+returns-clause-is c = c.in_ok-constant_bits.ensures.is ∙ ap (number_bits c.args.context.width) (c.value_of.ensures.value ∙ constant_value (names_of c.args.scope.now) c.args.expr.now (store_of []) nothing c.args.context c.requires.constant)

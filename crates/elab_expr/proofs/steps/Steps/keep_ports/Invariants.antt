@@ -1,7 +1,0 @@
-use Rattle.std.proofs.Common.{◌≡◌, drop}
-use Rattle.netlist_core.specs.Runs.{bits_at}
-use Rattle.elab_expr.specs.Stepping.{next_in, after_all_kept}
-use Rattle.elab_expr.proofs.steps.Steps.keep_ports.Given as goal
-
-abbrev pub invariant-loop-port : goal.invariant-loop-port
-invariant-loop-port l = after_all_kept (bits_at (drop l.port-index l.ports)) (next_in l.self) ≡ after_all_kept (bits_at l.ports) (next_in l.initial.self)

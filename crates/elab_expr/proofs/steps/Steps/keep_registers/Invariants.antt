@@ -1,7 +1,0 @@
-use Rattle.std.proofs.Common.{◌≡◌, drop}
-use Rattle.netlist_core.specs.Runs.{q_bits}
-use Rattle.elab_expr.specs.Stepping.{next_in, after_all_kept}
-use Rattle.elab_expr.proofs.steps.Steps.keep_registers.Given as goal
-
-abbrev pub invariant-loop-register : goal.invariant-loop-register
-invariant-loop-register l = after_all_kept (q_bits (drop l.register-index l.registers)) (next_in l.self) ≡ after_all_kept (q_bits l.registers) (next_in l.initial.self)

@@ -1,7 +1,0 @@
-use Rattle.std.proofs.Common.{◌≡◌, ◌≢◌, ◌<◌, ℕ}
-use Rattle.elab_expr.specs.declared.tracing.Mark.TheVariants.{Unknown}
-use Rattle.elab_expr.specs.Tracing.{known_of, mark_of, IsDone}
-use Rattle.elab_expr.proofs.tracing.Trace.of.Given as goal
-
-abbrev pub invariant-loop-net : goal.invariant-loop-net
-invariant-loop-net l = IsDone (known_of l.trace) × (l.trace.steps ≡ l.initial.trace.steps) × ((n : ℕ) → n < l.net → mark_of (known_of l.trace) n ≢ Unknown)

@@ -1,8 +1,0 @@
-use Rattle.elab_expr.specs.Tracing.{known_of, Keeps, IsTraced, Fits}
-use Rattle.elab_expr.proofs.tracing.Trace.settle.Given as goal
-
-abbrev pub invariant-loop-net : goal.invariant-loop-net
-invariant-loop-net l = IsTraced (known_of l.self) (Fits (known_of l.self) l.mark) × Keeps (known_of l.initial.self) (known_of l.self)
-
-abbrev pub decreases-loop-net : goal.decreases-loop-net
-decreases-loop-net l = goal.left-loop-net l

@@ -1,0 +1,7 @@
+use Rattle.std.proofs.Common.{◌≡◌, take}
+use Rattle.net_builder.specs.Finished.{all_led}
+use Rattle.net_builder.specs.Tracing.{known_of, end_in}
+use Rattle.net_builder.proofs.finishing.led_bits.Given as goal
+
+abbrev pub invariant-loop-bit : goal.invariant-loop-bit
+invariant-loop-bit l = l.found.items ≡ all_led (end_in (known_of l.trace)) (take l.bit-index l.bits)

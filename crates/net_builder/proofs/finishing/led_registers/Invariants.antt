@@ -1,0 +1,7 @@
+use Rattle.std.proofs.Common.{◌≡◌, map, take}
+use Rattle.net_builder.specs.Finished.{led_register}
+use Rattle.net_builder.specs.Tracing.{known_of, end_in}
+use Rattle.net_builder.proofs.finishing.led_registers.Given as goal
+
+abbrev pub invariant-loop-register : goal.invariant-loop-register
+invariant-loop-register l = l.found.items ≡ map (led_register (end_in (known_of l.trace))) (take l.register-index l.registers)
