@@ -8,10 +8,18 @@ use std::alloc::{AllocError, Global};
 use std::marker::Model;
 
 /// Searches for the two texts that decide a verdict.
-#[derive(Drop)]
 pub struct Watch {
     pass: Search,
     fail: Search,
+}
+
+impl Drop for Watch {
+    fn drop(self) {
+        let Watch {
+            pass: _pass,
+            fail: _fail,
+        } = self;
+    }
 }
 
 impl Model for Watch {
