@@ -23,7 +23,6 @@ pub struct Part {
 }
 
 /// What an expression comes to at a width and sign.
-#[derive(Drop)]
 pub enum Formula {
     Number(u128),
     /// A signal, at a width that is not less than its own.
@@ -48,6 +47,25 @@ pub enum Formula {
     Joined(Boxed<Formula>, u8, Boxed<Formula>),
     /// So many times a number of so many bits.
     Repeated(u8, u8, Boxed<Formula>),
+}
+
+impl Drop for Formula {
+    fn drop(self) {
+        match self {
+            Formula::Number(_) => {}
+            Formula::Signal(_, _) => {}
+            Formula::SignedSignal(_, _, _) => {}
+            Formula::Slice(_, _, _) => {}
+            Formula::Select(_, _place) => {}
+            Formula::NumberSelect(_, _, _place) => {}
+            Formula::Extended(_, _, _inner) => {}
+            Formula::Unary(_, _, _inner) => {}
+            Formula::Binary(_, _, _, _first, _second) => {}
+            Formula::Conditional(_condition, _yes, _no) => {}
+            Formula::Joined(_upper, _, _lower) => {}
+            Formula::Repeated(_, _, _inner) => {}
+        }
+    }
 }
 
 /// The value of a signal.
