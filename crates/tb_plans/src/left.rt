@@ -47,8 +47,8 @@ fn indexed(vector: Vector, size: u8, index: Formula, bits: u8) -> Target
     ensures updates { (store : Store) (v : ℕ) → target_updates result store v ≡ window_update (record { vector = vector_is vector; base = pos (formula_value index store); size = size }) v }
     ensures fits { (widths : List ℕ) → FormulaFits widths index → TargetFits widths bits result }
 {
-    if let Formula::Number(at) = index {
-        let base = positive(at);
+    if let Formula::Number(at) = &index {
+        let base = positive(*at);
         return Target::of_clip(clip_of(Piece { vector, base, size }), bits);
     }
     Target::Indexed(vector, size, index)

@@ -9,15 +9,23 @@ use tb_machine::Part;
 use vlog_syntax::Boxed;
 
 /// The plans of the parts of a `for`.
-#[derive(Drop)]
 pub struct Loop {
     pub start: Option<Writing>,
     pub condition: Option<Formula>,
     pub step: Option<Writing>,
 }
 
+impl Drop for Loop {
+    fn drop(self) {
+        let Loop {
+            start: _start,
+            condition: _condition,
+            step: _step,
+        } = self;
+    }
+}
+
 /// What a statement evaluates itself.
-#[derive(Drop)]
 pub enum Plan {
     /// There is no plan.
     Nothing,
@@ -29,6 +37,18 @@ pub enum Plan {
     Writing(Writing),
     /// A `for`.
     Loop(Boxed<Loop>),
+}
+
+impl Drop for Plan {
+    fn drop(self) {
+        match self {
+            Plan::Nothing => {}
+            Plan::Condition(_formula) => {}
+            Plan::Choice(_selection) => {}
+            Plan::Writing(_writing) => {}
+            Plan::Loop(_parts) => {}
+        }
+    }
 }
 
 impl Plan {

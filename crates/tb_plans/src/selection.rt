@@ -9,10 +9,18 @@ use mcy_base::{Items, Word};
 use tb_formulas::Formula;
 
 /// A label, with the bits that are no matter.
-#[derive(Drop)]
 pub struct Label {
     pub value: Formula,
     pub ignored: u128,
+}
+
+impl Drop for Label {
+    fn drop(self) {
+        let Label {
+            value: _value,
+            ignored: _ignored,
+        } = self;
+    }
 }
 
 /// The labels of an item.
@@ -22,11 +30,20 @@ pub struct Arm {
 }
 
 /// A case statement: the selector, the labels of each item, and the number of the default.
-#[derive(Drop)]
 pub struct Selection {
     pub selector: Formula,
     pub arms: Items<Arm>,
     pub default: Option<usize>,
+}
+
+impl Drop for Selection {
+    fn drop(self) {
+        let Selection {
+            selector: _selector,
+            arms: _arms,
+            default: _default,
+        } = self;
+    }
 }
 
 /// Whether a label has the value's bits, but for those that are no matter.

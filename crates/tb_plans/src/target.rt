@@ -13,7 +13,6 @@ use tb_formulas::Formula;
 use tb_machine::Update;
 
 /// Where an assignment writes: bits of one signal.
-#[derive(Drop)]
 pub enum Target {
     /// Always the same ones, and a value has no more: it is written as it is.
     Filled { signal: u32, low: u8, width: u8 },
@@ -21,6 +20,20 @@ pub enum Target {
     Fixed(Clip),
     /// So many, from an index on.
     Indexed(Vector, u8, Formula),
+}
+
+impl Drop for Target {
+    fn drop(self) {
+        match self {
+            Target::Filled {
+                signal: _,
+                low: _,
+                width: _,
+            } => {}
+            Target::Fixed(_) => {}
+            Target::Indexed(_, _, _index) => {}
+        }
+    }
 }
 
 /// The update of so many bits of a signal, from an index on, with a value.

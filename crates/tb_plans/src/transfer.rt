@@ -16,10 +16,18 @@ use tb_machine::Update;
 use vlog_meaning::{Shape, extend};
 
 /// An assignment that draws nothing: a value, and where it goes.
-#[derive(Drop)]
 pub struct Transfer {
     pub value: Formula,
     pub target: Target,
+}
+
+impl Drop for Transfer {
+    fn drop(self) {
+        let Transfer {
+            value: _value,
+            target: _target,
+        } = self;
+    }
 }
 
 /// An assignment of a word of `$random`, at a width and sign.
