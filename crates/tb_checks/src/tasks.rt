@@ -73,7 +73,7 @@ fn format_fault(fits: bool, arguments: &[Argument]) -> Option<BenchFault>
                 Some(BenchFault::Unsupported(*at, Feature::FormatText))
             }
         }
-        [Argument::Expr(_), ..] => None,
+        [Argument::Expr(..), ..] => None,
         [] => None,
     }
 }

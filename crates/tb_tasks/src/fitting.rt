@@ -15,13 +15,13 @@ fn taken(piece: Piece, arguments: &[Argument]) -> Option<usize>
     match piece {
         Piece::Byte(_) => Some(0),
         Piece::Value(_) => match arguments {
-            [Argument::Expr(_), ..] => Some(1),
+            [Argument::Expr(..), ..] => Some(1),
             [Argument::String(..), ..] => None,
             [] => None,
         },
         Piece::String => match arguments {
             [Argument::String(..), ..] => Some(1),
-            [Argument::Expr(_), ..] => None,
+            [Argument::Expr(..), ..] => None,
             [] => None,
         },
     }
@@ -54,7 +54,7 @@ pub fn arguments_fit(alloc: Global, arguments: &[Argument]) -> Result<bool, Allo
                 None => Ok(false),
             }
         }
-        [Argument::Expr(_), ..] => Ok(true),
+        [Argument::Expr(..), ..] => Ok(true),
         [] => Ok(true),
     }
 }

@@ -43,7 +43,7 @@ fn show_piece(
                 text.extend_from_slice(string.as_slice())?;
                 Ok(Some(1))
             }
-            [Argument::Expr(_), ..] => Ok(None),
+            [Argument::Expr(..), ..] => Ok(None),
             [] => Ok(None),
         },
     }

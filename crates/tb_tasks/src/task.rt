@@ -25,7 +25,7 @@ fn show_all(
         [Argument::String(format, _), ..] => {
             show_format(format.as_slice(), &arguments[1..], moment, words, text)
         }
-        [Argument::Expr(_), ..] => show_rest(arguments, moment, words, text),
+        [Argument::Expr(..), ..] => show_rest(arguments, moment, words, text),
         [] => Ok(()),
     }
 }
