@@ -13,10 +13,10 @@ room=$(mktemp -d "$root/out-bench.XXXXXX")
 trap 'rm -rf "$room"' EXIT
 
 . "$root/bench/build.sh"
-build_program sim_cases
+build_program netlist_cases
 program=$room/program
 
-# make FORM WIDTH CELLS CYCLES: the same netlist and inputs as statements of `sim_cases`, or as Verilog.
+# make FORM WIDTH CELLS CYCLES: the same netlist and inputs as statements of `netlist_cases`, or as Verilog.
 make() {
     python3 - "$@" <<'PROGRAM'
 import random, sys
@@ -45,7 +45,7 @@ else:
 PROGRAM
 }
 
-# blocks WIDTH CELLS CYCLES: ten blocks of cells with an input each, one of which changes in a cycle, as statements of `sim_cases`.
+# blocks WIDTH CELLS CYCLES: ten blocks of cells with an input each, one of which changes in a cycle, as statements of `netlist_cases`.
 blocks() {
     python3 - "$@" <<'PROGRAM'
 import random, sys

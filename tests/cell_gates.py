@@ -1,7 +1,7 @@
 #!/usr/bin/env python3
-"""Writes the cases of cells as gates: the standard input of `cell_gate_cases`, and what it must print.
+"""Writes the cases of cells as gates: the table 'gates' of `netlist_cases`.
 
-    tests/cell_gates.py            writes crates/cell_gate_cases/stdin and crates/cell_gate_cases/stdout
+    tests/cell_gates.py            writes the table 'gates' of crates/netlist_cases
     tests/cell_gates.py --check    only compares the two files with what would be written
 
 A line is a kind, the sign, the width of Y, and for each input port its width and its number, as `add unsigned 8 8:255 8:1`. After a
@@ -15,7 +15,9 @@ import pathlib
 import random
 import sys
 
-HERE = pathlib.Path(__file__).resolve().parent.parent / "crates/cell_gate_cases"
+import sections
+
+HERE = pathlib.Path(__file__).resolve().parent.parent / "crates/netlist_cases"
 
 OPERATIONS = {
     "and": lambda a, b: a and b,
@@ -352,9 +354,9 @@ def main():
         answers += answer(kind, signed, width, ports)
     files = {"stdin": "\n".join(lines) + "\n", "stdout": "\n".join(answers) + "\n"}
     if "--check" in sys.argv:
-        sys.exit(any((HERE / name).read_text() != text for name, text in files.items()))
+        sys.exit(any(sections.parts((HERE / name).read_text())["gates"] != text for name, text in files.items()))
     for name, text in files.items():
-        (HERE / name).write_text(text)
+        sections.put(HERE / name, "gates", text)
     print(f"{len(lines)} cells, {len(answers)} lines")
 
 

@@ -1,15 +1,18 @@
 #!/usr/bin/env python3
-"""Makes the table of cells that the crate cell_table computes: its input, and the answers of Icarus Verilog.
+"""Makes the table of cells that the program netlist_cases computes: its input, and the answers of Icarus Verilog.
 
-usage: tests/cells.py      writes crates/cell_table/stdin and crates/cell_table/stdout; needs iverilog and vvp
+usage: tests/cells.py      writes the table 'cells' of crates/netlist_cases; needs iverilog and vvp
 
 A line of the input is a kind, the sign, the width of Y, and for each input port its width and its number, as
 `add unsigned 8 8:255 8:1`. Each line is one assignment in Verilog, and its answer is what the simulator prints.
 """
 import os
+import pathlib
 import random
 import subprocess
 import tempfile
+
+import sections
 
 WIDTHS = (1, 2, 8, 64, 128)
 UNARY = {"not": "~a", "neg": "-a"}
@@ -90,7 +93,6 @@ def block(number, case):
 
 def main():
     table = list(cases(random.Random(2005)))
-    folder = os.path.join(os.path.dirname(os.path.abspath(__file__)), "..", "crates", "cell_table")
     with tempfile.TemporaryDirectory() as room:
         source = os.path.join(room, "cells.v")
         program = os.path.join(room, "cells")
@@ -100,12 +102,13 @@ def main():
         answers = subprocess.run(["vvp", "-n", program], check=True, capture_output=True, text=True).stdout
     if len(answers.split()) != len(table):
         raise SystemExit("an answer is missing")
-    with open(os.path.join(folder, "stdin"), "w") as out:
-        for kind, signed, width, words, _ in table:
-            sign = "signed" if signed else "unsigned"
-            out.write(f"{kind} {sign} {width} " + " ".join(f"{wide}:{value}" for wide, value in words) + "\n")
-    with open(os.path.join(folder, "stdout"), "w") as out:
-        out.write(answers)
+    rows = [
+        f"{kind} {'signed' if signed else 'unsigned'} {width} " + " ".join(f"{wide}:{value}" for wide, value in words) + "\n"
+        for kind, signed, width, words, _ in table
+    ]
+    crate = pathlib.Path(__file__).resolve().parent.parent / "crates/netlist_cases"
+    sections.put(crate / "stdin", "cells", "".join(rows))
+    sections.put(crate / "stdout", "cells", answers)
 
 
 main()

@@ -1,8 +1,8 @@
 #!/usr/bin/env python3
-"""The cases of crates/sim_cases: netlists, and the cycles of their runs by the definition alone.
+"""The table 'netlists that run' of crates/netlist_cases: netlists, and the cycles of their runs by the definition alone.
 
-    python3 tests/cycles.py input > crates/sim_cases/stdin
-    python3 tests/cycles.py output > crates/sim_cases/stdout
+    python3 tests/cycles.py input | python3 tests/sections.py crates/netlist_cases/stdin 'netlists that run'
+    python3 tests/cycles.py output | python3 tests/sections.py crates/netlist_cases/stdout 'netlists that run'
 
 A cycle gives every net one value: inputs have theirs, Q's their registers', and Y's that of the table of cell kinds.
 Here each net is looked up by what drives it, from the readers back, in no order of the cells.

@@ -1,8 +1,8 @@
 #!/usr/bin/env python3
-"""The cases of crates/project_cases: project files, and what each says by the rules of docs/FORMATS.md alone.
+"""The table 'project files' of crates/script_cases: project files, and what each says by the rules of docs/FORMATS.md alone.
 
-    python3 tests/projects.py input > crates/project_cases/stdin
-    python3 tests/projects.py output > crates/project_cases/stdout
+    python3 tests/projects.py input | python3 tests/sections.py crates/script_cases/stdin 'project files'
+    python3 tests/projects.py output | python3 tests/sections.py crates/script_cases/stdout 'project files'
 
 A case is one line. `\\` stands before the two hexadecimal digits of a byte.
 """

@@ -1,8 +1,8 @@
 #!/usr/bin/env python3
-"""The cases of crates/report_cases: reports, and what each prints by Python's own fractions, or why it is refused.
+"""The table 'reports' of crates/script_cases: reports, and what each prints by Python's own fractions, or why it is refused.
 
-    python3 tests/reports.py input > crates/report_cases/stdin
-    python3 tests/reports.py output > crates/report_cases/stdout
+    python3 tests/reports.py input | python3 tests/sections.py crates/script_cases/stdin 'reports'
+    python3 tests/reports.py output | python3 tests/sections.py crates/script_cases/stdout 'reports'
 
 A report stands on one line, with `^` between its lines. Those that are taken are random programs in the language and worked ones,
 which Python's `ast` takes apart; their values are `fractions.Fraction`, and their texts are rounded by its `round`. Python binds `%`

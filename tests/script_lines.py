@@ -1,8 +1,8 @@
 #!/usr/bin/env python3
-"""The cases of crates/script_cases: lines of scripts, and what each says by Python's own tokenizer.
+"""The table 'script lines' of crates/script_cases: lines of scripts, and what each says by Python's own tokenizer.
 
-    python3 tests/script_lines.py input > crates/script_cases/stdin
-    python3 tests/script_lines.py output > crates/script_cases/stdout
+    python3 tests/script_lines.py input | python3 tests/sections.py crates/script_cases/stdin 'script lines'
+    python3 tests/script_lines.py output | python3 tests/sections.py crates/script_cases/stdout 'script lines'
 
 Python reads more than the scripts have. So the lines have no numbers or texts that are written otherwise there: no digit or quote
 follows a letter or digit but in a name or number, and no backslash or open text is left to it. These few are told by the rules of

@@ -13,6 +13,8 @@ import sys
 import tempfile
 from pathlib import Path
 
+import sections
+
 ROOT = Path(__file__).resolve().parent.parent
 
 # Scripts that print a table: its crate, and the words for its two halves.
@@ -22,16 +24,19 @@ PRINTED = {
         script: (crate, "input", "output")
         for script, crate in {
             "builders": "builder_cases",
-            "cycles": "sim_cases",
-            "projects": "project_cases",
-            "reports": "report_cases",
-            "script_lines": "script_cases",
             "site_texts": "site_text_cases",
             "sites": "site_cases",
-            "tag_lines": "tag_line_cases",
-            "tag_scripts": "tag_cases",
         }.items()
     },
+}
+# Those that print one of the tables of a crate with several, and its name.
+NAMED = {
+    "cycles": ("netlist_cases", "netlists that run"),
+    "projects": ("script_cases", "project files"),
+    "reports": ("script_cases", "reports"),
+    "script_lines": ("script_cases", "script lines"),
+    "tag_lines": ("script_cases", "tag lines"),
+    "tag_scripts": ("script_cases", "tag scripts"),
 }
 # Those that print a part of the table of `mcy_cases`.
 PARTS = ("campaigns", "config_rows", "equality_rows", "logics", "simulation_rows", "source_rows")
@@ -49,8 +54,8 @@ FOLDERS = {
 # Those that write the table of this crate.
 WRITTEN = {
     "benches": "bench_cases",
-    "cell_gates": "cell_gate_cases",
-    "cells": "cell_table",
+    "cell_gates": "netlist_cases",
+    "cells": "netlist_cases",
     "checks": "check_cases",
     "formats": "format_cases",
     "gates": "gate_cases",
@@ -92,13 +97,18 @@ def others(room, script):
         for word, half in zip(words, ("stdin", "stdout")):
             (room / "crates" / crate / half).write_bytes(run(room, script, word))
         return differing([crate], room)
+    if script in NAMED:
+        crate, name = NAMED[script]
+        for word, half in (("input", "stdin"), ("output", "stdout")):
+            sections.put(room / "crates" / crate / half, name, run(room, script, word).decode())
+        return differing([crate], room)
     crates = FOLDERS.get(script) or [WRITTEN[script]]
     run(room, script, *(room / "crates" / crate for crate in FOLDERS.get(script, [])))
     return differing(crates, room)
 
 
 def main():
-    scripts = sys.argv[1:] or sorted([*PRINTED, *PARTS, *FOLDERS, *WRITTEN])
+    scripts = sys.argv[1:] or sorted([*PRINTED, *NAMED, *PARTS, *FOLDERS, *WRITTEN])
     failed = 0
     with tempfile.TemporaryDirectory() as folder:
         room = Path(folder)

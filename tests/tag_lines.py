@@ -1,8 +1,8 @@
 #!/usr/bin/env python3
-"""The cases of crates/tag_line_cases: lines of tag scripts, and what each says by Python's own parser.
+"""The table 'tag lines' of crates/script_cases: lines of tag scripts, and what each says by Python's own parser.
 
-    python3 tests/tag_lines.py input > crates/tag_line_cases/stdin
-    python3 tests/tag_lines.py output > crates/tag_line_cases/stdout
+    python3 tests/tag_lines.py input | python3 tests/sections.py crates/script_cases/stdin 'tag lines'
+    python3 tests/tag_lines.py output | python3 tests/sections.py crates/script_cases/stdout 'tag lines'
 
 Lines that are taken are random ones of the language, which Python's `ast` takes apart. The others are worked by the rules of
 docs/DECISIONS.md. Four parentheses and `not`s may be open.

@@ -1,8 +1,8 @@
 #!/usr/bin/env python3
-"""The cases of crates/tag_cases: tag scripts, and what each says and asks by Python itself, or why it is refused.
+"""The table 'tag scripts' of crates/script_cases: tag scripts, and what each says and asks by Python itself, or why it is refused.
 
-    python3 tests/tag_scripts.py input > crates/tag_cases/stdin
-    python3 tests/tag_scripts.py output > crates/tag_cases/stdout
+    python3 tests/tag_scripts.py input | python3 tests/sections.py crates/script_cases/stdin 'tag scripts'
+    python3 tests/tag_scripts.py output | python3 tests/sections.py crates/script_cases/stdout 'tag scripts'
 
 A script stands on one line, with `^` between its lines. Scripts that are taken are random programs in the language and worked ones,
 which Python's `ast` takes apart; Python runs each with some words of the tests, some of which are not there or not expected. Those

@@ -1,35 +1,82 @@
-//! Takes the lines of scripts on standard input apart, and prints what each says.
+//! Takes lines of scripts apart, and reads tag scripts, reports and project files, as the tables of standard input list them, and prints
+//! what each says.
+//!
+//! A line `§ NAME` begins the table of that name, and is printed. Each other line is a row of its table:
+//!
+//! | table | row |
+//! |---|---|
+//! | `script lines` | A line of a script, of which the indentation and the tokens are printed. |
+//! | `tag lines` | A line of a tag script. |
+//! | `tag scripts` | A tag script, with `^` between its lines. |
+//! | `reports` | A report, with `^` between its lines. |
+//! | `project files` | A project file, with `\` before the two hexadecimal digits of a byte, or a remark. |
 #![tactic(auto)]
 
-mod tell;
+mod bytes;
+mod exprs;
+mod files;
+mod heads;
+mod projects;
+mod reports;
+mod scripts;
+mod statements;
+mod texts;
+mod tokens;
 
-use anyhow::Result;
-use mcy_base::{Line, Text};
-use script_lines::rows;
-use std::io;
-use tell::told;
+use anyhow::{Context, Result};
+use files::tell_project;
+use heads::tell_head;
+use reports::tell_report;
+use scripts::tell_script;
+use tokens::tell_tokens;
 
-/// Prints what a line says.
-fn answer<R: Print + AllocGlobal>(rt: &R, text: &str) -> Result<()> {
-    let line = Line {
-        number: 1,
-        text: Text::copy(rt.alloc(), text)?,
-    };
-    let rows = rows(rt.alloc(), &[line])?;
-    match rows.as_slice() {
-        [row, ..] => {
-            let text = told(rt.alloc(), row)?;
-            println!(rt; "{}", text.as_str())?;
-        }
-        [] => println!(rt; "nothing")?,
+/// What the rows are.
+#[derive(Clone, Copy)]
+enum Table {
+    ScriptLines,
+    TagLines,
+    TagScripts,
+    Reports,
+    ProjectFiles,
+}
+
+/// The table of this name.
+fn table_of(name: &str) -> Option<Table> {
+    match name {
+        "script lines" => Some(Table::ScriptLines),
+        "tag lines" => Some(Table::TagLines),
+        "tag scripts" => Some(Table::TagScripts),
+        "reports" => Some(Table::Reports),
+        "project files" => Some(Table::ProjectFiles),
+        _ => None,
     }
-    Ok(())
+}
+
+/// Prints what a row says.
+fn answer<R: Print + AllocGlobal>(rt: &R, table: Table, row: &str) -> Result<()> {
+    match table {
+        Table::ScriptLines => tell_tokens(rt, row),
+        Table::TagLines => tell_head(rt, row),
+        Table::TagScripts => tell_script(rt, row),
+        Table::Reports => tell_report(rt, row),
+        Table::ProjectFiles => tell_project(rt, row),
+    }
+}
+
+/// Begins a table, or prints what a row of this table says.
+fn carry_out<R: Print + AllocGlobal>(rt: &R, table: Table, line: &str) -> Result<Table> {
+    if let Some(name) = line.strip_prefix("§ ") {
+        println!(rt; "{line}")?;
+        return table_of(name).context("no table");
+    }
+    answer(rt, table, line)?;
+    Ok(table)
 }
 
 fn main(rt: HostRuntime) -> Result<()> {
+    let mut table = Table::ScriptLines;
     for line in rt.lines(rt.alloc()) {
-        let line = line?;
-        answer(&rt, line.as_str())?;
+        table = carry_out(&rt, table, line?.as_str())?;
     }
     Ok(())
 }
