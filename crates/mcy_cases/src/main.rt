@@ -4,32 +4,20 @@
 //!
 //! | statement | what it does |
 //! |---|---|
-//! | `new` | There are no files, the book is empty, and nothing fails. |
-//! | `hold NAME TEXT` | There is this file; `~` stands for the end of a line. |
-//! | `fill NAME BYTE COUNT` | There is this file, of so many equal bytes. |
-//! | `bytes NAME BYTE ..` | There is this file, of these bytes. |
-//! | `wide NAME INPUTS AGAIN` | There is this file, a source with so many inputs, one of them twice where AGAIN is 1. |
-//! | `forget` | There are no files. |
-//! | `row SEQ MUTATION TEST WORD MARK TAGS` | The book has this row more. |
-//! | `unrow` | The book has no rows. |
-//! | `fail-read CALL` | This read of the next call fails, counted from 0. |
-//! | `fail-keeper CALL WHOLE` | This call of the keeper fails, and leaves the new book where WHOLE is 1. |
-//! | `fail-write CALL BYTES` | This write fails after so many bytes. |
 //! | `call WORD ..` | Makes the call, and prints its exit status and line, the text, and what the book has then. |
 //! | `book` | Prints the items of the book. |
 //! | `command WORD ..` | Prints the command that the words give. |
 //!
-//! `''` is the empty word. A line that begins with `#` is printed, and an empty one is left out.
+//! `call_stage` has the statements that prepare the next call. `''` is the empty word. A line that begins with `#` is printed, and an empty one is left out.
 #![tactic(auto)]
 
-mod stage;
 mod telling;
 
-use mcy_top::{mcy_call, read_words};
-use stage::Stage;
+use call_stage::{Stage, World, tell_book, tell_items, tell_text};
+use mcy_top::{Outcome, mcy_call, read_words};
 use std::alloc::{AllocError, Global};
 use std::io;
-use telling::{tell_book, tell_items, tell_outcome, tell_text};
+use telling::tell_outcome;
 
 /// The words of a line.
 fn words_of(alloc: Global, line: &str) -> Result<Vec<String>, AllocError> {
@@ -41,19 +29,38 @@ fn words_of(alloc: Global, line: &str) -> Result<Vec<String>, AllocError> {
     Ok(words)
 }
 
+/// Prints how a call went, and the text and the book that it left.
+fn tell_call<R: Print + AllocGlobal>(rt: &R, world: &World, outcome: &Outcome) -> io::Result<()> {
+    tell_outcome(rt, outcome)?;
+    tell_text(rt, world.out.seen())?;
+    tell_book(rt, world.keeper.held())
+}
+
+/// Makes the call with these words, and prints how it went.
+fn make<R: Print + AllocGlobal>(rt: &R, world: &mut World, words: &[String]) -> io::Result<()> {
+    let outcome = mcy_call(
+        rt.alloc(),
+        words,
+        &mut world.files,
+        &mut world.keeper,
+        &mut world.out,
+    );
+    tell_call(rt, world, &outcome)
+}
+
 /// Makes the call with these words over what the stage has, prints how it went, and keeps the book that it left.
+fn make_on<R: Print + AllocGlobal>(rt: &R, stage: &mut Stage, words: &[String]) -> io::Result<()> {
+    let mut world = stage.world()?;
+    make(rt, &mut world, words)?;
+    stage.keep(world.keeper.held())?;
+    Ok(())
+}
+
+/// Makes the call that a line gives.
 fn make_call<R: Print + AllocGlobal>(rt: &R, stage: &mut Stage, line: &str) -> io::Result<()> {
     let words = words_of(rt.alloc(), line)?;
-    let mut files = stage.files()?;
-    let mut keeper = stage.keeper()?;
-    let mut out = stage.sink()?;
-    let outcome = mcy_call(rt.alloc(), &words, &mut files, &mut keeper, &mut out);
     println!(rt; "> {line}")?;
-    tell_outcome(rt, &outcome)?;
-    tell_text(rt, out.seen())?;
-    tell_book(rt, keeper.held())?;
-    stage.keep(keeper.held())?;
-    Ok(())
+    make_on(rt, stage, words.as_slice())
 }
 
 /// Prints the command that the words give.
@@ -81,10 +88,15 @@ fn carry_out<R: Print + AllocGlobal>(rt: &R, stage: &mut Stage, line: &str) -> i
     }
 }
 
-fn main(rt: HostRuntime) -> io::Result<()> {
-    let mut stage = Stage::new(rt.alloc());
+/// Carries out the statements of all lines.
+fn carry_out_all<R: Print + Input + AllocGlobal>(rt: &R, stage: &mut Stage) -> io::Result<()> {
     for line in rt.lines(rt.alloc()) {
-        carry_out(&rt, &mut stage, line?.as_str())?;
+        carry_out(rt, stage, line?.as_str())?;
     }
     Ok(())
+}
+
+fn main(rt: HostRuntime) -> io::Result<()> {
+    let mut stage = Stage::new(rt.alloc());
+    carry_out_all(&rt, &mut stage)
 }
