@@ -25,7 +25,6 @@ pub struct Clock {
 }
 
 /// The parts of a bench.
-#[derive(Drop)]
 pub struct Parts {
     /// The names of its module, and those of the signals at the ports of its instance.
     pub scope: Scope,
@@ -47,4 +46,22 @@ pub struct Parts {
     pub nets: Nets,
     /// How each of their nodes is evaluated, by its number, if it is an assign that has a plan.
     pub net_plans: Items<Option<Transfer>>,
+}
+
+impl Drop for Parts {
+    fn drop(self) {
+        let Parts {
+            scope: _scope,
+            starts: _starts,
+            code: _code,
+            plans: _plans,
+            always: _always,
+            initial: _initial,
+            clock: _clock,
+            inputs: _inputs,
+            outputs: _outputs,
+            nets: _nets,
+            net_plans: _net_plans,
+        } = self;
+    }
 }
