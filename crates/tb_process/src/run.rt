@@ -26,7 +26,6 @@ use tb_machine::{PhaseEnd, Process, Scene};
 use tb_watch::Watch;
 
 /// A simulation of a bench with a design at its instance.
-#[derive(Drop)]
 pub struct Run {
     alloc: Global,
     phase: u64,
@@ -35,6 +34,20 @@ pub struct Run {
     always: Vec<Process>,
     initial: Vec<Process>,
     is_refused: bool,
+}
+
+impl Drop for Run {
+    fn drop(self) {
+        let Run {
+            alloc: _alloc,
+            phase: _phase,
+            sim: _sim,
+            scene: _scene,
+            always: _always,
+            initial: _initial,
+            is_refused: _is_refused,
+        } = self;
+    }
 }
 
 impl Model for Run {
