@@ -18,11 +18,20 @@ use tb_process::Run;
 use tb_turns::{SimVerdict, Turns};
 
 /// A simulation that is watched for a pass text and a fail text.
-#[derive(Drop)]
 pub struct SimJob<'a> {
     turns: Turns<Simulation<'a>>,
     word_seed: u64,
     is_over: bool,
+}
+
+impl Drop for SimJob<'_> {
+    fn drop(self) {
+        let SimJob {
+            turns: _turns,
+            word_seed: _word_seed,
+            is_over: _is_over,
+        } = self;
+    }
 }
 
 impl<'a> Model for SimJob<'a> {
