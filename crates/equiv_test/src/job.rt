@@ -21,7 +21,6 @@ use std::alloc::{AllocError, Global};
 use std::marker::Model;
 
 /// A test of two netlists.
-#[derive(Drop)]
 pub struct EqJob {
     alloc: Global,
     original: Sim,
@@ -29,6 +28,19 @@ pub struct EqJob {
     limit: u32,
     seen: Option<Difference>,
     search: Option<Search>,
+}
+
+impl Drop for EqJob {
+    fn drop(self) {
+        let EqJob {
+            alloc: _alloc,
+            original: _original,
+            mutant: _mutant,
+            limit: _limit,
+            seen: _seen,
+            search: _search,
+        } = self;
+    }
 }
 
 impl Model for EqJob {

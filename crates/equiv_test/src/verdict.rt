@@ -11,11 +11,20 @@ pub enum DiffPlace {
 }
 
 /// Inputs and registers with which two netlists differ: a word for each input and for each register, and the first place.
-#[derive(Drop)]
 pub struct Difference {
     pub inputs: WordList,
     pub registers: WordList,
     pub place: DiffPlace,
+}
+
+impl Drop for Difference {
+    fn drop(self) {
+        let Difference {
+            inputs: _inputs,
+            registers: _registers,
+            place: _place,
+        } = self;
+    }
 }
 
 /// The word of an equivalence test.
