@@ -17,12 +17,21 @@ use smallvec::SmallVec;
 use std::alloc::{AllocError, Global};
 
 /// A lemma with its hints.
-#[derive(Drop)]
 pub struct Learned {
     pub lemma: Vec<Lit>,
     pub hints: SmallVec<u32, 64>,
     /// How many levels are kept: up to the second highest level of the lemma's literals.
     pub back: usize,
+}
+
+impl Drop for Learned {
+    fn drop(self) {
+        let Learned {
+            lemma: _lemma,
+            hints: _hints,
+            back: _back,
+        } = self;
+    }
 }
 
 /// The lemma of the conflict in which the clause with this number is false.

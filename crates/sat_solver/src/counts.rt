@@ -13,12 +13,20 @@ use lrat_checker::literal_value;
 use std::alloc::{AllocError, Global};
 
 /// The counts of each clause.
-#[derive(Drop)]
 pub struct Counts {
     /// How many literals are false.
     pub falses: Vec<u32>,
     /// How many literals are true.
     pub trues: Vec<u32>,
+}
+
+impl Drop for Counts {
+    fn drop(self) {
+        let Counts {
+            falses: _falses,
+            trues: _trues,
+        } = self;
+    }
 }
 
 impl Counts {

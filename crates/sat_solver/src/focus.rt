@@ -10,7 +10,6 @@ use clause_store::ClauseStore;
 use std::alloc::{AllocError, Global};
 
 /// Clauses and free bits that a search looks at.
-#[derive(Drop)]
 pub struct Focus {
     /// For each of the first clauses whether it is left out.
     pub left_out: Vec<bool>,
@@ -18,6 +17,16 @@ pub struct Focus {
     pub bits: Vec<u32>,
     /// Nothing is left out.
     pub whole: bool,
+}
+
+impl Drop for Focus {
+    fn drop(self) {
+        let Focus {
+            left_out: _left_out,
+            bits: _bits,
+            whole: _whole,
+        } = self;
+    }
 }
 
 impl Focus {

@@ -11,9 +11,14 @@ use std::alloc::{AllocError, Global};
 use std::marker::Model;
 
 /// For each literal the clauses that hold it.
-#[derive(Drop)]
 pub struct Occurrences {
     lists: Vec<Vec<u32>>,
+}
+
+impl Drop for Occurrences {
+    fn drop(self) {
+        let Occurrences { lists: _lists } = self;
+    }
 }
 
 impl Model for Occurrences {

@@ -8,11 +8,20 @@ use clause_store::ClauseStore;
 use std::alloc::{AllocError, Global};
 
 /// Some clauses of a store.
-#[derive(Drop)]
 pub struct Part {
     pub store: ClauseStore,
     pub numbers: Vec<u32>,
     pub seen: u32,
+}
+
+impl Drop for Part {
+    fn drop(self) {
+        let Part {
+            store: _store,
+            numbers: _numbers,
+            seen: _seen,
+        } = self;
+    }
 }
 
 impl Part {

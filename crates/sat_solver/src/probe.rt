@@ -17,11 +17,20 @@ use lrat_checker::Checker;
 use std::alloc::{AllocError, Global};
 
 /// What a search looks at, and its trail.
-#[derive(Drop)]
 pub struct Probe {
     pub focus: Focus,
     pub part: Part,
     pub propagator: Propagator,
+}
+
+impl Drop for Probe {
+    fn drop(self) {
+        let Probe {
+            focus: _focus,
+            part: _part,
+            propagator: _propagator,
+        } = self;
+    }
 }
 
 impl Probe {

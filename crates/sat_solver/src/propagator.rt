@@ -24,7 +24,6 @@ use lrat_checker::{Step, examine};
 use std::alloc::{AllocError, Global};
 
 /// A trail with what its propagation needs.
-#[derive(Drop)]
 pub struct Propagator {
     pub trail: Trail,
     pub occurrences: Occurrences,
@@ -32,6 +31,19 @@ pub struct Propagator {
     pub watches: Watches,
     pub taken: u32,
     pub head: usize,
+}
+
+impl Drop for Propagator {
+    fn drop(self) {
+        let Propagator {
+            trail: _trail,
+            occurrences: _occurrences,
+            counts: _counts,
+            watches: _watches,
+            taken: _taken,
+            head: _head,
+        } = self;
+    }
 }
 
 impl Propagator {

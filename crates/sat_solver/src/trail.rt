@@ -14,7 +14,6 @@ use clause_store::Lit;
 use std::alloc::{AllocError, Global};
 
 /// A partial assignment with its history.
-#[derive(Drop)]
 pub struct Trail {
     /// The value of each variable, by its number.
     pub values: Vec<Option<bool>>,
@@ -24,6 +23,17 @@ pub struct Trail {
     pub reasons: Vec<u32>,
     /// For each level, from 1, the place of its decision among the literals.
     pub starts: Vec<u32>,
+}
+
+impl Drop for Trail {
+    fn drop(self) {
+        let Trail {
+            values: _values,
+            literals: _literals,
+            reasons: _reasons,
+            starts: _starts,
+        } = self;
+    }
 }
 
 impl Trail {

@@ -20,10 +20,18 @@ pub struct Pair {
 }
 
 /// The pairs of the clauses that are watched.
-#[derive(Drop)]
 pub struct Watches {
     pub pairs: Vec<Option<Pair>>,
     pub lists: Occurrences,
+}
+
+impl Drop for Watches {
+    fn drop(self) {
+        let Watches {
+            pairs: _pairs,
+            lists: _lists,
+        } = self;
+    }
 }
 
 impl Watches {
