@@ -46,7 +46,6 @@ pub struct Signal {
 }
 
 /// Collects cells, joined nets, registers and signals.
-#[derive(Drop)]
 pub struct Builder {
     alloc: Global,
     cells: Vec<Cell>,
@@ -58,6 +57,23 @@ pub struct Builder {
     writers: Writers,
     nets: u32,
     signal_bits: u32,
+}
+
+impl Drop for Builder {
+    fn drop(self) {
+        let Builder {
+            alloc: _alloc,
+            cells: _cells,
+            joints: _joints,
+            registers: _registers,
+            declared: _declared,
+            signals: _signals,
+            starts: _starts,
+            writers: _writers,
+            nets: _nets,
+            signal_bits: _signal_bits,
+        } = self;
+    }
 }
 
 impl Model for Builder {
