@@ -36,9 +36,9 @@ case $KIT_DOES in
     endless) does "$PROGRAM"; exec sleep 600 ;;
     program) does "$PROGRAM" ;;
     slow)
-        echo "== low" && echo "rt: low: its tests are proved" && sleep 1.5 && echo "rt: low proved"
-        sleep 1.5 && echo "rt: mcy is kept: an earlier run proved the same"
-        sleep 1.5
+        echo "== low" && echo "rt: low: its tests are proved" && sleep 2 && echo "rt: low proved"
+        sleep 2 && echo "rt: mcy is kept: an earlier run proved the same"
+        sleep 3
         does "$PROGRAM"
         ;;
 esac
@@ -149,6 +149,15 @@ def a_program_older_than_a_source_is_built(it):
     answers(it, "program", "built", 2)
 
 
+def a_source_that_changes_meanwhile_counts(it):
+    call = it.begin("slow")
+    while not it.calls():
+        time.sleep(0.02)
+    it.changes()
+    assert (call.communicate(timeout=60)[0], call.returncode) == it.answer("built")[::-1], call.returncode
+    answers(it, "program", "built", 2)
+
+
 def a_failed_build_leaves_the_program(it):
     assert "rt: nothing is proved" in fails(it, "nothing", 1)
     answers(it, "program", "built", 2)
@@ -230,13 +239,16 @@ def a_terminal_is_told_how_far_it_is(it):
     assert first.startswith("mcy: proving and building"), first
     counts = [count for count in counts if count != "\n"]
     wanted = [f"mcy: {number} of 2 crates are proved\x1b[K" for number in range(3)]
-    assert list(dict.fromkeys(counts)) == wanted and last == "\x1b[K", seen
+    # (a busy machine may pass over one before the last)
+    assert {*counts} <= {*wanted} and counts == sorted(counts) and counts[-1] == wanted[-1] != counts[0], seen
+    assert last == "\x1b[K", ("the line is not cleared", seen)
 
 
 CASES = (
     a_missing_program_is_built,
     a_current_program_is_run,
     a_program_older_than_a_source_is_built,
+    a_source_that_changes_meanwhile_counts,
     a_failed_build_leaves_the_program,
     the_gates_program_is_taken,
     a_gates_program_that_is_none_is_not_taken,
@@ -254,7 +266,7 @@ def main():
         with tempfile.TemporaryDirectory() as room:
             try:
                 case(Repository(Path(room)))
-            except AssertionError as wrong:
+            except (AssertionError, subprocess.TimeoutExpired) as wrong:
                 failed += 1
                 print(f"FAILED: {case.__name__.replace('_', ' ')}: {wrong}", flush=True)
     print(f"{len(CASES) - failed} passed, {failed} failed")
