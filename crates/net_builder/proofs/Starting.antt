@@ -1,10 +1,14 @@
 -- Signals and their start values have the same widths.
 use Rattle.std.proofs.Common.{◌≡◌, ℕ, zero, suc, ◌<◌, List, [], ◌∷◌, ◌++◌, length, map, get_or, set, sym, ◌∙◌, ap, arith}
-use Rattle.std.proofs.lemmas.List.{map-append}
+use Rattle.std.proofs.lemmas.List.{length-map, map-append}
 use Rattle.std.proofs.Math.Seq.{map-set_same}
 use Rattle.mcy_base.specs.declared.word.Word.{Word}
 use Rattle.netlist_core.specs.declared.bit.Bit.{Bit}
 use Rattle.net_builder.specs.Building.{word_widths}
+
+-- as many
+pub starts_counted : (words : List Word) (signals : List (List Bit)) → word_widths words ≡ map length signals → length signals ≡ length words
+starts_counted words signals e = sym (length-map signals length) ∙ ap (λ (ns : List ℕ). length ns) (sym e) ∙ length-map words (λ (w : Word). w.width)
 
 -- at each place
 pub widths_at : (words : List Word) (signals : List (List Bit)) (k : ℕ) (d : Word) → word_widths words ≡ map length signals → k < length signals → (get_or words k d).width ≡ length (get_or signals k [])

@@ -1,4 +1,5 @@
-use Rattle.std.proofs.Common.{◌≡◌, ◌↔◌, ℕ, List, map, ◌∙◌, ap, subst}
+use Rattle.std.proofs.Common.{◌≡◌, ◌↔◌, ℕ, List, map, length, sym, ◌∙◌, ap, subst}
+use Rattle.mcy_base.specs.declared.word.Word.{Word}
 use Rattle.netlist_core.specs.declared.bit.Bit.{Bit}
 use Rattle.netlist_core.specs.declared.cell.Cell.{Cell}
 use Rattle.netlist_core.specs.declared.port.Port.{Port}
@@ -10,8 +11,15 @@ use Rattle.net_builder.specs.Finished.{LeadsTo, IsStuck, step_of, led_cell, led_
 use Rattle.net_builder.specs.Stepping.{next_in}
 use Rattle.net_builder.specs.Tracing.{known_of, end_in}
 use Rattle.net_builder.proofs.Laying.{laid_are}
+use Rattle.net_builder.proofs.Starting.{starts_counted}
 use Rattle.net_builder.proofs.Handed.{same_err}
 use Rattle.net_builder.proofs.builder.Builder.finish.Goals as goal
+
+pub steps_of-requires : goal.steps_of-requires
+steps_of-requires c =
+    ap (λ (l : List (List Bit)). length l) c.deref.ensures.value
+    ∙ starts_counted c.self.inside.starts.items c.self.inside.signals.items c.self.invariant.5
+    ∙ ap (λ (l : List Word). length l) (sym c.deref-2.ensures.value)
 
 pub returns-in_err-trace-clause-loops : goal.returns-in_err-trace-clause-loops
 returns-in_err-trace-clause-loops c =
