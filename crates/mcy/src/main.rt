@@ -1,37 +1,24 @@
 //! `mcy`: one call over the real files, standard output and the database of the current folder.
 //!
 //! The words, the files, the sink and the keeper are made here and nowhere else. What the call does is
-//! `mcy_call`'s. Where standard error is a terminal, `meter` tells there how far the campaign is, and main what to do next
+//! `mcy_call`'s. Where standard error is a terminal, a `Meter` tells there how far the campaign is, and main what to do next
 //! where a call was refused for what the database holds.
 #![tactic(auto)]
 
 ghost use Rattle.std.specs.Prelude.{[]};
 ghost use Rattle.sqlite.specs.Files.{AreFoundIn};
 
-mod meter;
-
 use keeper_opening::{DatabaseFault, OpenError, Opener, OpeningKeeper};
 use mcy_outside::{RealFiles, RealSink, Sink};
-use mcy_top::{Command, Outcome, exit_status, fault_line, mcy_call, read_words};
-use meter::Meter;
+use mcy_terminal::{Meter, stop_of, words_of};
+use mcy_top::{Outcome, exit_status, fault_line, mcy_call};
 use sqlite::{Connection, Error, ErrorCode, File, FileStore, Unknown};
-use std::alloc::{AllocError, Global};
-use std::env::{self, Env};
 use std::io::{self, IsTerminal};
 use std::process::ExitCode;
 use watched_keeper::WatchedKeeper;
 
 /// The file of the database, in the current folder.
 const DATABASE: &str = "mcy.db";
-
-/// The words after the program's name. An error is want of memory, or a word that is no text.
-fn words_of<R: Env + Alloc<A = Global>>(rt: &R) -> io::Result<Vec<String>> {
-    let mut words = Vec::new(rt.alloc());
-    for word in env::args(rt)?.skip(1) {
-        words.push(word).map_err(AllocError::from)?;
-    }
-    Ok(words)
-}
 
 /// The database, which is opened at the first load, so that a call which ends before it touches no file.
 #[derive(Drop)]
@@ -92,21 +79,13 @@ struct Ended {
     fault: Option<DatabaseFault>,
 }
 
-/// After how many tests a call with these words stops, if they say so.
-fn stop_of(alloc: Global, words: &[String]) -> Option<u32> {
-    match read_words(alloc, words) {
-        Ok(Some(Command::Run { stop_after })) => stop_after,
-        _ => None,
-    }
-}
-
 /// The call over the real files, standard output and the database. It then copies the database's log into
 /// its file, so that the file alone has all rows.
 fn call_here(rt: HostRuntime, words: &[String]) -> Ended {
     let alloc = rt.alloc();
     let mut keeper = WatchedKeeper {
         keeper: OpeningKeeper::new(alloc, Database { rt }),
-        watcher: Meter::new(rt, stop_of(alloc, words)),
+        watcher: Meter::new(rt, rt.stderr().is_terminal(), stop_of(alloc, words)),
     };
     let mut out = RealSink::new(rt.stdout());
     let mut files = RealFiles::new(alloc, rt);

@@ -3,12 +3,12 @@ use Rattle.std.proofs.Common.{inr, arith, [], ◌∷◌, refl, sym}
 use Rattle.mcy_keeper.specs.declared.book.Entry.{Entry}
 use Rattle.mcy_keeper.specs.declared.book.Book.{Book}
 use Rattle.mcy_keeper.specs.Books.{with_entry}
-use Rattle.mcy_top.specs.declared.prepared.Prepared.{Prepared}
-use Rattle.mcy_top.specs.Campaigns.{IsPlan}
+use Rattle.campaign_plan.specs.declared.prepared.Prepared.{Prepared}
+use Rattle.campaign_plan.specs.Campaigns.{IsPlan}
 use Rattle.result_book.specs.Rows.{IsWellFormed}
-use Rattle.mcy_top.specs.Rows.{AreRight, IsGood, IsWithinOne}
-use Rattle.mcy_top.specs.Changes.{opened}
-use Rattle.mcy_top.proofs.Growing.{append-nil, length_more}
+use Rattle.campaign_run.specs.Rows.{AreRight, IsGood, IsWithinOne}
+use Rattle.campaign_run.specs.Changes.{opened}
+use Rattle.campaign_run.proofs.Growing.{append-nil, length_more}
 
 pub good_of : (c : Prepared) (book : Book) → IsPlan c → IsWellFormed c.campaign book → AreRight c book.journal → IsGood book
 good_of c book plan form all = record { prepared = c; plan = plan; form = form; words_right = all }

@@ -3,8 +3,8 @@ use Rattle.std.proofs.Common.{ℕ, List, Option}
 use Rattle.mcy_keeper.specs.declared.keeper.KeepError.{KeepError}
 use Rattle.mcy_keeper.specs.declared.keeper.KeepError.TheVariants.{Fault as KeepFault, Memory as KeepMemory}
 use Rattle.mcy_outside.specs.Files.{Held}
-use Rattle.mcy_top.specs.declared.outcome.Outcome.{Outcome}
-use Rattle.mcy_top.specs.declared.outcome.Outcome.TheVariants.{Done, Unfinished, NoCampaign, AlreadyBegun, BookBad, KeeperFault, WriteFault, Memory}
+use Rattle.campaign_outcomes.specs.declared.outcome.Outcome.{Outcome}
+use Rattle.campaign_outcomes.specs.declared.outcome.Outcome.TheVariants.{Done, Unfinished, NoCampaign, AlreadyBegun, BookBad, KeeperFault, WriteFault, Memory}
 use Rattle.mcy_top.specs.Endings.{failed_outcome, HasLateCause}
 use Rattle.mcy_top.specs.Life.{Answered, IsAccepted}
 

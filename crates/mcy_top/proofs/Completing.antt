@@ -1,65 +1,30 @@
 -- A call that is ready and meets no fault succeeds, or finds no memory.
-use Rattle.std.proofs.Common.{◌≡◌, ◌≢◌, ◌⊎◌, inl, inr, arith, ℕ, ◌≤◌, List, [], length, refl, sym, ap, subst, ◌∙◌, Option, None, Some}
+use Rattle.std.proofs.Common.{◌≡◌, ◌≢◌, ◌⊎◌, inl, inr, ℕ, List, [], refl, sym, ap, subst, ◌∙◌, Option, None, Some}
 use Rattle.mcy_keeper.specs.declared.book.Book.{Book}
 use Rattle.mcy_keeper.specs.Books.{IsBlank}
-use Rattle.mcy_base.specs.declared.file.SourceFile.{SourceFile}
-use Rattle.mcy_outside.specs.Files.{Held, Gives, IsLarge}
-use Rattle.project_file.specs.declared.project.Project.{Project}
+use Rattle.mcy_outside.specs.Files.{Held}
 use Rattle.result_book.specs.declared.check.BookError.{BookError}
 use Rattle.result_book.specs.declared.check.BookError.TheVariants.{Stray, Memory as NoMemoryFor}
 use Rattle.result_book.specs.Rows.{IsWellFormed}
 use Rattle.command_words.specs.declared.command.Command.{Command}
 use Rattle.command_words.specs.declared.command.Command.TheVariants.{Init, Run, List as Listing, Status, Source}
-use Rattle.mcy_top.specs.declared.prepared.Prepared.{Prepared}
-use Rattle.mcy_top.specs.declared.outcome.Refusal.{Refusal}
-use Rattle.mcy_top.specs.declared.outcome.Refusal.TheVariants.{ProjectBad as RefusedProject, ScriptBad as RefusedScript, SourceBad as RefusedSource, Missing as RefusedMissing, TooLarge as RefusedTooLarge, ReadFault as RefusedRead, Memory as RefusedMemory}
-use Rattle.mcy_top.specs.declared.outcome.BookRefusal.{BookRefusal}
-use Rattle.mcy_top.specs.declared.outcome.BookRefusal.TheVariants.{NoCampaign as RefusedNone, AlreadyBegun as RefusedBegun, BookBad as RefusedBook, Memory as NoMemory}
-use Rattle.mcy_top.specs.declared.outcome.Outcome.{Outcome}
-use Rattle.mcy_top.specs.declared.outcome.Outcome.TheVariants.{Done, Unfinished, Usage, ProjectBad, ScriptBad, SourceBad, Missing, TooLarge, NoCampaign, AlreadyBegun, BookBad, ReadFault, KeeperFault, WriteFault, Memory}
-use Rattle.mcy_top.specs.Limits.{max_bytes}
+use Rattle.campaign_plan.specs.declared.prepared.Prepared.{Prepared}
+use Rattle.campaign_reading.specs.declared.refusal.Refusal.{Refusal}
+use Rattle.campaign_reading.specs.declared.refusal.Refusal.TheVariants.{ProjectBad as RefusedProject, ScriptBad as RefusedScript, SourceBad as RefusedSource, Missing as RefusedMissing, TooLarge as RefusedTooLarge}
+use Rattle.mcy_top.specs.declared.refusal.BookRefusal.{BookRefusal}
+use Rattle.mcy_top.specs.declared.refusal.BookRefusal.TheVariants.{NoCampaign as RefusedNone, AlreadyBegun as RefusedBegun, BookBad as RefusedBook, Memory as NoMemory}
+use Rattle.campaign_outcomes.specs.declared.outcome.Outcome.{Outcome}
+use Rattle.campaign_outcomes.specs.declared.outcome.Outcome.TheVariants.{Done, Unfinished, Usage, ProjectBad, ScriptBad, SourceBad, Missing, TooLarge, NoCampaign, AlreadyBegun, BookBad, ReadFault, KeeperFault, WriteFault, Memory}
 use Rattle.mcy_top.specs.Commands.{stop_of}
-use Rattle.mcy_top.specs.Campaigns.{config_name, meta_of, Exceeds, IsPlan, Lacks}
-use Rattle.mcy_top.specs.Reads.{AtProject, AtSources, IsUnmade, IsUntaken, IsUntakenDesign}
+use Rattle.campaign_choice.specs.Campaigns.{meta_of}
+use Rattle.campaign_plan.specs.Campaigns.{IsPlan}
+use Rattle.campaign_reading.specs.Reads.{IsUnmade}
+use Rattle.campaign_reading.specs.Laws.{IsByFiles}
 use Rattle.mcy_top.specs.BookRefusals.{IsBookBad, RefusesBook}
 use Rattle.mcy_top.specs.Life.{Answered, Answers, Early, EndsEarly, HasCause, Life, Takes}
-use Rattle.mcy_top.specs.Complete.{Completes, IsReadable, IsReady, NoneRose}
-use Rattle.mcy_top.proofs.Plans.{plan_meta}
-use Rattle.mcy_top.proofs.Takes.{given_same, project_same, read_there, sources_same, untaken_design_not, untaken_not}
-
--- what a readable map rules out
-lacks_not : (map : Held) (name bytes : List ℕ) → Gives (map name) max_bytes bytes → ¬ Lacks (Some map) name
-lacks_not map name bytes given none = let is : Some bytes ≡ None = sym given.same ∙ none in cc
-
-exceeds_not : (map : Held) (name bytes : List ℕ) → Gives (map name) max_bytes bytes → ¬ Exceeds (Some map) name
-exceeds_not map name bytes given large =
-    let more : IsLarge (Some bytes) max_bytes = subst (λ (o : Option (List ℕ)). IsLarge o max_bytes) given.same large in
-    let few : length bytes ≤ max_bytes = given.few in omega arith
-
--- files that are accepted are refused for faults of reading and want of memory alone
-pub unmade_not : (held : Option Held) (r : IsReadable held) (refusal : Refusal) → IsUnmade (Some r.map) refusal → ((name : List ℕ) → refusal ≢ RefusedRead name) → refusal ≡ RefusedMemory
-unmade_not held r refusal why fault = go refusal why fault
-  where
-    at_project : (q : Refusal) → AtProject (Some r.map) q → q ≢ RefusedMemory → ⊥
-    at_project q at some =
-        let config : at.config ≡ r.got.before.config = given_same (r.map config_name) max_bytes at.config r.got.before.config at.got r.got.before.got in
-        untaken_not r.got.before.config r.project q r.got.before.says r.got.before.scripted some (subst (λ (c : List ℕ). IsUntaken c q) config at.why)
-
-    at_sources : (q : Refusal) → AtSources (Some r.map) q → q ≢ RefusedMemory → ⊥
-    at_sources q at some =
-        let project : at.project ≡ r.project = project_same r.map at.project r.project at.got.before r.got.before in
-        let files : at.files ≡ r.files = sources_same r.map at.project r.project at.files r.files at.got r.got in
-        let bad : IsUntakenDesign r.project r.files q = subst (λ (p : Project). IsUntakenDesign p r.files q) project (subst (λ (fs : List SourceFile). IsUntakenDesign at.project fs q) files at.why) in
-        untaken_design_not r.project r.files r.netlist r.reading r.trials q r.design r.few r.is_reading r.benches some bad
-
-    go : (q : Refusal) → IsUnmade (Some r.map) q → ((name : List ℕ) → q ≢ RefusedRead name) → q ≡ RefusedMemory
-    go (RefusedMissing name) why fault = let at = read_there r.map r.project r.files name r.got why.0 in absurd (lacks_not r.map name at.0 at.1 why.1)
-    go (RefusedTooLarge name) why fault = let at = read_there r.map r.project r.files name r.got why.0 in absurd (exceeds_not r.map name at.0 at.1 why.1)
-    go (RefusedRead name) why fault = absurd (fault name refl)
-    go (RefusedProject error) why fault = absurd (at_project (RefusedProject error) why (λ is. cc))
-    go (RefusedScript error) why fault = absurd (at_project (RefusedScript error) why (λ is. cc))
-    go (RefusedSource error) why fault = absurd (at_sources (RefusedSource error) why (λ is. cc))
-    go RefusedMemory why fault = refl
+use Rattle.mcy_top.specs.Complete.{Completes, IsReady, NoneRose}
+use Rattle.campaign_plan.proofs.Plans.{plan_meta}
+use Rattle.campaign_reading.proofs.OneCause.{unmade_not}
 
 -- A book that is taken is not refused.
 
@@ -119,16 +84,16 @@ pub completes : (words : List (List ℕ)) (held : Option Held) (holds : Book →
     → Early leaves leaves' taken taken' o ⊎ Life words held holds leaves leaves' written written' taken taken' o → Completes command o
 completes words held holds leaves leaves' written written' taken taken' f f' k k' s s' command o ready none answer cause (inl early) = go o answer cause early.early
   where
-    bad : (r : Refusal) → IsUnmade held r → ((name : List ℕ) → r ≢ RefusedRead name) → r ≡ RefusedMemory
-    bad r why fault = unmade_not held ready.readable r (subst (λ (h : Option Held). IsUnmade h r) ready.readable.told why) fault
+    bad : (r : Refusal) → IsByFiles r → ¬ IsUnmade held r
+    bad r whole why = unmade_not held ready.readable r whole (subst (λ (h : Option Held). IsUnmade h r) ready.readable.told why)
 
     go : (o : Outcome) → Answered words held o → HasCause f f' k k' s s' o → EndsEarly o → Completes command o
     go Usage a h e = let is : Some command ≡ None = sym ready.asked ∙ a in cc
-    go (Missing name) a h e = let is : RefusedMissing name ≡ RefusedMemory = bad (RefusedMissing name) a.1 (λ n is. cc) in cc
-    go (TooLarge name) a h e = let is : RefusedTooLarge name ≡ RefusedMemory = bad (RefusedTooLarge name) a.1 (λ n is. cc) in cc
-    go (ProjectBad error) a h e = let is : RefusedProject error ≡ RefusedMemory = bad (RefusedProject error) a.1 (λ n is. cc) in cc
-    go (ScriptBad error) a h e = let is : RefusedScript error ≡ RefusedMemory = bad (RefusedScript error) a.1 (λ n is. cc) in cc
-    go (SourceBad error) a h e = let is : RefusedSource error ≡ RefusedMemory = bad (RefusedSource error) a.1 (λ n is. cc) in cc
+    go (Missing name) a h e = absurd (bad (RefusedMissing name) tt a.1)
+    go (TooLarge name) a h e = absurd (bad (RefusedTooLarge name) tt a.1)
+    go (ProjectBad error) a h e = absurd (bad (RefusedProject error) tt a.1)
+    go (ScriptBad error) a h e = absurd (bad (RefusedScript error) tt a.1)
+    go (SourceBad error) a h e = absurd (bad (RefusedSource error) tt a.1)
     go (ReadFault name) a h e = absurd (none.reads h)
     go KeeperFault a h e = absurd (none.keeps h)
     go Memory a h e = tt

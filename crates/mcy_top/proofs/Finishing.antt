@@ -4,21 +4,21 @@ use Rattle.std.proofs.lemmas.Bool.Decides.{eqb_tells}
 use Rattle.mcy_keeper.specs.declared.book.Entry.{Entry}
 use Rattle.mcy_keeper.specs.declared.book.Book.{Book}
 use Rattle.mutation_sites.specs.declared.site.Site.{Site}
-use Rattle.mcy_top.specs.declared.prepared.Prepared.{Prepared}
+use Rattle.campaign_plan.specs.declared.prepared.Prepared.{Prepared}
 use Rattle.tag_script.specs.declared.answer.Ask.TheVariants.{Need}
 use Rattle.result_book.specs.Scripts.{Answer, ask, is_ended}
 use Rattle.result_book.specs.Rows.{answers_of, AreRows, IsFinished, IsWellFormed}
-use Rattle.mcy_top.specs.Rows.{AreRight, IsGivenUpAt, IsRightWord, IsTrueWord, IsTrueWordAt}
+use Rattle.campaign_run.specs.Rows.{AreRight, IsGivenUpAt, IsRightWord, IsTrueWord, IsTrueWordAt}
 use Rattle.result_book.specs.Rows.{groups, groups_from}
 use Rattle.command_words.specs.declared.command.Command.{Command}
 use Rattle.mcy_top.specs.Texts.{text_of}
 use Rattle.tb_turns.specs.declared.verdict.SimVerdict.{SimVerdict}
 use Rattle.tb_turns.specs.declared.verdict.SimVerdict.TheVariants as v
-use Rattle.mcy_top.specs.declared.trial.Trial.{Trial}
-use Rattle.mcy_top.specs.declared.trial.Trial.TheVariants.{Equality, Simulation}
-use Rattle.mcy_top.specs.Simulated.{told_verdict}
+use Rattle.campaign_plan.specs.declared.trial.Trial.{Trial}
+use Rattle.campaign_plan.specs.declared.trial.Trial.TheVariants.{Equality, Simulation}
+use Rattle.campaign_run.specs.Simulated.{told_verdict}
 use Rattle.mcy_top.specs.Defined.{given_up, is_equality, is_given_up, AreAllAnswers, AreAnswers, IsFinalText, IsWordOf, Pair}
-use Rattle.mcy_top.proofs.Growing.{append-nil}
+use Rattle.campaign_run.proofs.Growing.{append-nil}
 use Rattle.mcy_top.proofs.Pairs.{given_at}
 use Rattle.result_book.proofs.Grouping.{answers_of-other, answers_of-same}
 

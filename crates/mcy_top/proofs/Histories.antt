@@ -2,17 +2,17 @@
 use Rattle.std.proofs.Common.{◌≡◌, inl, inr, ℕ, zero, suc, List, [], ◌∷◌, take, refl, sym, subst, Option, Some, IsSomeAnd}
 use Rattle.mcy_keeper.specs.declared.book.Book.{Book}
 use Rattle.mcy_keeper.specs.Books.{blank, IsBlank, LeavesSome}
-use Rattle.mcy_top.specs.declared.prepared.Prepared.{Prepared}
-use Rattle.mcy_top.specs.declared.outcome.Outcome.TheVariants.{Done}
-use Rattle.mcy_top.specs.Campaigns.{IsPlan}
-use Rattle.mcy_top.specs.Changes.{Course, IsNear}
-use Rattle.mcy_top.specs.Rows.{AreRight, IsBlankOrGood}
-use Rattle.mcy_top.specs.Crashes.{LeavesBooks}
+use Rattle.campaign_plan.specs.declared.prepared.Prepared.{Prepared}
+use Rattle.campaign_outcomes.specs.declared.outcome.Outcome.TheVariants.{Done}
+use Rattle.campaign_plan.specs.Campaigns.{IsPlan}
+use Rattle.campaign_run.specs.Changes.{Course, IsNear}
+use Rattle.campaign_run.specs.Rows.{AreRight, IsBlankOrGood}
+use Rattle.campaign_run.specs.Crashes.{LeavesBooks}
 use Rattle.mcy_top.specs.Texts.{text_of}
 use Rattle.mcy_top.specs.Life.{Answers, Wrote}
 use Rattle.mcy_top.specs.Lives.{AreSafe, IsHistory}
 use Rattle.mcy_top.specs.Histories.{AllFindBooks, AllTellTrue, AreTurns, Call, Cut, CutEarly, Ended, entry_of, IsNew, IsTurn, last_of, Left, lives_of, Loads, TellsFinal, TellsTrue, Turn}
-use Rattle.mcy_top.proofs.Crashes.{weaker_books}
+use Rattle.campaign_run.proofs.Crashes.{weaker_books}
 use Rattle.mcy_top.proofs.Finishing.{final_is}
 use Rattle.mcy_top.proofs.Living.{course_good, lives_safe, near_good}
 use Rattle.mcy_top.proofs.Once.{right_of}

@@ -7,18 +7,18 @@ use Rattle.mcy_keeper.specs.declared.book.Entry.{Entry}
 use Rattle.mcy_keeper.specs.declared.book.Book.{Book}
 use Rattle.mcy_keeper.specs.Books.{blank}
 use Rattle.mcy_outside.specs.Files.{Held}
-use Rattle.mcy_top.specs.declared.prepared.Prepared.{Prepared}
-use Rattle.mcy_top.specs.declared.outcome.Outcome.{Outcome}
-use Rattle.mcy_top.specs.Campaigns.{IsPlan}
-use Rattle.mcy_top.specs.Changes.{Course, IsChange, IsNear}
+use Rattle.campaign_plan.specs.declared.prepared.Prepared.{Prepared}
+use Rattle.campaign_outcomes.specs.declared.outcome.Outcome.{Outcome}
+use Rattle.campaign_plan.specs.Campaigns.{IsPlan}
+use Rattle.campaign_run.specs.Changes.{Course, IsChange, IsNear}
 use Rattle.result_book.specs.Rows.{AreRows}
-use Rattle.mcy_top.specs.Rows.{AreRight, GoesOn, IsBlankOrGood, IsGood, IsPrefix, IsWithinOne}
-use Rattle.mcy_top.specs.Crashes.{LeavesBooks}
+use Rattle.campaign_run.specs.Rows.{AreRight, GoesOn, IsBlankOrGood, IsGood, IsPrefix, IsWithinOne}
+use Rattle.campaign_run.specs.Crashes.{LeavesBooks}
 use Rattle.mcy_top.specs.Life.{Life}
 use Rattle.mcy_top.specs.Lives.{books_of, AreSafe, HasFinalTexts, HasPairsOnce, IsHistory, Lived}
 use Rattle.mcy_top.specs.Calls.{IsCovered, IsLived, IsSureBook}
-use Rattle.mcy_top.proofs.Crashes.{weaker_books}
-use Rattle.mcy_top.proofs.Growing.{form_more, right_more}
+use Rattle.campaign_run.proofs.Crashes.{weaker_books}
+use Rattle.campaign_run.proofs.Growing.{form_more, right_more}
 use Rattle.mcy_top.proofs.Advancing.{good_of, opened_form, within_itself}
 use Rattle.mcy_top.proofs.Finishing.{final_is}
 use Rattle.mcy_top.proofs.Once.{right_of}

@@ -1,48 +1,29 @@
 -- A project and its source have one campaign, and what a campaign defines is one.
-use Rattle.std.proofs.Common.{◌≡◌, ◌⊎◌, inl, inr, arith, ℕ, ◌+◌, Bool, true, false, MatchBool, ◌&&◌, List, [], ◌∷◌, ◌++◌, length, map, slice_get, Option, None, Some, refl, sym, ap, subst, ◌∙◌}
+use Rattle.std.proofs.Common.{◌≡◌, ◌⊎◌, inl, inr, arith, ℕ, ◌+◌, Bool, true, false, MatchBool, ◌&&◌, List, [], ◌∷◌, ◌++◌, length, slice_get, Option, None, Some, refl, sym, ap, subst, ◌∙◌}
 use Rattle.mcy_keeper.specs.declared.book.Book.{Book}
 use Rattle.mcy_keeper.specs.declared.book.Entry.{Entry}
 use Rattle.tb_bench.specs.declared.parts.Parts.{Parts}
-use Rattle.netlist_core.specs.declared.raw.RawNetlist.{RawNetlist}
 use Rattle.mutation_sites.specs.declared.site.Site.{Site}
-use Rattle.mcy_top.specs.declared.prepared.Prepared.{Prepared}
+use Rattle.campaign_plan.specs.declared.prepared.Prepared.{Prepared}
 use Rattle.tag_script.specs.declared.answer.Ask.{Ask}
 use Rattle.tag_script.specs.declared.answer.Ask.TheVariants.{Need}
-use Rattle.mcy_base.specs.declared.file.SourceFile.{SourceFile}
-use Rattle.project_file.specs.declared.project.Project.{Project}
-use Rattle.project_file.specs.Projects.{IsProject}
-use Rattle.project_sources.specs.Netlists.{HasNetlist}
-use Rattle.project_sources.proofs.OneAnswer.{netlists_are_one}
-use Rattle.mcy_top.specs.Mutations.{all_sites, picked_sites}
 use Rattle.result_book.specs.Scripts.{Answer, ask, is_ended}
-use Rattle.project_limits.specs.Files.{all_files}
-use Rattle.mcy_top.specs.Projects.{design_part}
-use Rattle.mcy_top.specs.Trials.{AreTrials, IsReading, Reading}
-use Rattle.mcy_top.specs.Campaigns.{campaign_of, file_item, meta_of, names_of, IsPlan}
-use Rattle.mcy_top.proofs.TrialLaws.{readings_are_one, trials_alike, SameTests}
+use Rattle.campaign_plan.specs.Campaigns.{IsPlan}
+use Rattle.campaign_plan.specs.Laws.{IsSame, SameTests}
+use Rattle.campaign_plan.proofs.OneCampaign.{plan_once}
 use Rattle.result_book.specs.Rows.{IsWellFormed}
-use Rattle.mcy_top.specs.Rows.{AreRight, IsBlankOrGood, IsGivenUpAt, IsRightWord, IsSaid, IsTrueWord, IsTrueWordAt}
+use Rattle.campaign_run.specs.Rows.{AreRight, IsBlankOrGood, IsGivenUpAt, IsRightWord, IsSaid, IsTrueWord, IsTrueWordAt}
 use Rattle.command_words.specs.declared.command.Command.{Command}
 use Rattle.mcy_top.specs.Texts.{answers_text, text_of}
-use Rattle.mcy_top.specs.declared.trial.Trial.{Trial}
-use Rattle.mcy_top.specs.declared.trial.Trial.TheVariants.{Equality, Simulation}
-use Rattle.mcy_top.specs.Simulated.{IsSimulated}
+use Rattle.campaign_plan.specs.declared.trial.Trial.{Trial}
+use Rattle.campaign_plan.specs.declared.trial.Trial.TheVariants.{Equality, Simulation}
+use Rattle.campaign_run.specs.Simulated.{IsSimulated}
 use Rattle.mcy_top.proofs.Simulating.{BenchesSayOnce}
 use Rattle.mcy_top.specs.Defined.{given_up, is_equality, is_given_up, AreAllAnswers, AreAnswers, IsFinalText, IsWordOf, Pair}
 use Rattle.mcy_top.specs.Once.{GaveUpSame, IsEnded, SayTheSame}
-use Rattle.mcy_top.proofs.Takes.{files_kept, project_once, report_once, script_once}
-use Rattle.mcy_top.proofs.Plans.{plan_meta}
 use Rattle.mcy_top.proofs.Finishing.{final_is}
 
 -- The campaign.
-
--- the tests of the campaigns are the same but for parts of their benches
-abbrev AlikeTrials : Prepared → Prepared → Type 0
-AlikeTrials c d = (t : ℕ) → SameTests (slice_get c.trials t) (slice_get d.trials t)
-
--- the campaigns are the same but for them
-abbrev IsSame : Prepared → Prepared → Type 0
-IsSame c d = (c ≡ record d { trials = c.trials }) × AlikeTrials c d
 
 -- a word that a test may have is one that a test may have which is the same but for parts of its bench
 test_alike : (d : Prepared) (trials : List Trial) (t : ℕ) (site : Option Site) (x y : Option Trial) (word : ℕ) → SameTests x y → (IsTrueWordAt (record d { trials = trials }) t site x word ⊎ IsGivenUpAt (record d { trials = trials }) site x word) → (IsTrueWordAt d t site y word ⊎ IsGivenUpAt d site y word)
@@ -60,35 +41,6 @@ test_alike d trials t (Some site) (Some (Simulation a p f)) None word alike h = 
 
 word_alike : (d : Prepared) (m t word : ℕ) (trials : List Trial) → SameTests (slice_get trials t) (slice_get d.trials t) → IsRightWord (record d { trials = trials }) m t word → IsRightWord d m t word
 word_alike d m t word trials alike right = test_alike d trials t (slice_get d.sites m) (slice_get trials t) (slice_get d.trials t) word alike right
-
-plan_once : (c d : Prepared) → IsPlan c → IsPlan d → c.campaign.meta ≡ d.campaign.meta → IsSame c d
-plan_once c d one two same =
-    let kept : meta_of one.config one.files ≡ meta_of two.config two.files = sym (plan_meta c one) ∙ same ∙ plan_meta d two in
-    let config : one.config ≡ two.config = cc in
-    let items : map file_item one.files ≡ map file_item two.files = cc in
-    let project : one.made.project ≡ two.made.project = project_once two.config one.made.project two.made.project (subst (λ (b : List ℕ). IsProject b one.made.project) config one.made.says) two.made.says in
-    let script : one.made.script ≡ two.made.script = script_once one.made.project two.made.project _ _ _ _ project one.made.scripts two.made.scripts in
-    let report : one.made.report ≡ two.made.report = report_once one.made.project two.made.project _ _ _ _ project one.made.scripts two.made.scripts in
-    let files : one.files ≡ two.files = files_kept one.files two.files (one.made.names ∙ ap all_files project ∙ sym two.made.names) items in
-    let design : HasNetlist (design_part two.made.project two.files) two.made.project.top c.netlist = subst (λ (p : Project). HasNetlist (design_part p two.files) p.top c.netlist) project (subst (λ (fs : List SourceFile). HasNetlist (design_part one.made.project fs) one.made.project.top c.netlist) files one.made.design) in
-    let netlist : c.netlist ≡ d.netlist = netlists_are_one (design_part two.made.project two.files) two.made.project.top c.netlist d.netlist design two.made.design in
-    let read : IsReading two.files (names_of two.files) two.made.project.top d.netlist one.made.reading = subst (λ (n : RawNetlist). IsReading two.files (names_of two.files) two.made.project.top n one.made.reading) netlist (subst (λ (p : Project). IsReading two.files (names_of two.files) p.top c.netlist one.made.reading) project (subst (λ (fs : List SourceFile). IsReading fs (names_of fs) one.made.project.top c.netlist one.made.reading) files one.made.is_reading)) in
-    let reading : one.made.reading ≡ two.made.reading = readings_are_one two.files (names_of two.files) two.made.project.top d.netlist one.made.reading two.made.reading read two.made.is_reading in
-    let run : AreTrials two.made.reading two.made.project.tests c.trials = subst (λ (p : Project). AreTrials two.made.reading p.tests c.trials) project (subst (λ (r : Reading). AreTrials r one.made.project.tests c.trials) reading one.made.trials) in
-    let trials : AlikeTrials c d = λ t. trials_alike two.made.reading two.made.project.tests c.trials d.trials t run two.made.trials in
-    let cycles : c.cycles ≡ d.cycles = one.made.cycles ∙ ap (λ (p : Project). p.cycles) project ∙ sym two.made.cycles in
-    let seed : c.word_seed ≡ d.word_seed = one.made.seed ∙ ap (λ (p : Project). p.word_seed) project ∙ sym two.made.seed in
-    let picked : picked_sites one.made.project c.netlist ≡ picked_sites two.made.project d.netlist = λ i. picked_sites (project i) (netlist i) in
-    let places : c.sites ≡ d.sites = one.made.places ∙ picked ∙ sym two.made.places in
-    let counted : length (all_sites one.made.project c.netlist) ≡ length (all_sites two.made.project d.netlist) = λ i. length (all_sites (project i) (netlist i)) in
-    let count : c.site_count ≡ d.site_count = one.made.count ∙ counted ∙ sym two.made.count in
-    let derived : campaign_of one.config one.made.project one.made.script one.made.report one.files c.netlist ≡ campaign_of two.config two.made.project two.made.script two.made.report two.files d.netlist = λ i. campaign_of (config i) (project i) (script i) (report i) (files i) (netlist i) in
-    let campaign : c.campaign ≡ d.campaign = one.made.campaign ∙ derived ∙ sym two.made.campaign in
-    let parts : design_part one.made.project one.files ≡ design_part two.made.project two.files = λ i. design_part (project i) (files i) in
-    let sources : c.files ≡ d.files = one.made.sources ∙ parts ∙ sym two.made.sources in
-    let conflicts : c.conflicts ≡ d.conflicts = one.made.conflicts ∙ ap (λ (p : Project). p.conflicts) project ∙ sym two.made.conflicts in
-    let same : c ≡ record d { trials = c.trials } = λ i. record { campaign = campaign i; site_count = count i; sites = places i; netlist = netlist i; trials = c.trials; conflicts = conflicts i; cycles = cycles i; word_seed = seed i; files = sources i } in
-    (same, trials)
 
 -- and their words are the same
 same_words : (c d : Prepared) → IsSame c d → SayTheSame c d

@@ -13,7 +13,7 @@ use Rattle.result_book.specs.Scripts.{mark_of, tags_of}
 use Rattle.result_book.specs.Campaigns.{IsWordOf}
 use Rattle.result_book.specs.Rows.{ask_on, AreRows, IsPair, IsRow}
 use Rattle.result_book.specs.BookFaults.{DifferFirst, IsAsked, IsFirstFault, IsPlaced, IsRefused, IsRowFault}
-use Rattle.mcy_top.proofs.Growing.{append-nil}
+use Rattle.campaign_run.proofs.Growing.{append-nil}
 
 -- Lists differ first at one place.
 

@@ -16,8 +16,8 @@ use Rattle.tb_process.specs.Running.{generator}
 use Rattle.tb_once.specs.Laws.{BenchesHaveOneOutcome, SettingsByDesign, StartsByRegisters}
 use Rattle.sim_words.specs.SimWords.{IsMutant, RunsDesigns, SimBench}
 use Rattle.sim_words.specs.Laws.{MutantsTellTheSame}
-use Rattle.mcy_top.specs.GivenUp.{IsMutantAt}
-use Rattle.mcy_top.specs.Simulated.{told_verdict, IsSimulated, Run}
+use Rattle.campaign_run.specs.GivenUp.{IsMutantAt}
+use Rattle.campaign_run.specs.Simulated.{told_verdict, IsSimulated, Run}
 
 mutant_of : (netlist mutated : RawNetlist) (site : Site) → IsMutantAt netlist mutated site → IsMutant netlist site mutated
 mutant_of netlist mutated site broken = record { alike = broken.runs; each_run = broken.each_run; widths = broken.names.widths; starts = broken.names.starts }

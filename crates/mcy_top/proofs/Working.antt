@@ -14,18 +14,18 @@ use Rattle.result_book.specs.Rows.{ask_on, IsFinished, IsWellFormed}
 use Rattle.source_report.specs.Texts.{status_text}
 use Rattle.command_words.specs.declared.command.Command.{Command}
 use Rattle.command_words.specs.declared.command.Command.TheVariants.{Init, Run, List as Listing, Status, Source}
-use Rattle.mcy_top.specs.declared.prepared.Prepared.{Prepared}
+use Rattle.campaign_plan.specs.declared.prepared.Prepared.{Prepared}
 use Rattle.mcy_top.specs.declared.work.Ending.{Ending}
 use Rattle.mcy_top.specs.declared.work.Ending.TheVariants.{Written, Refused, NoMemory}
-use Rattle.mcy_top.specs.declared.outcome.BookRefusal.{BookRefusal}
-use Rattle.mcy_top.specs.declared.outcome.BookRefusal.TheVariants.{NoCampaign as RefusedNone, AlreadyBegun as RefusedBegun, BookBad as RefusedBook, Memory as RefusedMemory}
-use Rattle.mcy_top.specs.declared.outcome.Outcome.{Outcome}
-use Rattle.mcy_top.specs.declared.outcome.Outcome.TheVariants.{Done, Unfinished, NoCampaign, AlreadyBegun, BookBad, KeeperFault, WriteFault, Memory}
-use Rattle.mcy_top.specs.Commands.{stop_of, IsWithin, OnlyReads, Runs}
-use Rattle.mcy_top.specs.Campaigns.{IsPlan}
-use Rattle.mcy_top.specs.Rows.{AreRight, IsBlankOrGood, IsGood, IsNextRow, IsPrefix, IsWithinOne}
-use Rattle.mcy_top.specs.Changes.{Course, IsNear, opened}
-use Rattle.mcy_top.specs.Running.{book_of, Broke, Ran, Reached}
+use Rattle.mcy_top.specs.declared.refusal.BookRefusal.{BookRefusal}
+use Rattle.mcy_top.specs.declared.refusal.BookRefusal.TheVariants.{NoCampaign as RefusedNone, AlreadyBegun as RefusedBegun, BookBad as RefusedBook, Memory as RefusedMemory}
+use Rattle.campaign_outcomes.specs.declared.outcome.Outcome.{Outcome}
+use Rattle.campaign_outcomes.specs.declared.outcome.Outcome.TheVariants.{Done, Unfinished, NoCampaign, AlreadyBegun, BookBad, KeeperFault, WriteFault, Memory}
+use Rattle.mcy_top.specs.Commands.{stop_of, OnlyReads, Runs}
+use Rattle.campaign_plan.specs.Campaigns.{IsPlan}
+use Rattle.campaign_run.specs.Rows.{AreRight, IsBlankOrGood, IsGood, IsNextRow, IsPrefix, IsWithinOne}
+use Rattle.campaign_run.specs.Changes.{Course, IsNear, opened}
+use Rattle.campaign_run.specs.Running.{book_of, Broke, IsWithin, Ran, Reached}
 use Rattle.mcy_top.specs.Texts.{init_text, text_of}
 use Rattle.mcy_top.specs.Outcomes.{book_outcome}
 use Rattle.mcy_top.specs.BookRefusals.{IsBookBad, RefusesBook}
@@ -33,11 +33,11 @@ use Rattle.mcy_top.specs.Endings.{ended_outcome, failed_outcome, run_outcome, De
 use Rattle.mcy_top.specs.Life.{finished_count, Answers, Carried, Grew, Takes, Work, Wrote}
 use Rattle.mcy_top.proofs.Advancing.{good_of, opened_form, within_itself, within_more}
 use Rattle.mcy_top.proofs.Counting.{all_counted, counted_all, counted_few}
-use Rattle.mcy_top.proofs.Crashes.{either_books, only_books, weaker_books}
+use Rattle.campaign_run.proofs.Crashes.{either_books, only_books, weaker_books}
 use Rattle.mcy_top.proofs.Finishing.{final_is}
-use Rattle.mcy_top.proofs.Growing.{form_more, length_more, right_more}
+use Rattle.campaign_run.proofs.Growing.{form_more, length_more, right_more}
 use Rattle.mcy_top.proofs.Once.{right_of}
-use Rattle.mcy_top.proofs.Plans.{plan_meta}
+use Rattle.campaign_plan.proofs.Plans.{plan_meta}
 
 -- a begun book has meta
 pub plan_begun : (c : Prepared) → IsPlan c → c.campaign.meta ≢ []

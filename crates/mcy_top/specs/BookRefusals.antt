@@ -8,9 +8,9 @@ use Rattle.result_book.specs.Rows.{IsWellFormed}
 use Rattle.result_book.specs.BookFaults.{IsRefused}
 use Rattle.command_words.specs.declared.command.Command.{Command}
 use Rattle.command_words.specs.declared.command.Command.TheVariants.{Init}
-use Rattle.mcy_top.specs.declared.prepared.Prepared.{Prepared}
-use Rattle.mcy_top.specs.declared.outcome.BookRefusal.{BookRefusal}
-use Rattle.mcy_top.specs.declared.outcome.BookRefusal.TheVariants.{NoCampaign, AlreadyBegun, BookBad, Memory}
+use Rattle.campaign_plan.specs.declared.prepared.Prepared.{Prepared}
+use Rattle.mcy_top.specs.declared.refusal.BookRefusal.{BookRefusal}
+use Rattle.mcy_top.specs.declared.refusal.BookRefusal.TheVariants.{NoCampaign, AlreadyBegun, BookBad, Memory}
 use Rattle.mcy_top.specs.Commands.{OnlyReads}
 
 -- a count as it is told, at most 4,294,967,295

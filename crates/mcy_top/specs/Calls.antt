@@ -3,11 +3,11 @@ use Rattle.std.specs.Prelude.{ℕ, ◌+◌, ◌≤◌, List, length, Option, Som
 use Rattle.mcy_keeper.specs.declared.book.Book.{Book}
 use Rattle.mcy_keeper.specs.Books.{LeavesNothingNew}
 use Rattle.mcy_outside.specs.Files.{Held}
-use Rattle.mcy_top.specs.declared.prepared.Prepared.{Prepared}
-use Rattle.mcy_top.specs.declared.outcome.Outcome.{Outcome}
-use Rattle.mcy_top.specs.Rows.{IsPrefix}
-use Rattle.mcy_top.specs.Crashes.{LeavesBooks}
-use Rattle.mcy_top.specs.Changes.{IsNear}
+use Rattle.campaign_plan.specs.declared.prepared.Prepared.{Prepared}
+use Rattle.campaign_outcomes.specs.declared.outcome.Outcome.{Outcome}
+use Rattle.campaign_run.specs.Rows.{IsPrefix}
+use Rattle.campaign_run.specs.Crashes.{LeavesBooks}
+use Rattle.campaign_run.specs.Changes.{IsNear}
 use Rattle.mcy_top.specs.Life.{Early, Life}
 use Rattle.mcy_top.specs.Lives.{IsLife}
 

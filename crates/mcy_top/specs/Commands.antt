@@ -1,5 +1,5 @@
 -- What the commands do: the tests that they may have under way, when they are to stop, and which of them change the book.
-use Rattle.std.specs.Prelude.{ℕ, ◌+◌, ◌≤◌, Option, Some, None, ⊤}
+use Rattle.std.specs.Prelude.{ℕ, Option, None, ⊤}
 use Rattle.command_words.specs.declared.command.Command.{Command}
 use Rattle.command_words.specs.declared.command.Command.TheVariants.{Init, Run, List as Listing, Status, Source}
 
@@ -18,11 +18,6 @@ stop_of (Run stop_after) = stop_after
 stop_of Listing = None
 stop_of Status = None
 stop_of Source = None
-
--- it grew by no more than was asked for, if a number was
-abbrev pub IsWithin : Option ℕ → ℕ → ℕ → Type 0
-IsWithin None before now = ⊤
-IsWithin (Some stop) before now = now ≤ before + stop
 
 -- the command runs tests
 abbrev pub Runs : Command → Type 0

@@ -5,11 +5,11 @@ use Rattle.std.specs.Bool.{MatchBool}
 use Rattle.mcy_keeper.specs.declared.book.Entry.{Entry}
 use Rattle.result_book.specs.declared.script.TestWord.TheVariants.{Unknown}
 use Rattle.tag_script.specs.declared.answer.Ask.TheVariants.{Need}
-use Rattle.mcy_top.specs.declared.prepared.Prepared.{Prepared}
+use Rattle.campaign_plan.specs.declared.prepared.Prepared.{Prepared}
 use Rattle.result_book.specs.Scripts.{Answer, word_code, ask, is_ended}
-use Rattle.mcy_top.specs.declared.trial.Trial.{Trial}
-use Rattle.mcy_top.specs.declared.trial.Trial.TheVariants.{Equality}
-use Rattle.mcy_top.specs.Rows.{IsTrueWord}
+use Rattle.campaign_plan.specs.declared.trial.Trial.{Trial}
+use Rattle.campaign_plan.specs.declared.trial.Trial.TheVariants.{Equality}
+use Rattle.campaign_run.specs.Rows.{IsTrueWord}
 use Rattle.command_words.specs.declared.command.Command.{Command}
 use Rattle.mcy_top.specs.Texts.{answers_text}
 

@@ -3,15 +3,16 @@ use Rattle.std.specs.Prelude.{◌≡◌, ◌≢◌, ◌⊎◌, ℕ, List, Option
 use Rattle.mcy_keeper.specs.declared.book.Book.{Book}
 use Rattle.mcy_outside.specs.Files.{Held}
 use Rattle.command_words.specs.declared.command.Command.{Command}
-use Rattle.mcy_top.specs.declared.prepared.Prepared.{Prepared}
-use Rattle.mcy_top.specs.declared.outcome.Refusal.{Refusal}
-use Rattle.mcy_top.specs.declared.outcome.BookRefusal.{BookRefusal}
-use Rattle.mcy_top.specs.declared.outcome.BookRefusal.TheVariants.{Memory as NoMemory}
-use Rattle.mcy_top.specs.declared.outcome.Outcome.{Outcome}
-use Rattle.mcy_top.specs.declared.outcome.Outcome.TheVariants.{Usage, ReadFault, Memory}
+use Rattle.campaign_plan.specs.declared.prepared.Prepared.{Prepared}
+use Rattle.campaign_reading.specs.declared.refusal.Refusal.{Refusal}
+use Rattle.mcy_top.specs.declared.refusal.BookRefusal.{BookRefusal}
+use Rattle.mcy_top.specs.declared.refusal.BookRefusal.TheVariants.{Memory as NoMemory}
+use Rattle.campaign_outcomes.specs.declared.outcome.Outcome.{Outcome}
+use Rattle.campaign_outcomes.specs.declared.outcome.Outcome.TheVariants.{Usage, ReadFault, Memory}
 use Rattle.command_words.specs.Commands.{command_of}
-use Rattle.mcy_top.specs.Campaigns.{IsMade, IsPlan}
-use Rattle.mcy_top.specs.Reads.{IsUnmade}
+use Rattle.campaign_reading.specs.Files.{IsMade}
+use Rattle.campaign_plan.specs.Campaigns.{IsPlan}
+use Rattle.campaign_reading.specs.Reads.{IsUnmade}
 use Rattle.mcy_top.specs.Outcomes.{book_outcome, outcome_of}
 use Rattle.mcy_top.specs.BookRefusals.{RefusesBook}
 use Rattle.mcy_top.specs.Life.{Answered, Answers, Commands}

@@ -6,14 +6,14 @@ use Rattle.mcy_keeper.specs.Books.{blank, LeavesNothingNew, LeavesSome}
 use Rattle.mcy_outside.specs.Files.{Held}
 use Rattle.mcy_outside.specs.Written.{Appends}
 use Rattle.result_book.specs.Rows.{IsFinished}
-use Rattle.mcy_top.specs.declared.prepared.Prepared.{Prepared}
+use Rattle.campaign_plan.specs.declared.prepared.Prepared.{Prepared}
 use Rattle.command_words.specs.declared.command.Command.{Command}
-use Rattle.mcy_top.specs.declared.outcome.Outcome.{Outcome}
-use Rattle.mcy_top.specs.declared.outcome.Outcome.TheVariants.{Done}
+use Rattle.campaign_outcomes.specs.declared.outcome.Outcome.{Outcome}
+use Rattle.campaign_outcomes.specs.declared.outcome.Outcome.TheVariants.{Done}
 use Rattle.mcy_top.specs.Commands.{Runs}
-use Rattle.mcy_top.specs.Rows.{IsBlankOrGood}
-use Rattle.mcy_top.specs.Crashes.{LeavesBooks}
-use Rattle.mcy_top.specs.Changes.{IsNear}
+use Rattle.campaign_run.specs.Rows.{IsBlankOrGood}
+use Rattle.campaign_run.specs.Crashes.{LeavesBooks}
+use Rattle.campaign_run.specs.Changes.{IsNear}
 use Rattle.mcy_top.specs.Defined.{given_up, IsFinalText}
 use Rattle.mcy_top.specs.Life.{Early, Life}
 use Rattle.mcy_top.specs.Lives.{AreSafe, IsHistory, Lived}

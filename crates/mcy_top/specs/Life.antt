@@ -9,19 +9,20 @@ use Rattle.result_book.specs.Rows.{groups, IsFinished, IsWellFormed}
 use Rattle.mcy_outside.specs.Written.{Appends, AppendsPart}
 use Rattle.command_words.specs.declared.command.Command.{Command}
 use Rattle.command_words.specs.declared.command.Command.TheVariants.{Init, Run, List as Listing, Status, Source}
-use Rattle.mcy_top.specs.declared.prepared.Prepared.{Prepared}
-use Rattle.mcy_top.specs.declared.outcome.Refusal.TheVariants.{ProjectBad as RefusedProject, ScriptBad as RefusedScript, SourceBad as RefusedSource, Missing as RefusedMissing, TooLarge as RefusedTooLarge, ReadFault as RefusedRead}
-use Rattle.mcy_top.specs.declared.outcome.BookRefusal.TheVariants.{NoCampaign as RefusedNone, AlreadyBegun as RefusedBegun, BookBad as RefusedBook}
-use Rattle.mcy_top.specs.declared.outcome.Outcome.{Outcome}
-use Rattle.mcy_top.specs.declared.outcome.Outcome.TheVariants.{Done, Unfinished, Usage, ProjectBad, ScriptBad, SourceBad, Missing, TooLarge, NoCampaign, AlreadyBegun, BookBad, ReadFault, KeeperFault, WriteFault, Memory}
+use Rattle.campaign_plan.specs.declared.prepared.Prepared.{Prepared}
+use Rattle.campaign_reading.specs.declared.refusal.Refusal.TheVariants.{ProjectBad as RefusedProject, ScriptBad as RefusedScript, SourceBad as RefusedSource, Missing as RefusedMissing, TooLarge as RefusedTooLarge, ReadFault as RefusedRead}
+use Rattle.mcy_top.specs.declared.refusal.BookRefusal.TheVariants.{NoCampaign as RefusedNone, AlreadyBegun as RefusedBegun, BookBad as RefusedBook}
+use Rattle.campaign_outcomes.specs.declared.outcome.Outcome.{Outcome}
+use Rattle.campaign_outcomes.specs.declared.outcome.Outcome.TheVariants.{Done, Unfinished, Usage, ProjectBad, ScriptBad, SourceBad, Missing, TooLarge, NoCampaign, AlreadyBegun, BookBad, ReadFault, KeeperFault, WriteFault, Memory}
 use Rattle.command_words.specs.Commands.{command_of}
-use Rattle.mcy_top.specs.Commands.{slots_of, stop_of, IsWithin, OnlyReads, Runs}
-use Rattle.mcy_top.specs.Campaigns.{IsMade}
-use Rattle.mcy_top.specs.Reads.{IsUnmade}
+use Rattle.campaign_run.specs.Running.{IsWithin}
+use Rattle.mcy_top.specs.Commands.{slots_of, stop_of, OnlyReads, Runs}
+use Rattle.campaign_reading.specs.Files.{IsMade}
+use Rattle.campaign_reading.specs.Reads.{IsUnmade}
 use Rattle.mcy_top.specs.BookRefusals.{RefusesBook}
-use Rattle.mcy_top.specs.Rows.{IsGood, IsBlankOrGood, IsPrefix, IsWithinOne}
-use Rattle.mcy_top.specs.Crashes.{LeavesBooks}
-use Rattle.mcy_top.specs.Changes.{Course, IsNear}
+use Rattle.campaign_run.specs.Rows.{IsGood, IsBlankOrGood, IsPrefix, IsWithinOne}
+use Rattle.campaign_run.specs.Crashes.{LeavesBooks}
+use Rattle.campaign_run.specs.Changes.{Course, IsNear}
 use Rattle.mcy_top.specs.Texts.{text_of}
 use Rattle.mcy_top.specs.Defined.{given_up, IsFinalText}
 

@@ -3,11 +3,11 @@ use Rattle.std.specs.Prelude.{◌≡◌, List, [], ◌∷◌, ◌++◌, ⊤}
 use Rattle.std.specs.List.{All, AllPairs}
 use Rattle.mcy_keeper.specs.declared.book.Book.{Book}
 use Rattle.mcy_keeper.specs.Books.{blank}
-use Rattle.mcy_top.specs.declared.prepared.Prepared.{Prepared}
-use Rattle.mcy_top.specs.Campaigns.{IsPlan}
+use Rattle.campaign_plan.specs.declared.prepared.Prepared.{Prepared}
+use Rattle.campaign_plan.specs.Campaigns.{IsPlan}
 use Rattle.result_book.specs.Rows.{IsFinished, IsPair, IsWellFormed}
-use Rattle.mcy_top.specs.Rows.{GoesOn, IsBlankOrGood, IsGood, IsPrefix}
-use Rattle.mcy_top.specs.Changes.{Course, IsNear}
+use Rattle.campaign_run.specs.Rows.{GoesOn, IsBlankOrGood, IsGood, IsPrefix}
+use Rattle.campaign_run.specs.Changes.{Course, IsNear}
 use Rattle.command_words.specs.declared.command.Command.{Command}
 use Rattle.mcy_top.specs.Texts.{text_of}
 use Rattle.mcy_top.specs.Defined.{given_up, IsFinalText}

@@ -5,8 +5,8 @@ use Rattle.netlist_core.specs.Solutions.{FitsInputs, FitsRegisters}
 use Rattle.mutation_sites.specs.declared.site.Site.{Site}
 use Rattle.elab_hier.specs.Elaborations.{CanRun}
 use Rattle.step_trials.specs.Equal.{design, mutant, HasOneSolution}
-use Rattle.mcy_top.specs.declared.prepared.Prepared.{Prepared}
-use Rattle.mcy_top.specs.Campaigns.{IsPlan}
+use Rattle.campaign_plan.specs.declared.prepared.Prepared.{Prepared}
+use Rattle.campaign_plan.specs.Campaigns.{IsPlan}
 
 -- A campaign's netlist is sound,
 abbrev pub CampaignsAreSound : Type 0

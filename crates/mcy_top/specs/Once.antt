@@ -1,11 +1,11 @@
 -- Laws of campaigns: a project and its source have one, and it defines one text of each command.
 use Rattle.std.specs.Prelude.{◌≡◌, ℕ, List}
 use Rattle.mcy_keeper.specs.declared.book.Book.{Book}
-use Rattle.mcy_top.specs.declared.prepared.Prepared.{Prepared}
+use Rattle.campaign_plan.specs.declared.prepared.Prepared.{Prepared}
 use Rattle.result_book.specs.Scripts.{Answer}
-use Rattle.mcy_top.specs.Campaigns.{IsPlan}
+use Rattle.campaign_plan.specs.Campaigns.{IsPlan}
 use Rattle.result_book.specs.Rows.{IsFinished, IsWellFormed}
-use Rattle.mcy_top.specs.Rows.{IsGood, IsRightWord}
+use Rattle.campaign_run.specs.Rows.{IsGood, IsRightWord}
 use Rattle.command_words.specs.declared.command.Command.{Command}
 use Rattle.mcy_top.specs.Texts.{text_of}
 use Rattle.mcy_top.specs.Defined.{given_up, is_given_up, AreAllAnswers, IsFinalText, Pair}

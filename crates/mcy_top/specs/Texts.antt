@@ -8,7 +8,7 @@ use Rattle.source_report.specs.Sources.{file_texts}
 use Rattle.source_report.specs.Texts.{lines, number_line}
 use Rattle.command_words.specs.declared.command.Command.{Command}
 use Rattle.command_words.specs.declared.command.Command.TheVariants.{Init, Run, List as Listing, Status, Source}
-use Rattle.mcy_top.specs.declared.prepared.Prepared.{Prepared}
+use Rattle.campaign_plan.specs.declared.prepared.Prepared.{Prepared}
 
 -- the sites that there are, and the mutations that were taken
 abbrev pub init_text : Prepared → List ℕ

@@ -4,9 +4,10 @@ ghost use Rattle.command_words.specs.declared.command.Command.{Command as Asked}
 ghost use Rattle.mcy_top.specs.Complete.{Completes, IsReady, NoneRose};
 ghost use Rattle.mcy_top.specs.Life.{Answered, Early, HasCause, IsQuiet, Life};
 
-use crate::outcome::Outcome;
-use crate::reading::read_campaign;
+use crate::refusal::refused;
 use crate::work::{Task, failed};
+use campaign_outcomes::Outcome;
+use campaign_reading::read_campaign;
 use command_words::read_words;
 use mcy_base::Steps;
 use mcy_keeper::Keeper;
@@ -71,7 +72,7 @@ fn carry_out_words<F: SourceFiles, K: Keeper, O: Sink, L: Ledger>(
     };
     let prepared = match read_campaign(alloc, files) {
         Ok(prepared) => prepared,
-        Err(refusal) => return refusal.into_outcome(),
+        Err(refusal) => return refused(refusal),
     };
     match keeper.load() {
         Ok(loaded) => {

@@ -1,5 +1,5 @@
 //! The work of the commands over a loaded book.
-ghost use Rattle.std.specs.Prelude.{◌≡◌, ◌≢◌, ℕ, ◌≤◌, ◌++◌, [], IfOk, IfErr, IsTrue, OnOk, length, string_bytes};
+ghost use Rattle.std.specs.Prelude.{◌≡◌, ◌≢◌, ℕ, ◌≤◌, [], IfOk, IfErr, IsTrue, OnOk, string_bytes};
 ghost use Rattle.mcy_base.specs.Causes.{Rose};
 ghost use Rattle.mcy_keeper.specs.Books.{blank, IsBlank, Keeps};
 ghost use Rattle.result_book.specs.Rows.{IsWellFormed};
@@ -9,17 +9,18 @@ ghost use Rattle.source_report.specs.Sources.{source_text};
 ghost use Rattle.source_report.specs.Texts.{status_text};
 ghost use Rattle.mcy_top.specs.Commands.{OnlyReads};
 ghost use Rattle.mcy_top.specs.Texts.{init_text, text_of};
-ghost use Rattle.mcy_top.specs.Campaigns.{IsPlan};
+ghost use Rattle.campaign_plan.specs.Campaigns.{IsPlan};
 ghost use Rattle.mcy_top.specs.BookRefusals.{told, RefusesBook};
 ghost use Rattle.mcy_top.specs.Endings.{ended_outcome, failed_outcome, run_outcome, Delivers, Ends};
-ghost use Rattle.mcy_top.specs.Running.{book_of};
+ghost use Rattle.campaign_run.specs.Running.{book_of};
 ghost use Rattle.mcy_top.specs.Life.{Work};
 ghost use Rattle.command_words.specs.declared.command.Command.{Command as Asked};
-ghost use Rattle.mcy_top.specs.declared.prepared.Prepared.{Prepared as Planned};
+ghost use Rattle.campaign_plan.specs.declared.prepared.Prepared.{Prepared as Planned};
 
-use crate::outcome::{BookRefusal, Outcome};
-use crate::prepared::Prepared;
-use crate::running::Tester;
+use crate::refusal::BookRefusal;
+use campaign_outcomes::Outcome;
+use campaign_plan::Prepared;
+use campaign_run::Tester;
 use command_words::Command;
 use mcy_base::Steps;
 use mcy_keeper::{Book, KeepError, Keeper};

@@ -12,15 +12,15 @@ use Rattle.sat_solver.proofs.Bound.{short_log}
 use Rattle.pair_gates.specs.Copies.{pair_clauses}
 use Rattle.result_book.specs.declared.script.TestWord.TheVariants.{Pass, Fail, Unknown}
 use Rattle.result_book.specs.Scripts.{word_code}
-use Rattle.mcy_top.specs.declared.prepared.Prepared.{Prepared}
+use Rattle.campaign_plan.specs.declared.prepared.Prepared.{Prepared}
 use Rattle.tb_bench.specs.declared.parts.Parts.{Parts}
 use Rattle.tb_turns.specs.declared.verdict.SimVerdict.{SimVerdict}
 use Rattle.tb_turns.specs.declared.verdict.SimVerdict.TheVariants as v
-use Rattle.mcy_top.specs.declared.trial.Trial.{Trial}
-use Rattle.mcy_top.specs.declared.trial.Trial.TheVariants.{Equality, Simulation}
-use Rattle.mcy_top.specs.Simulated.{told_verdict}
-use Rattle.mcy_top.specs.GivenUp.{HasAttempt}
-use Rattle.mcy_top.specs.Rows.{AreRight, IsGivenUpAt, IsRightWord, IsTrueWordAt}
+use Rattle.campaign_plan.specs.declared.trial.Trial.{Trial}
+use Rattle.campaign_plan.specs.declared.trial.Trial.TheVariants.{Equality, Simulation}
+use Rattle.campaign_run.specs.Simulated.{told_verdict}
+use Rattle.campaign_run.specs.GivenUp.{HasAttempt}
+use Rattle.campaign_run.specs.Rows.{AreRight, IsGivenUpAt, IsRightWord, IsTrueWordAt}
 use Rattle.row_laws.specs.Laws.{FailsDiffer, IsOfEquality, IsOfMutant, PassesAreAlike, SaysOfMutant, SimulationsAreSaid, UnknownsAreLong}
 
 right_at : (c : Prepared) (rows : List Entry) (row : Entry) (k : ℕ) → k < length rows → slice_index_or rows k row ≡ row → AreRight c rows → IsRightWord c row.mutation row.test row.word

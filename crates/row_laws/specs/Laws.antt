@@ -8,10 +8,10 @@ use Rattle.mcy_keeper.specs.declared.book.Entry.{Entry}
 use Rattle.step_trials.specs.Equal.{EqualOnAllRuns, Machine, OneStepEqual, design, mutant}
 use Rattle.result_book.specs.declared.script.TestWord.TheVariants.{Pass, Fail, Unknown}
 use Rattle.result_book.specs.Scripts.{word_code}
-use Rattle.mcy_top.specs.declared.prepared.Prepared.{Prepared}
+use Rattle.campaign_plan.specs.declared.prepared.Prepared.{Prepared}
 use Rattle.tb_bench.specs.declared.parts.Parts.{Parts}
-use Rattle.mcy_top.specs.declared.trial.Trial.TheVariants.{Equality, Simulation}
-use Rattle.mcy_top.specs.Rows.{IsGood, IsSaid}
+use Rattle.campaign_plan.specs.declared.trial.Trial.TheVariants.{Equality, Simulation}
+use Rattle.campaign_run.specs.Rows.{IsGood, IsSaid}
 
 -- so it is of the design of a campaign and of its mutant of this number
 pub record IsOfMutant (c : Prepared) (number : ℕ) (IsSo : Machine → Machine → Type 0) : Type 0 where

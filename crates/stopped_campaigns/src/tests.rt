@@ -75,8 +75,8 @@ fn run_over(
     };
     let mut keeper = SqlKeeper::adopt(alloc, Some(connection));
     let (outcome, out) = run(alloc, &mut keeper)?;
-    let is_done = matches!(outcome, Outcome::Done);
-    assert!(rt; is_done || matches!(outcome, Outcome::KeeperFault));
+    let is_done = matches!(&outcome, Outcome::Done);
+    assert!(rt; is_done || matches!(&outcome, Outcome::KeeperFault));
     assert!(rt; !is_done || out.seen() == FINISHED.as_bytes());
     let Some(connection) = keeper.into_connection() else {
         return Err(KeepError::Fault.into());

@@ -2,11 +2,11 @@ use Rattle.std.proofs.Common.{List, subst, inl, refl, Result, OnErr}
 use Rattle.mcy_keeper.specs.declared.book.Entry.{Entry}
 use Rattle.mcy_keeper.specs.declared.keeper.KeepError.{KeepError}
 use Rattle.mcy_keeper.specs.Books.{blank, LeavesEither}
-use Rattle.mcy_top.specs.Changes.{opened}
+use Rattle.campaign_run.specs.Changes.{opened}
 use Rattle.command_words.specs.declared.command.Command.TheVariants.{Run}
-use Rattle.mcy_top.specs.Running.{book_of}
+use Rattle.campaign_run.specs.Running.{book_of}
 use Rattle.mcy_top.specs.Life.{Work}
-use Rattle.mcy_top.proofs.Plans.{plan_fit}
+use Rattle.campaign_plan.proofs.Plans.{plan_fit}
 use Rattle.mcy_top.proofs.Working.{begin_left, work_opened, work_unopened}
 use Rattle.mcy_top.proofs.work.Task.begin_and_run.Goals as goal
 

@@ -1,4 +1,4 @@
-use Rattle.mcy_top.specs.declared.outcome.BookRefusal.TheVariants.{BookBad}
+use Rattle.mcy_top.specs.declared.refusal.BookRefusal.TheVariants.{BookBad}
 use Rattle.mcy_top.proofs.Working.{work_refused}
 use Rattle.mcy_top.proofs.work.Task.carry_out.Goals as goal
 

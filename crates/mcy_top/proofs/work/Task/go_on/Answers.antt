@@ -1,6 +1,6 @@
 use Rattle.std.proofs.Common.{◌≡◌}
 use Rattle.command_words.specs.declared.command.Command.TheVariants.{Init}
-use Rattle.mcy_top.specs.declared.outcome.BookRefusal.TheVariants.{AlreadyBegun}
+use Rattle.mcy_top.specs.declared.refusal.BookRefusal.TheVariants.{AlreadyBegun}
 use Rattle.mcy_top.proofs.Working.{work_refused}
 use Rattle.mcy_top.proofs.work.Task.go_on.Goals as goal
 

@@ -1,7 +1,7 @@
 use Rattle.std.proofs.Common.{◌∙◌, ℕ, List, subst, refl, Result, OnErr}
 use Rattle.mcy_keeper.specs.declared.keeper.KeepError.{KeepError}
 use Rattle.mcy_keeper.specs.Books.{blank, LeavesEither}
-use Rattle.mcy_top.specs.Changes.{opened}
+use Rattle.campaign_run.specs.Changes.{opened}
 use Rattle.command_words.specs.declared.command.Command.TheVariants.{Init}
 use Rattle.mcy_top.specs.declared.work.Ending.TheVariants.{NoMemory}
 use Rattle.mcy_top.specs.Endings.{Delivers}

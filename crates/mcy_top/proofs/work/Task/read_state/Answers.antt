@@ -1,6 +1,6 @@
 use Rattle.std.proofs.Common.{arith}
-use Rattle.mcy_top.proofs.Plans.{plan_fit}
-use Rattle.mcy_top.proofs.Judging.{plan_items}
+use Rattle.campaign_plan.proofs.Plans.{plan_fit}
+use Rattle.campaign_plan.proofs.Plans.{plan_items}
 use Rattle.mcy_top.proofs.work.Task.read_state.Goals as goal
 
 pub check_book-requires-clause-fit : goal.check_book-requires-clause-fit

@@ -1,6 +1,6 @@
 use Rattle.std.proofs.Common.{length, ap, arith}
 use Rattle.mcy_top.proofs.Counting.{counted_few, finished_is}
-use Rattle.mcy_top.proofs.Plans.{plan_fit}
+use Rattle.campaign_plan.proofs.Plans.{plan_fit}
 use Rattle.mcy_top.proofs.Working.{outcome_done}
 use Rattle.mcy_top.proofs.work.Task.run_outcome.Goals as goal
 

@@ -1,7 +1,7 @@
 use Rattle.std.proofs.Common.{ℕ, List, subst, sym}
 use Rattle.mcy_keeper.specs.declared.book.Entry.{Entry}
 use Rattle.mcy_top.specs.Endings.{Delivers}
-use Rattle.mcy_top.specs.Running.{book_of}
+use Rattle.campaign_run.specs.Running.{book_of}
 use Rattle.mcy_top.specs.Texts.{text_of}
 use Rattle.mcy_top.proofs.Working.{reads_not_init, text_by_rows, work_refused, work_told}
 use Rattle.mcy_top.proofs.work.Task.show.Goals as goal

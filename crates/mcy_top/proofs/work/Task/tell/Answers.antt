@@ -5,9 +5,9 @@ use Rattle.source_report.specs.Sources.{source_text}
 use Rattle.source_report.specs.Texts.{status_text}
 use Rattle.command_words.specs.declared.command.Command.{Command}
 use Rattle.command_words.specs.declared.command.Command.TheVariants.{Init, Run, Status}
-use Rattle.mcy_top.specs.declared.prepared.Prepared.{Prepared}
+use Rattle.campaign_plan.specs.declared.prepared.Prepared.{Prepared}
 use Rattle.mcy_top.specs.Commands.{OnlyReads}
-use Rattle.mcy_top.specs.Running.{book_of}
+use Rattle.campaign_run.specs.Running.{book_of}
 use Rattle.mcy_top.specs.Texts.{text_of}
 use Rattle.mcy_top.proofs.work.Task.tell.Goals as goal
 

@@ -1,0 +1,71 @@
+-- A book can keep the campaign of a project and its scripts: these name only its tests and tags, and there are few of all.
+use Rattle.std.proofs.Common.{◌≡◌, ℕ, zero, suc, ◌≤◌, List, [], ◌∷◌, length, map, true, Ok, inl, inr, refl, sym, ◌∙◌, subst, arith}
+use Rattle.std.specs.List.{All}
+use Rattle.std.proofs.lemmas.List.{length-map}
+use Rattle.mcy_base.specs.declared.file.SourceFile.{SourceFile}
+use Rattle.netlist_core.specs.declared.raw.RawNetlist.{RawNetlist}
+use Rattle.mutation_sites.specs.declared.site.Site.{Site}
+use Rattle.mutation_sites.specs.SiteTexts.{site_text}
+use Rattle.project_file.specs.declared.project.Project.{Project}
+use Rattle.project_file.specs.declared.project.TestPlan.{TestPlan}
+use Rattle.project_file.specs.declared.project.TestKind.{TestKind}
+use Rattle.project_file.specs.declared.project.TestKind.TheVariants.{Eq, Sim}
+use Rattle.project_file.specs.Projects.{IsProject}
+use Rattle.project_limits.proofs.Sizes.{size_within}
+use Rattle.project_limits.proofs.Tags.{tags_few}
+use Rattle.project_limits.proofs.Tests.{tests_few}
+use Rattle.script_lines.specs.Rows.{rows_of}
+use Rattle.tag_script.specs.declared.script.Script.{Script}
+use Rattle.tag_script.specs.Fits.{script_fits}
+use Rattle.tag_script.specs.Reading.{first_too_many, script_of}
+use Rattle.tag_script.proofs.Fitting.{reads_fit as script_reads_fit}
+use Rattle.report_script.specs.declared.report.Report.{Report}
+use Rattle.report_script.specs.Fits.{report_fits}
+use Rattle.report_script.specs.Reading.{report_of}
+use Rattle.report_script.proofs.Fitting.{reads_fit as report_reads_fit}
+use Rattle.result_book.specs.Campaigns.{IsFit, IsKind}
+use Rattle.campaign_choice.specs.Campaigns.{campaign_of, names_of}
+use Rattle.campaign_choice.specs.Mutations.{picked_sites, site_line}
+use Rattle.campaign_choice.specs.Projects.{HasScripts, kind_of, test_kinds, test_names}
+use Rattle.campaign_choice.proofs.Chosen.{within-size}
+
+-- the scripts of a project name only its tests and tags
+script_fit : (p : Project) (s : Script) (r : Report) → HasScripts p s r → script_fits (length (test_names p)) (length p.tags) s ≡ true
+unfolding script_of
+script_fit p s r has = script_reads_fit (record { tests = test_names p; tags = p.tags; limit = first_too_many p.logic }) (rows_of p.logic) (Ok s) has.logic
+
+report_fit : (p : Project) (s : Script) (r : Report) → HasScripts p s r → report_fits (length p.tags) r ≡ true
+unfolding report_of
+report_fit p s r has = report_reads_fit (record { tags = p.tags; limit = first_too_many p.report }) (rows_of p.report) (Ok r) has.report
+
+each_kind : (tests : List TestPlan) → All IsKind (map (λ (t : TestPlan). kind_of t.kind) tests)
+each_kind [] k d below = absurd (omega (arith, below))
+each_kind (t ∷ tests) zero d below = one t.kind
+  where
+    one : (kind : TestKind) → IsKind (kind_of kind)
+    one Eq = inl refl
+    one (Sim name files pass fail) = inr refl
+each_kind (t ∷ tests) (suc k) d below = each_kind tests k d (omega (arith, below))
+
+-- so a book can keep its campaign
+pub campaign_fits : (config : List ℕ) (p : Project) (s : Script) (r : Report) (files : List SourceFile) (netlist : RawNetlist) → IsProject config p → HasScripts p s r → IsFit (campaign_of config p s r files netlist)
+campaign_fits config p s r files netlist says has =
+    let picked : List Site = picked_sites p netlist in
+    let few : length picked ≤ 10000 = omega (arith, within-size p netlist, size_within config p says) in
+    let mutations : length (map (site_text netlist (names_of files)) picked) ≡ length picked = length-map picked (site_text netlist (names_of files)) in
+    let lines : length (map (site_line netlist) picked) ≡ length picked = length-map picked (site_line netlist) in
+    let names : length (test_names p) ≡ length p.tests = length-map p.tests (λ (t : TestPlan). t.name) in
+    let kinds : length (test_kinds p) ≡ length p.tests = length-map p.tests (λ (t : TestPlan). kind_of t.kind) in
+    let expects : length (map (λ (t : TestPlan). t.expect) p.tests) ≡ length p.tests = length-map p.tests (λ (t : TestPlan). t.expect) in
+    record {
+      few_mutations = omega (arith, mutations, few);
+      lines = lines ∙ sym mutations;
+      few_tests = omega (arith, kinds, tests_few config p says);
+      names = names ∙ sym kinds;
+      expects = expects ∙ sym kinds;
+      few_tags = tags_few config p says;
+      meta = λ is. cc;
+      kinds = each_kind p.tests;
+      script = subst (λ (n : ℕ). script_fits n (length p.tags) s ≡ true) (names ∙ sym kinds) (script_fit p s r has);
+      report = report_fit p s r has;
+    }

@@ -1,0 +1,14 @@
+use Rattle.std.proofs.Common.{◌≡◌, List, [], ◌++◌, slice_get, Option, None, Some, sym}
+use Rattle.std.specs.List.{cons_option}
+use Rattle.std.proofs.lemmas.List.{append-nil}
+use Rattle.std.proofs.lemmas.Option.{slice_get_past}
+use Rattle.mutation_sites.specs.declared.site.Site.{Site}
+use Rattle.campaign_choice.proofs.mutations.add_numbered.Goals as goal
+
+-- where there is no such site the list stays
+kept : (list : List Site) (o : Option Site) → o ≡ None → list ≡ list ++ cons_option o []
+kept list None is = sym (append-nil list)
+kept list (Some site) is = cc
+
+pub returns-in-None : goal.returns-in-None
+returns-in-None c = kept c.args.list.now.items (slice_get c.args.all.now c.args.number) (slice_get_past c.args.all.now c.args.number c.in-None.ensures.lookup.3)

@@ -1,0 +1,6 @@
+use Rattle.std.proofs.Common.{◌≡◌, map, take}
+use Rattle.campaign_choice.specs.Mutations.{site_line}
+use Rattle.campaign_choice.proofs.mutations.site_lines.Given as goal
+
+abbrev pub invariant-loop-site : goal.invariant-loop-site
+invariant-loop-site l = l.list.items ≡ map (site_line l.netlist.raw) (take l.site-index l.sites)

@@ -1,0 +1,5 @@
+pub mod Projects
+pub mod Mutations
+pub mod Limits
+pub mod Campaigns
+pub mod Laws

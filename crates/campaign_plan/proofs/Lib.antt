@@ -1,0 +1,5 @@
+pub mod Kept
+pub mod TrialLaws
+pub mod Plans
+pub mod Fitted
+pub mod OneCampaign

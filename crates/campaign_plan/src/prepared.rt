@@ -1,0 +1,41 @@
+//! What a project and its sources define before any test is run.
+//!
+//! `campaign` is what the book and the texts are made of. Mutation n of it is `netlist` broken at site n of `sites`, which
+//! are picked of the `site_count` sites that there are.
+use crate::trial::TrialList;
+use campaign_choice::SiteList;
+use mcy_base::FileList;
+use project_sources::CheckedNetlist;
+use result_book::Campaign;
+
+/// A campaign, and its sources with their netlist, how many sites that has, and those at which the mutations break it.
+pub struct Prepared {
+    pub campaign: Campaign,
+    pub site_count: usize,
+    pub sites: SiteList,
+    pub netlist: CheckedNetlist,
+    /// The tests in the order of the project, how many lemmas an equality may add, how many cycles a simulation may take, and where
+    /// `$random` begins.
+    pub trials: TrialList,
+    pub conflicts: u32,
+    pub cycles: u32,
+    pub word_seed: u64,
+    /// The sources of the design in the order of reading.
+    pub files: FileList,
+}
+
+impl Drop for Prepared {
+    fn drop(self) {
+        let Prepared {
+            campaign: _campaign,
+            site_count: _,
+            sites: _sites,
+            netlist: _netlist,
+            trials: _trials,
+            conflicts: _,
+            cycles: _,
+            word_seed: _,
+            files: _files,
+        } = self;
+    }
+}

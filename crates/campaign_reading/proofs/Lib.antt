@@ -1,0 +1,5 @@
+pub mod Trying
+pub mod First
+pub mod Takes
+pub mod Judging
+pub mod OneCause

@@ -1,0 +1,15 @@
+use Rattle.std.proofs.Common.{◌≡◌, ◌≤◌, ℕ, All, List, drop, length, map, take}
+use Rattle.campaign_reading.specs.Files.{GotAll}
+use Rattle.campaign_choice.specs.Limits.{max_bytes}
+use Rattle.campaign_reading.specs.Reads.{IsNext}
+use Rattle.campaign_reading.proofs.reading.read_files.Given as goal
+
+abbrev pub invariant-loop-name : goal.invariant-loop-name
+invariant-loop-name g l = record {
+  same : g.F.SourceFiles.held l.files ≡ g.F.SourceFiles.held l.initial.files;
+  names : map (λ file. file.name) l.read ≡ map (λ name. name.now) (take l.name-index l.names);
+  got : GotAll (g.F.SourceFiles.held l.initial.files) l.read;
+  few : All (λ file. length file.bytes ≤ max_bytes) l.read;
+  next : (name : List ℕ) → IsNext (g.F.SourceFiles.held l.initial.files) (map (λ name. name.now) (drop l.name-index l.names)) name → IsNext (g.F.SourceFiles.held l.initial.files) (map (λ name. name.now) l.names) name;
+  later : g.F.SourceFiles.faults l.initial.files ≤ g.F.SourceFiles.faults l.files;
+}

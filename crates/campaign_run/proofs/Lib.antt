@@ -1,0 +1,6 @@
+pub mod Crashes
+pub mod Asking
+pub mod Growing
+pub mod Words
+pub mod Verdicts
+pub mod Fitting

@@ -1,6 +1,0 @@
-use Rattle.std.proofs.Common.{◌≡◌, take}
-use Rattle.mcy_top.specs.Campaigns.{names_of}
-use Rattle.mcy_top.proofs.mutations.file_names.Given as goal
-
-abbrev pub invariant-loop-file : goal.invariant-loop-file
-invariant-loop-file l = l.names.items ≡ names_of (take l.file-index l.files)

@@ -1,6 +1,0 @@
-use Rattle.std.proofs.Common.{◌≡◌, map, take}
-use Rattle.project_file.specs.Paths.{with_names}
-use Rattle.mcy_top.proofs.project.add_names.Given as goal
-
-abbrev pub invariant-loop-name : goal.invariant-loop-name
-invariant-loop-name l = map (λ n. n.now) l.names.items ≡ with_names (map (λ n. n.now) l.fn.names.items) (take l.name-index l.more)

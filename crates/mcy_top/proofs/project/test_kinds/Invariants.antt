@@ -1,6 +1,0 @@
-use Rattle.std.proofs.Common.{◌≡◌, map, take}
-use Rattle.mcy_top.specs.Projects.{kind_of}
-use Rattle.mcy_top.proofs.project.test_kinds.Given as goal
-
-abbrev pub invariant-loop-test : goal.invariant-loop-test
-invariant-loop-test l = l.kinds.items ≡ map (λ test. kind_of test.kind) (take l.test-index l.tests)

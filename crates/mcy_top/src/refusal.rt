@@ -1,0 +1,45 @@
+//! How a call ends that is refused for its files, or for the book that was loaded.
+ghost use Rattle.std.specs.Prelude.{◌≡◌};
+ghost use Rattle.mcy_top.specs.Outcomes.{book_outcome, outcome_of};
+
+use campaign_outcomes::Outcome;
+use campaign_reading::Refusal;
+use result_book::BookError;
+
+/// How a call ends whose files make no campaign.
+pub(crate) fn refused(refusal: Refusal) -> Outcome
+    ensures { result ≡ outcome_of refusal }
+{
+    match refusal {
+        Refusal::ProjectBad(error) => Outcome::ProjectBad(error),
+        Refusal::ScriptBad(error) => Outcome::ScriptBad(error),
+        Refusal::SourceBad(error) => Outcome::SourceBad(error),
+        Refusal::Missing(name) => Outcome::Missing(name),
+        Refusal::TooLarge(name) => Outcome::TooLarge(name),
+        Refusal::ReadFault(name) => Outcome::ReadFault(name),
+        Refusal::Memory => Outcome::Memory,
+    }
+}
+
+/// Why a command refuses the loaded book.
+#[derive(Drop)]
+pub(crate) enum BookRefusal {
+    NoCampaign,
+    AlreadyBegun,
+    BookBad(BookError),
+    Memory,
+}
+
+impl BookRefusal {
+    /// How a call ends that is refused so.
+    pub(crate) fn into_outcome(self) -> Outcome
+        ensures { result ≡ book_outcome self }
+    {
+        match self {
+            BookRefusal::NoCampaign => Outcome::NoCampaign,
+            BookRefusal::AlreadyBegun => Outcome::AlreadyBegun,
+            BookRefusal::BookBad(error) => Outcome::BookBad(error),
+            BookRefusal::Memory => Outcome::Memory,
+        }
+    }
+}
