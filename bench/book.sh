@@ -12,9 +12,9 @@ room=$(mktemp -d "$root/out-bench.XXXXXX")
 trap 'rm -rf "$room"' EXIT
 
 # The program stands here as text, since the gate proves what stands in crates/ alone. It is proved and built in a copy.
-. "$root/bench/build.sh"
+. "$root/bench/lib/build.sh"
 build_beside book "bench_book: mcy_base mcy_keeper tag_script report_script result_book"
-gcc -O2 -o "$room/stock" "$root/bench/stock/rows.c" -lsqlite3
+gcc -O2 -o "$room/stock" "$root/bench/programs/stock/rows.c" -lsqlite3
 
 # The least time of three checks of a book with so many mutations.
 check() {

@@ -1,5 +1,5 @@
 #!/bin/bash
-# Whole campaigns of an equivalence test over designs made by bench/design.py: `mcy init` and `mcy run` with 200 mutations each. Prints what
+# Whole campaigns of an equivalence test over designs made by bench/lib/design.py: `mcy init` and `mcy run` with 200 mutations each. Prints what
 # `mcy status` says and the processor time of both in milliseconds.
 #
 # usage: bench/campaigns.sh [PROGRAM]      the program mcy, which is proved and built where it is left out
@@ -7,12 +7,12 @@ set -euo pipefail
 root=$(cd "$(dirname "$0")/.." && pwd)
 room=$(mktemp -d "$root/out-bench.XXXXXX")
 trap 'rm -rf "$room"' EXIT
-. "$root/bench/build.sh"
+. "$root/bench/lib/build.sh"
 given_or_built mcy "${@:1:1}"
 for bytes in 2500 6000 24000; do
     mkdir "$room/$bytes"
     cd "$room/$bytes"
-    python3 "$root/bench/design.py" "$bytes" >design.v
+    python3 "$root/bench/lib/design.py" "$bytes" >design.v
     cat >config.mcy <<'CONFIG'
 [options]
 size 200

@@ -12,7 +12,7 @@ cells=${1:-1000}
 room=$(mktemp -d "$root/out-bench.XXXXXX")
 trap 'rm -rf "$room"' EXIT
 
-. "$root/bench/build.sh"
+. "$root/bench/lib/build.sh"
 build_program netlist_cases
 program=$room/program
 

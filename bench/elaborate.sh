@@ -14,7 +14,7 @@ room=$(mktemp -d "$root/out-bench.XXXXXX")
 trap 'rm -rf "$room"' EXIT
 
 # The program stands here as text, since the gate proves what stands in crates/ alone. It is proved and built in a copy.
-. "$root/bench/build.sh"
+. "$root/bench/lib/build.sh"
 build_beside elaborate "bench_elaborate: anyhow mcy_base vlog_token vlog_syntax vlog_expand vlog_parse netlist_core elab_hier"
 
 # The number behind a word in what our program printed: `ours WORD`.
@@ -61,7 +61,7 @@ grow() {
     name=$1 word=$2 first=
     shift 2
     for size; do
-        python3 "$root/bench/design.py" $word "$size" >"$room/source.v"
+        python3 "$root/bench/lib/design.py" $word "$size" >"$room/source.v"
         beside "$name"
         [ -n "$first" ] || first=$bytes first_trees=$trees first_netlist=$netlist
         echo "  time for a byte, beside that at $first bytes: trees $(over $((trees * first)) $((first_trees * bytes))), netlist $(over $((netlist * first)) $((first_netlist * bytes)))"
@@ -70,6 +70,6 @@ grow() {
 
 grow "stages" "" "$@"
 grow "small modules" parts "$@"
-python3 "$root/bench/design.py" states 500 >"$room/source.v"
+python3 "$root/bench/lib/design.py" states 500 >"$room/source.v"
 beside "500 states"
 echo "$(nproc) processors"

@@ -12,9 +12,9 @@ room=$(mktemp -d "$root/out-bench.XXXXXX")
 trap 'rm -rf "$room"' EXIT
 
 # The program is the one that runs the cases of pairs.
-. "$root/bench/build.sh"
+. "$root/bench/lib/build.sh"
 build_program pair_cases
-python3 "$root/bench/equiv.py" "$room"
+python3 "$root/bench/lib/equiv.py" "$room"
 
 # The least processor time of three runs, in milliseconds: `least INPUT`.
 least() {
@@ -34,6 +34,6 @@ for name in alone beside shared; do
     echo "a sum of 6 bits, $name: $("$room/program" <"$room/cone.$name"), $(least "$room/cone.$name") milliseconds"
 done
 if command -v minisat >/dev/null; then
-    python3 "$root/bench/equiv.py" --told "$room"
+    python3 "$root/bench/lib/equiv.py" --told "$room"
 fi
 echo "$(nproc) processors"

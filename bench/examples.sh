@@ -9,11 +9,11 @@ set -euo pipefail
 root=$(cd "$(dirname "$0")/.." && pwd)
 room=$(mktemp -d "$root/out-bench.XXXXXX")
 trap 'rm -rf "$room"' EXIT
-. "$root/bench/build.sh"
+. "$root/bench/lib/build.sh"
 given_or_built mcy "${@:1:1}"
 for name in serial arbiter processor; do
     cp -r "$root/examples/$name" "$room/$name"
     echo "$name:"
-    python3 "$root/bench/examples.py" "$room/program" "$room/$name" "$name" "${2:-20}"
+    python3 "$root/bench/lib/examples.py" "$room/program" "$room/$name" "$name" "${2:-20}"
 done
 echo "$(nproc) processors"

@@ -11,7 +11,7 @@ room=$(mktemp -d "$root/out-bench.XXXXXX")
 trap 'rm -rf "$room"' EXIT
 
 # The program stands here as text, since the gate proves what stands in crates/ alone. It is proved and built in a copy.
-. "$root/bench/build.sh"
+. "$root/bench/lib/build.sh"
 build_beside netlist "bench_netlist: anyhow mcy_base netlist_core"
 
 for shape in chain back fan-out mixed; do

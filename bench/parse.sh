@@ -17,7 +17,7 @@ room=$(mktemp -d "$root/out-bench.XXXXXX")
 trap 'rm -rf "$room"' EXIT
 
 # The program stands here as text, since the gate proves what stands in crates/ alone. It is proved and built in a copy.
-. "$root/bench/build.sh"
+. "$root/bench/lib/build.sh"
 build_beside parse "bench_parse: anyhow mcy_base vlog_token vlog_expand vlog_parse"
 
 # The number behind a word in what our program printed: `ours WORD`.
@@ -66,7 +66,7 @@ done
 
 first=
 for size in "$@"; do
-    python3 "$root/bench/source.py" "$size" >"$room/source.v"
+    python3 "$root/bench/lib/source.py" "$size" >"$room/source.v"
     "$room/program" "$room/source.v" 3 >"$room/ours"
     bytes=$(wc -c <"$room/source.v")
     tokens=$(ours tokens)
@@ -84,7 +84,7 @@ for size in "$@"; do
     echo "  time for a byte, beside that at $first bytes: tokens $(over $((tokens * first)) $((first_tokens * bytes))), expand $(over $((expand * first)) $((first_expand * bytes))), parse $(over $((parse * first)) $((first_parse * bytes)))"
 done
 for size in 65536 1048576; do
-    python3 "$root/bench/source.py" "$size" dense >"$room/source.v"
+    python3 "$root/bench/lib/source.py" "$size" dense >"$room/source.v"
     "$room/program" "$room/source.v" 3 >"$room/ours"
     bytes=$(wc -c <"$room/source.v")
     parse=$(ours parse)

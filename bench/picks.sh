@@ -10,7 +10,7 @@ room=$(mktemp -d "$root/out-bench.XXXXXX")
 trap 'rm -rf "$room"' EXIT
 
 # The program stands here as text, since the gate proves what stands in crates/ alone. It is proved and built in a copy.
-. "$root/bench/build.sh"
+. "$root/bench/lib/build.sh"
 build_beside picks "bench_picks: anyhow mcy_base netlist_core mutation_sites mutation_select"
 
 for cells in 1041 2083 4166 8333; do

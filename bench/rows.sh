@@ -11,9 +11,9 @@ room=$(mktemp -d "$root/out-bench.XXXXXX")
 trap 'rm -rf "$room"' EXIT
 
 # The program stands here as text, since the gate proves what stands in crates/ alone. It is proved and built in a copy.
-. "$root/bench/build.sh"
+. "$root/bench/lib/build.sh"
 build_beside rows "bench_rows: mcy_base mcy_keeper keeper_sqlite sqlite"
-gcc -O2 -o "$room/stock" "$root/bench/stock/rows.c" -lsqlite3
+gcc -O2 -o "$room/stock" "$root/bench/programs/stock/rows.c" -lsqlite3
 
 # The least time of three runs of a program, with so many rows: `least WORD PROGRAM ROWS`.
 least() {

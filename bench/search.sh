@@ -14,7 +14,7 @@ room=$(mktemp -d "$root/out-bench.XXXXXX")
 trap 'rm -rf "$room"' EXIT
 
 # The program is the one that runs the cases of the search.
-. "$root/bench/build.sh"
+. "$root/bench/lib/build.sh"
 build_program search_cases
 program="$room/program"
 

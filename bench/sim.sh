@@ -11,7 +11,7 @@ times=${1:-40}
 room=$(mktemp -d "$root/out-bench.XXXXXX")
 trap 'rm -rf "$room"' EXIT
 
-. "$root/bench/build.sh"
+. "$root/bench/lib/build.sh"
 build_program bench_cases
 program=$room/program
 

@@ -1,7 +1,7 @@
 #!/usr/bin/env python3
 """Makes stdin and stdout of crates/assign_cases: assignments over declared signals, and what is built of them.
 
-Usage: tests/assigns.py FOLDER
+    tests/assigns.py [FOLDER]      the table of crates/assign_cases
 
 The rows at the head are worked out by hand. The others are drawn by a seeded generator from few names, so that writers meet and
 faults stand beside one another. What each gives is worked out here from the parts of which it is put together, by the rules of
@@ -9,7 +9,8 @@ IEEE 1364-2005, 4.2, 5.2, 5.4 and 6.1, and not from its text.
 """
 
 import random
-import sys
+
+from lib import tables
 
 CASES = 60
 RANKS = ["Unknown", "NotConstant", "DivideByZero", "TooWide", "RangeForm"]
@@ -374,7 +375,6 @@ def put_case(rng, lines, wanted):
 
 
 def main():
-    folder = sys.argv[1]
     lines, wanted = [], []
     for line in HAND.splitlines():
         if line.startswith("> "):
@@ -386,10 +386,7 @@ def main():
     rng = random.Random(6)
     for _ in range(CASES):
         put_case(rng, lines, wanted)
-    with open(f"{folder}/stdin", "w") as out:
-        out.write("\n".join(lines) + "\n")
-    with open(f"{folder}/stdout", "w") as out:
-        out.write("\n".join(wanted) + "\n")
+    tables.save("assign_cases", lines, wanted)
 
 
 if __name__ == "__main__":

@@ -1,10 +1,10 @@
 """The rows of crates/refusal_cases: testbenches, each with the first reason why it is refused, written by hand from the rules of
 docs/PROFILE.md and IEEE 1364-2005. A `@@` stands in front of the token at which the reason is told.
 
-    python3 tests/bench_refusals.py stdin  > crates/refusal_cases/stdin
-    python3 tests/bench_refusals.py stdout > crates/refusal_cases/stdout
+    tests/bench_refusals.py [FOLDER]      the table of crates/refusal_cases
 """
-import sys
+
+from lib import tables
 
 DESIGN = "module d(input clk, input a, output [1:0] q); endmodule"
 NAMES = "  reg c, x; reg [1:0] r; wire w; wire [1:0] y, v;"
@@ -138,15 +138,15 @@ def answer(name, lines):
 
 
 def main():
+    given, told = [], []
     for name, lines, clock in ROWS:
         if lines is None:
-            print(name)
-        elif sys.argv[1] == "stdin":
-            print("\n".join(lines).replace("@@", ""))
-            print(DESIGN)
-            print(f"look t d {clock}")
+            given.append(name)
+            told.append(name)
         else:
-            print(answer(name, lines))
+            given += ["\n".join(lines).replace("@@", ""), DESIGN, f"look t d {clock}"]
+            told.append(answer(name, lines))
+    tables.save("refusal_cases", given, told)
 
 
 main()

@@ -1,7 +1,7 @@
 #!/usr/bin/env python3
 """Makes the testbenches that the crate bench_cases simulates: its input, and what Icarus Verilog prints for each.
 
-usage: tests/benches.py      writes crates/bench_cases/stdin and crates/bench_cases/stdout; needs iverilog and vvp
+    tests/benches.py [FOLDER]      the table of crates/bench_cases; needs iverilog and vvp
 
 A case is a source with a design and a testbench, and a line `simulate BENCH TOP SEED CYCLES`. Its answer is the transcript, and whether
 `$finish` was reached. The answers of the cases that are drawn here are Icarus Verilog's. Where the order of processes or of assignments
@@ -11,15 +11,15 @@ alone, by one process, and what a process reads of others was written at another
 Where the simulator and this program differ by their descriptions, the simulator gets another text: `$random` is a function that draws from
 the generator XSH RR 64/32 of PCG, and the clock changes at each unit of time where `$time` is read, so that the time is the phase.
 """
-import os
 import random
 import re
 import subprocess
 import tempfile
 
-import saturating
+from lib import saturating
 from random_values import Words
 
+from lib import tables
 COUNT = 300
 
 
@@ -393,7 +393,6 @@ def by_hand():
 
 
 def main():
-    folder = os.path.join(os.path.dirname(os.path.abspath(__file__)), "..", "crates", "bench_cases")
     cases, answers = [], []
     for what, source, line, answer in by_hand():
         cases.append(f"# {what}\n{source}simulate {line}\n")
@@ -402,10 +401,7 @@ def main():
         source, seed, answer = drawn(k)
         cases.append(f"{source}simulate bench dut {seed} 2000\n")
         answers.append(f"{answer}finished\n")
-    with open(f"{folder}/stdin", "w") as out:
-        out.write("".join(cases))
-    with open(f"{folder}/stdout", "w") as out:
-        out.write("".join(answers))
+    tables.save("bench_cases", "".join(cases), "".join(answers))
 
 
 if __name__ == "__main__":

@@ -1,15 +1,15 @@
 #!/usr/bin/env python3
 """The cases of crates/builder_cases: builders, and what is made of them by the definition alone.
 
-    python3 tests/builders.py input > crates/builder_cases/stdin
-    python3 tests/builders.py output > crates/builder_cases/stdout
+    tests/builders.py [FOLDER]      the table of crates/builder_cases
 
 A net that is joined leads where the bit leads that it is joined to. A net of an input or of a register stays, and any
 other bit of a signal is that of the signal's start value. A net is on a loop where a walk along the joints comes back to it.
 """
 
 import random
-import sys
+
+from lib import tables
 
 WORKED = """\
 # a wire, and a constant
@@ -329,15 +329,12 @@ def statements():
 
 
 def main():
-    lines = list(long_chain(int(sys.argv[2]))) if sys.argv[1] == "chain" else statements()
-    if sys.argv[1] != "output":
-        print("\n".join(lines))
-        return
-    builder = Builder()
+    lines = statements()
+    builder, told = Builder(), []
     for line in lines:
-        builder, told = carry_out(builder, line)
-        for text in told:
-            print(text)
+        builder, texts = carry_out(builder, line)
+        told += texts
+    tables.save("builder_cases", lines, told)
 
 
 main()

@@ -1,20 +1,19 @@
 #!/usr/bin/env python3
 """Projects of other modes, sizes, seeds and picks: a part of the cases of crates/mcy_cases, by the definitions alone.
 
-    python3 tests/campaigns.py input     the part of crates/mcy_cases/stdin
-    python3 tests/campaigns.py output    the part of crates/mcy_cases/stdout
+    tests/campaigns.py [FOLDER]      a part of the table of crates/mcy_cases
 
 Sites stand by cell, port, bit and mode; a port of one bit has none of a mode that reads a control bit. Site number i
-draws the i-th word of the generator (tests/pcg.py). A plain pick takes the least by word and number, an even one by rank,
+draws the i-th word of the generator (tests/lib/pcg.py). A plain pick takes the least by word and number, an even one by rank,
 word and number, where a site's rank counts those of its line that are less by word and number. The numbers that are taken
 ascend. A mutant is run on all inputs: at an input port its cell alone reads the mutated bit, at Y all readers and the
 outputs do.
 """
 
 import itertools
-import sys
 
-import pcg
+from lib import pcg
+from lib import tables
 
 MODES = ["inv", "const0", "const1", "cnot0", "cnot1"]
 GATES = {"&": ("and", lambda a, b: a & b), "|": ("or", lambda a, b: a | b), "^": ("xor", lambda a, b: a ^ b)}
@@ -150,11 +149,8 @@ PARTS = [
 
 
 def main():
-    side = {"input": 0, "output": 1}[sys.argv[1]]
-    for head, cases in PARTS:
-        print(head)
-        for both in cases:
-            print("\n".join(both[side]))
+    halves = [[line for head, cases in PARTS for line in [head, *(row for both in cases for row in both[side])]] for side in (0, 1)]
+    tables.save_part("mcy_cases", *halves)
 
 
 if __name__ == "__main__":

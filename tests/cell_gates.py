@@ -1,8 +1,7 @@
 #!/usr/bin/env python3
 """Writes the cases of cells as gates: the table 'gates' of `netlist_cases`.
 
-    tests/cell_gates.py            writes the table 'gates' of crates/netlist_cases
-    tests/cell_gates.py --check    only compares the two files with what would be written
+    tests/cell_gates.py [FOLDER]      the table 'gates' of crates/netlist_cases
 
 A line is a kind, the sign, the width of Y, and for each input port its width and its number, as `add unsigned 8 8:255 8:1`. After a
 `:` the bits are free, after a `=` they are constants, and after a `~` they are the bits of the port before, as far as it has any. The
@@ -11,13 +10,9 @@ numbers, not of gates; the gates are made here by what an operation is on all va
 described, with a carry out of the last bit left out where there is none.
 """
 import itertools
-import pathlib
 import random
-import sys
 
-import sections
-
-HERE = pathlib.Path(__file__).resolve().parent.parent / "crates/netlist_cases"
+from lib import tables
 
 OPERATIONS = {
     "and": lambda a, b: a and b,
@@ -352,11 +347,7 @@ def main():
         shown = " ".join(f"{w}{mark}{n}" for w, mark, n in ports)
         lines.append(f"{kind} {'signed' if signed else 'unsigned'} {width} {shown}")
         answers += answer(kind, signed, width, ports)
-    files = {"stdin": "\n".join(lines) + "\n", "stdout": "\n".join(answers) + "\n"}
-    if "--check" in sys.argv:
-        sys.exit(any(sections.parts((HERE / name).read_text())["gates"] != text for name, text in files.items()))
-    for name, text in files.items():
-        sections.put(HERE / name, "gates", text)
+    tables.save("netlist_cases", lines, answers, "gates")
     print(f"{len(lines)} cells, {len(answers)} lines")
 
 

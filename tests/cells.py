@@ -1,18 +1,18 @@
 #!/usr/bin/env python3
 """Makes the table of cells that the program netlist_cases computes: its input, and the answers of Icarus Verilog.
 
-usage: tests/cells.py      writes the table 'cells' of crates/netlist_cases; needs iverilog and vvp
+    tests/cells.py [FOLDER]      the table 'cells' of crates/netlist_cases; needs iverilog and vvp
 
 A line of the input is a kind, the sign, the width of Y, and for each input port its width and its number, as
 `add unsigned 8 8:255 8:1`. Each line is one assignment in Verilog, and its answer is what the simulator prints.
 """
 import os
-import pathlib
 import random
 import subprocess
 import tempfile
 
-import sections
+from lib import tables
+
 
 WIDTHS = (1, 2, 8, 64, 128)
 UNARY = {"not": "~a", "neg": "-a"}
@@ -106,9 +106,7 @@ def main():
         f"{kind} {'signed' if signed else 'unsigned'} {width} " + " ".join(f"{wide}:{value}" for wide, value in words) + "\n"
         for kind, signed, width, words, _ in table
     ]
-    crate = pathlib.Path(__file__).resolve().parent.parent / "crates/netlist_cases"
-    sections.put(crate / "stdin", "cells", "".join(rows))
-    sections.put(crate / "stdout", "cells", answers)
+    tables.save("netlist_cases", "".join(rows), answers, "cells")
 
 
 main()

@@ -1,13 +1,14 @@
 #!/usr/bin/env python3
 """Makes the table of crates/check_cases: assigns and processes of testbenches, and what is wrong first in each.
 
-    python3 tests/checks.py
+    tests/checks.py [FOLDER]      the table of crates/check_cases
 
 Writes stdin and stdout of the crate. The rows are written by hand from docs/PROFILE.md: `>` stands in front of the token at
 which the fault is, and is taken out of the line.
 """
 
-import pathlib
+
+from lib import tables
 
 ROWS = """
 # names, and the parts of expressions
@@ -190,7 +191,6 @@ end
 
 
 def main():
-    folder = pathlib.Path(__file__).resolve().parent.parent / "crates" / "check_cases"
     lines, answers = [], []
     for row in ROWS.strip().splitlines():
         if "\t" not in row:
@@ -207,8 +207,7 @@ def main():
         at = text.index(">")
         lines.append(text[:at] + text[at + 1 :])
         answers.append(f"{fault} {at + 1}")
-    (folder / "stdin").write_text("\n".join(lines) + "\n")
-    (folder / "stdout").write_text("\n".join(answers) + "\n")
+    tables.save("check_cases", lines, answers)
 
 
 if __name__ == "__main__":

@@ -1,7 +1,7 @@
 #!/usr/bin/env python3
 """Makes stdin and stdout of crates/clock_cases: designs, their clocks, and what is refused in their items for the use of the clock.
 
-Usage: tests/clocks.py FOLDER
+    tests/clocks.py [FOLDER]      the table of crates/clock_cases
 
 The designs of clock_hand.py are worked out by hand. The others are drawn by a seeded generator as lists of modules, with few names, so
 that names meet. What each gives is worked out from these lists: from an input of an instance one goes outward, connection by
@@ -13,7 +13,8 @@ import sys
 
 sys.dont_write_bytecode = True
 
-from clock_hand import HAND
+from lib.clock_hand import HAND
+from lib import tables
 
 CASES = 150
 
@@ -384,7 +385,6 @@ def deep():
 
 
 def main():
-    folder = sys.argv[1]
     lines, wanted = hand()
     more, told = deep()
     lines += more
@@ -393,10 +393,7 @@ def main():
         source, told = drawn(seed)
         lines += [f"# drawn {seed}"] + source
         wanted += [f"# drawn {seed}"] + told
-    with open(f"{folder}/stdin", "w") as file:
-        file.write("\n".join(lines) + "\n")
-    with open(f"{folder}/stdout", "w") as file:
-        file.write("\n".join(wanted) + "\n")
+    tables.save("clock_cases", lines, wanted)
 
 
 main()

@@ -1,13 +1,13 @@
 #!/usr/bin/env python3
 """Faults of each section of config.mcy, each at its line: a part of the cases of crates/mcy_cases, worked out by hand.
 
-    python3 tests/config_rows.py input      a part of crates/mcy_cases/stdin
-    python3 tests/config_rows.py output     the same part of crates/mcy_cases/stdout
+    tests/config_rows.py [FOLDER]      a part of the table of crates/mcy_cases
 
 A row is a project with one line more, in front of the named one, and the fault that is told of it. `~` stands for the end of a line.
 """
 
-import sys
+
+from lib import tables
 
 NOTE = "# Each section has its faults, at their lines."
 CONFIG = ['[options]', 'size 10', 'modes inv', 'tags CHANGED NOCHANGE', '[script]', 'read_verilog g.v', 'prep -top g', '[files]', 'g.v',
@@ -46,6 +46,4 @@ bad_line("Repeated", None, '[options]')
 bad_line("BadLine", None, '[tests]')
 
 if __name__ == "__main__":
-    if sys.argv[1:] not in (["input"], ["output"]):
-        sys.exit(__doc__)
-    print("\n".join(given if sys.argv[1] == "input" else told))
+    tables.save_part("mcy_cases", given, told)

@@ -1,8 +1,7 @@
 #!/usr/bin/env python3
 """The table 'netlists that run' of crates/netlist_cases: netlists, and the cycles of their runs by the definition alone.
 
-    python3 tests/cycles.py input | python3 tests/sections.py crates/netlist_cases/stdin 'netlists that run'
-    python3 tests/cycles.py output | python3 tests/sections.py crates/netlist_cases/stdout 'netlists that run'
+    tests/cycles.py [FOLDER]      the table 'netlists that run' of crates/netlist_cases
 
 A cycle gives every net one value: inputs have theirs, Q's their registers', and Y's that of the table of cell kinds.
 Here each net is looked up by what drives it, from the readers back, in no order of the cells.
@@ -10,6 +9,8 @@ Here each net is looked up by what drives it, from the readers back, in no order
 
 import random
 import sys
+
+from lib import tables
 
 sys.setrecursionlimit(100000)
 
@@ -294,6 +295,10 @@ def cases():
         yield mixed(seed, width)
 
 
+def main():
+    made = list(cases())
+    tables.save("netlist_cases", [line for case in made for line in case.lines], [line for case in made for line in case.answers], "netlists that run")
+
+
 if __name__ == "__main__":
-    for case in cases():
-        print("\n".join(case.lines if sys.argv[1] == "input" else case.answers))
+    main()

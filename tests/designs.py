@@ -1,7 +1,7 @@
 #!/usr/bin/env python3
 """Makes stdin and stdout of crates/design_cases: designs, their netlists or what is refused in them, and their outputs.
 
-usage: tests/designs.py FOLDER      needs iverilog and vvp
+    tests/designs.py [FOLDER]      the table of crates/design_cases; needs iverilog and vvp
 
 What design_told.py says is worked out by hand. The outputs of the other designs over 20 cycles are those of Icarus Verilog: the
 designs of design_hand.py are written by hand, those of design_draw.py drawn by a seeded generator.
@@ -14,10 +14,11 @@ import sys
 
 sys.dont_write_bytecode = True
 
-from design_draw import Draw, Signal
-from design_hand import DESIGNS, PROCESSES
-from design_runs import Unknown, outputs_of
-from design_told import told
+from lib.design_draw import Draw, Signal
+from lib.design_hand import DESIGNS, PROCESSES
+from lib.design_runs import Unknown, outputs_of
+from lib.design_told import told
+from lib import tables
 
 CYCLES = 20
 
@@ -85,7 +86,6 @@ def drawn(word, make):
 
 
 def main():
-    folder = sys.argv[1]
     lines, wanted = told()
     by_hand = [case(name, source, seed, False)[:2] for seed, (name, source) in enumerate(itertools.chain(hand(PROCESSES), hand(DESIGNS)))]
     one = itertools.islice(drawn("a drawn module", Draw.process_design), ONE_MODULE)
@@ -93,10 +93,7 @@ def main():
     for given, shown in itertools.chain(by_hand, one, several):
         lines += given
         wanted += shown
-    with open(f"{folder}/stdin", "w", encoding="utf-8") as file:
-        file.write("\n".join(lines) + "\n")
-    with open(f"{folder}/stdout", "w", encoding="utf-8") as file:
-        file.write("\n".join(wanted) + "\n")
+    tables.save("design_cases", lines, wanted)
 
 
 if __name__ == "__main__":

@@ -1,8 +1,7 @@
 #!/usr/bin/env python3
 """Campaigns of equality tests with more than a few free bits: a part of the cases of crates/mcy_cases, by the definitions alone.
 
-    python3 tests/equality_rows.py input     the part of crates/mcy_cases/stdin
-    python3 tests/equality_rows.py output    the part of crates/mcy_cases/stdout
+    tests/equality_rows.py [FOLDER]      a part of the table of crates/mcy_cases
 
 The cells of the saturating counter and their places are written down from its source by hand, and the sites by the rules of
 docs/FORMATS.md. A mutant is compared with the design by the outputs and the next value of the register, for all inputs and values
@@ -13,10 +12,10 @@ does not follow at once.
 """
 
 import itertools
-import sys
 
-import pcg
-import saturating
+from lib import pcg
+from lib import saturating
+from lib import tables
 
 WORDS = ["PASS", "FAIL", "HANG", "UNKNOWN"]
 MODES = ["inv", "const0", "const1", "cnot0", "cnot1"]
@@ -202,11 +201,11 @@ def limit_cases():
 
 
 def main():
-    if sys.argv[1:] not in (["input"], ["output"]):
-        sys.exit(__doc__)
-    for head, given, told in [*counter_cases(), *given_up_cases(), *limit_cases()]:
-        print(head)
-        print("\n".join(given if sys.argv[1] == "input" else told))
+    given, told = [], []
+    for head, lines, answers in [*counter_cases(), *given_up_cases(), *limit_cases()]:
+        given += [head, *lines]
+        told += [head, *answers]
+    tables.save_part("mcy_cases", given, told)
 
 
 if __name__ == "__main__":

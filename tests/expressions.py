@@ -1,7 +1,7 @@
 #!/usr/bin/env python3
 """Expressions of Verilog with the values that Icarus Verilog gives them.
 
-    expressions.py VALUES CELLS    writes stdin and stdout of both folders: a line for each expression, and its value
+    tests/expressions.py [FOLDER]      the tables of crates/expression_values and crates/expression_cells; needs iverilog and vvp
 
 A line of the first is the width to which the value is extended, the values of the names, `;` and the expression in postfix
 form. Rows whose value is not of two values are left out, but for selects beyond a vector, whose missing bits are 0. CELLS
@@ -9,8 +9,9 @@ has those rows alone that become cells, where nothing but constants is divided o
 """
 import random
 import subprocess
-import sys
 import tempfile
+
+from lib import tables
 
 # name: width, lowest bit, signed
 NAMES = {
@@ -257,12 +258,8 @@ def line_of(width, row, values):
     return f"{width} {given} ; {' '.join(postfix(row))}"
 
 
-def write(folder, tests):
-    with open(f"{folder}/stdin", "w") as out:
-        out.writelines(f"{line_of(*row)}\n" for row, _ in tests)
-    with open(f"{folder}/stdout", "w") as out:
-        out.writelines(f"{answer}\n" for _, answer in tests)
-    print(folder, len(tests), "expressions")
+def write(crate, tests):
+    tables.save(crate, [line_of(*row) for row, _ in tests], [answer for _, answer in tests])
 
 
 def main():
@@ -272,8 +269,8 @@ def main():
         for row, (seen, zeroed) in zip(rows, simulated(rows))
         if not set(seen) - set("01") or selects_only(row[1])
     ]
-    write(sys.argv[1], tests)
-    write(sys.argv[2], [(row, answer) for row, answer in tests if not divides_names(row[1])])
+    write("expression_values", tests)
+    write("expression_cells", [(row, answer) for row, answer in tests if not divides_names(row[1])])
 
 
 if __name__ == "__main__":

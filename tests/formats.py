@@ -1,7 +1,7 @@
 #!/usr/bin/env python3
 """Makes the table of formats that the crate format_cases prints: its input, and the answers of Icarus Verilog.
 
-usage: tests/formats.py      writes crates/format_cases/stdin and crates/format_cases/stdout; needs iverilog and vvp
+    tests/formats.py [FOLDER]      the table of crates/format_cases; needs iverilog and vvp
 
 A line of the input is the sign of a value, its width and its number, and a format text, as `signed 8:255 <%d>`. Each line is one
 `$display` in Verilog, whose arguments are that value, once for each format, and its answer is what the simulator prints. The formats
@@ -13,6 +13,8 @@ import random
 import re
 import subprocess
 import tempfile
+
+from lib import tables
 
 WIDTHS = (1, 2, 3, 4, 5, 8, 9, 13, 16, 31, 32, 33, 63, 64, 65, 100, 127, 128)
 FORMATS = ("%b", "%o", "%h", "%x", "%d", "%0b", "%0o", "%0h", "%0x", "%0d")
@@ -74,13 +76,8 @@ def main():
         subprocess.run(["iverilog", "-g2005", "-o", program, source], check=True)
         printed = subprocess.run([program], check=True, capture_output=True, text=True).stdout.split("\n")[:-1]
     assert len(printed) == len(rows), (len(printed), len(rows))
-    here = os.path.join(os.path.dirname(os.path.abspath(__file__)), "..", "crates", "format_cases")
-    with open(os.path.join(here, "stdin"), "w") as out:
-        out.writelines(f"{sign} {width}:{value} {text}\n" for sign, width, value, text in rows)
-        out.writelines(f"unsigned 8:1 {text}\n" for text in REFUSED)
-    with open(os.path.join(here, "stdout"), "w") as out:
-        out.writelines(answer(row, line) + "\n" for row, line in zip(rows, printed))
-        out.writelines("not supported\n" for _ in REFUSED)
+    given = [f"{sign} {width}:{value} {text}" for sign, width, value, text in rows] + [f"unsigned 8:1 {text}" for text in REFUSED]
+    tables.save("format_cases", given, [*map(answer, rows, printed), *("not supported" for _ in REFUSED)])
 
 
 if __name__ == "__main__":

@@ -1,19 +1,16 @@
 #!/usr/bin/env python3
 """Writes the cases of gates: the standard input of `gate_cases`, and what it must print.
 
-    tests/gates.py            writes crates/gate_cases/stdin and crates/gate_cases/stdout
-    tests/gates.py --check    only compares the two files with what would be written
+    tests/gates.py [FOLDER]      the table of crates/gate_cases
 
 A literal is a whole number, or True or False for a constant. An operation is looked up by what it is on all values of its
 inputs, not by rules: it folds where it is a constant or a literal of its inputs; a mux that is an `and` or an `or` of two
 literals is that. What a list of clauses says is tested on all values of its variables.
 """
 import itertools
-import pathlib
 import random
-import sys
 
-HERE = pathlib.Path(__file__).resolve().parent.parent / "crates/gate_cases"
+from lib import tables
 
 
 def negation(x):
@@ -185,12 +182,7 @@ def written():
 
 def main():
     lines, answers = written()
-    files = {HERE / "stdin": lines, HERE / "stdout": answers}
-    if "--check" in sys.argv[1:]:
-        wrong = [path.name for path, text in files.items() if path.read_text() != text]
-        sys.exit(f"not as written: {', '.join(wrong)}" if wrong else 0)
-    for path, text in files.items():
-        path.write_text(text)
+    tables.save("gate_cases", lines, answers)
 
 
 if __name__ == "__main__":

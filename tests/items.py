@@ -1,7 +1,7 @@
 #!/usr/bin/env python3
 """Makes stdin and stdout of crates/item_cases: designs, and the signals and items that they are flattened to.
 
-Usage: tests/items.py FOLDER
+    tests/items.py [FOLDER]      the table of crates/item_cases
 
 The designs of item_hand.py are worked out by hand. The others are drawn by a seeded generator as lists of modules, with few names,
 so that names meet. What each gives is worked out in item_design.py from these lists, by the rules of IEEE 1364-2005, 4, 5 and 12.1
@@ -13,10 +13,11 @@ import sys
 
 sys.dont_write_bytecode = True
 
-from item_design import Design
-from item_draw import Draw
-from item_exprs import Text
-from item_hand import HAND
+from lib.item_design import Design
+from lib.item_draw import Draw
+from lib.item_exprs import Text
+from lib.item_hand import HAND
+from lib import tables
 
 CASES = 80
 
@@ -66,17 +67,13 @@ def long():
 
 
 def main():
-    folder = sys.argv[1]
     lines, wanted = hand()
     cases = (drawn(seed) for seed in itertools.count())
     short = (case for case in cases if len(case[1]) <= LONGEST)
     for part, part_wanted in [long()] + list(itertools.islice(short, CASES)):
         lines += part
         wanted += part_wanted
-    with open(f"{folder}/stdin", "w", encoding="utf-8") as file:
-        file.write("\n".join(lines) + "\n")
-    with open(f"{folder}/stdout", "w", encoding="utf-8") as file:
-        file.write("\n".join(wanted) + "\n")
+    tables.save("item_cases", lines, wanted)
 
 
 if __name__ == "__main__":

@@ -1,19 +1,16 @@
 #!/usr/bin/env python3
 """Writes the cases of lemmas: the standard input of `lemma_cases`, and what it must print.
 
-    tests/lemmas.py            writes crates/lemma_cases/stdin and crates/lemma_cases/stdout
-    tests/lemmas.py --check    only compares the two files with what would be written
+    tests/lemmas.py [FOLDER]      the table of crates/lemma_cases
 
 The answers come from the definition alone, over sets and dictionaries: a lemma names free variables, none twice; no earlier
 lemma is a part of it; and with its literals false the hinted clauses are unit one after the other, up to the last, which is
 false. LRAT: Cruz-Filipe, Heule, Hunt, Kaufmann, Schneider-Kamp: Efficient Certified RAT Verification, CADE 2017.
 """
 import itertools
-import pathlib
 import random
-import sys
 
-HERE = pathlib.Path(__file__).resolve().parent.parent / "crates/lemma_cases"
+from lib import tables
 
 
 def judged(clauses, lemmas, free, lemma, hints):
@@ -149,13 +146,7 @@ def cases():
 
 
 def main():
-    made = dict(zip(("stdin", "stdout"), cases()))
-    if sys.argv[1:] == ["--check"]:
-        differ = [name for name, text in made.items() if (HERE / name).read_text() != text]
-        print("\n".join(f"{name} differs" for name in differ) or "the cases are as written")
-        sys.exit(bool(differ))
-    for name, text in made.items():
-        (HERE / name).write_text(text)
+    tables.save("lemma_cases", *cases())
 
 
 main()

@@ -1,18 +1,17 @@
 #!/usr/bin/env python3
 """Projects with tests, tag scripts and reports of their own: a part of the cases of crates/mcy_cases.
 
-    python3 tests/logics.py input     the part of crates/mcy_cases/stdin
-    python3 tests/logics.py output    the part of crates/mcy_cases/stdout
+    tests/logics.py [FOLDER]      a part of the table of crates/mcy_cases
 
 A script is run by Python itself: where it asks for a word that is not there yet, the test is run, and the script is run again from
 its start. Words are those of tests/campaigns.py, by runs of the mutants on all inputs.
 """
 
-import sys
 import traceback
 
 from campaigns import AND, REDUNDANT, Campaign, source, tilde
 
+from lib import tables
 WORDS = ["PASS", "FAIL", "HANG", "UNKNOWN"]
 SAME = ['if result("same") == "PASS":', '    tag("NOCHANGE")', "else:", '    tag("CHANGED")']
 COVERAGE = 'print("Coverage: %.2f%%" % (100.0*tags("COVERED")/(tags("COVERED")+tags("UNCOVERED"))))'
@@ -197,11 +196,8 @@ PARTS = [
 
 
 def main():
-    side = {"input": 0, "output": 1}[sys.argv[1]]
-    for head, cases in PARTS:
-        print(head)
-        for both in cases:
-            print("\n".join(both[side]))
+    halves = [[line for head, cases in PARTS for line in [head, *(row for both in cases for row in both[side])]] for side in (0, 1)]
+    tables.save_part("mcy_cases", *halves)
 
 
 main()

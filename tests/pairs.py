@@ -1,9 +1,8 @@
 #!/usr/bin/env python3
 """Writes the cases of pairs of netlists, their clauses and verdicts: the standard input of `pair_cases`, and what it must print.
 
-    tests/pairs.py             writes crates/pair_cases/stdin and crates/pair_cases/stdout
-    tests/pairs.py --check     only compares the two files with what would be written
-    tests/pairs.py --minisat   also asks minisat, where it is installed, whether the printed clauses have a model
+    tests/pairs.py [FOLDER]      the table of crates/pair_cases
+    tests/pairs.py --minisat     also asks minisat, where it is installed, whether the clauses have a model
 
 The netlists are evaluated by whole numbers, for all values of their inputs and registers where these have at most 10 bits; the gates
 are made as `tests/cell_gates.py` makes them, and one of the last literals has to be true exactly where the numbers differ.
@@ -18,7 +17,7 @@ import tempfile
 
 from cell_gates import OPERATIONS, Gates, negation, number, value
 
-HERE = pathlib.Path(__file__).resolve().parent.parent / "crates/pair_cases"
+from lib import tables
 MOST_FREE, MOST_GATES, SHOWN = 2048, 200_000, 400
 RARE = "a word of 24 bits, one value of which alone makes a difference"
 HIDDEN = "two words of 16 bits, two pairs of which alone make a difference"
@@ -330,13 +329,8 @@ def main():
         differ += bool(found)
         if "--minisat" in sys.argv and shutil.which("minisat") and len(lines) > 2:
             assert ask(lines) == bool(found), name
-    texts = {"stdin": "\n".join(stdin) + "\n", "stdout": "\n".join(stdout) + "\n"}
     print(f"{tried} pairs were tried on all values, {differ} of them differ", file=sys.stderr)
-    for file, text in texts.items():
-        if "--check" in sys.argv:
-            assert (HERE / file).read_text() == text, file
-        else:
-            (HERE / file).write_text(text)
+    tables.save("pair_cases", stdin, stdout)
 
 
 if __name__ == "__main__":

@@ -1,7 +1,7 @@
 #!/usr/bin/env python3
 """Makes stdin and stdout of crates/process_cases: processes over declared signals, and the first refusal of each.
 
-Usage: tests/processes.py FOLDER
+    tests/processes.py [FOLDER]      the table of crates/process_cases
 
 The rows at the head are worked out by hand. The others are drawn by a seeded generator from few names, so that latches, second
 writers and second kinds of assignments meet. What is refused is worked out here from the parts of which a process is put together,
@@ -10,7 +10,8 @@ rows are `initial` processes.
 """
 
 import random
-import sys
+
+from lib import tables
 
 CASES = 75
 STARTS = 15
@@ -972,7 +973,6 @@ def put_starts(rng, lines, wanted):
 
 
 def main():
-    folder = sys.argv[1]
     lines, wanted = [], []
     for line in HAND.splitlines():
         if line.startswith("> "):
@@ -986,10 +986,7 @@ def main():
         put_case(rng, lines, wanted)
     for _ in range(STARTS):
         put_starts(rng, lines, wanted)
-    with open(f"{folder}/stdin", "w") as out:
-        out.write("\n".join(lines) + "\n")
-    with open(f"{folder}/stdout", "w") as out:
-        out.write("\n".join(wanted) + "\n")
+    tables.save("process_cases", lines, wanted)
 
 
 if __name__ == "__main__":

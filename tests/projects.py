@@ -1,15 +1,15 @@
 #!/usr/bin/env python3
 """The table 'project files' of crates/script_cases: project files, and what each says by the rules of docs/FORMATS.md alone.
 
-    python3 tests/projects.py input | python3 tests/sections.py crates/script_cases/stdin 'project files'
-    python3 tests/projects.py output | python3 tests/sections.py crates/script_cases/stdout 'project files'
+    tests/projects.py [FOLDER]      the table 'project files' of crates/script_cases
 
 A case is one line. `\\` stands before the two hexadecimal digits of a byte.
 """
 
 import random
 import re
-import sys
+
+from lib import tables
 
 AND_GATE = b"""[options]
 size 10
@@ -427,15 +427,18 @@ def cases():
     yield from edits(400)
 
 
+def given(case):
+    text = escaped(case)
+    return "\\23" + text[1:] if text.startswith("#") else text
+
+
 def main():
+    given_rows, told_rows = [], []
     for case in cases():
-        if isinstance(case, str):
-            print("# " + case)
-        elif sys.argv[1] == "input":
-            text = escaped(case)
-            print("\\23" + text[1:] if text.startswith("#") else text)
-        else:
-            print(answer(case))
+        title = "# " + case if isinstance(case, str) else None
+        given_rows.append(title or given(case))
+        told_rows.append(title or answer(case))
+    tables.save("script_cases", given_rows, told_rows, "project files")
 
 
 main()

@@ -1,15 +1,15 @@
 #!/usr/bin/env python3
 """Expressions of testbenches with `$random` and `$time`, and their values in three evaluations.
 
-    random_values.py FOLDER    writes stdin and stdout of the program that prints these values
+    tests/random_values.py [FOLDER]      the table of crates/random_cases
 
 Written from the standard and from O'Neill's reference of PCG (XSH RR 64/32), and not from the program. Each evaluation first
 draws every `$random`, from left to right, and then evaluates at the expression's own size (IEEE 1364-2005, 5.4 and 5.5).
 """
 import random
-import sys
 
-from pcg import MASK64, MULTIPLIER_64, rotated, seed_bytes
+from lib.pcg import MASK64, MULTIPLIER_64, rotated, seed_bytes
+from lib import tables
 
 
 class Words:
@@ -172,7 +172,7 @@ def expr(rng, depth):
 
 
 
-def main(folder):
+def main():
     rng = random.Random(19)
     lines, values = [], []
     plain = [("$random",), ("$time",), ("b", "-", ("$random",), ("$random",)), ("?", A, ("$random",), ("$random",)), A, B, ("b", "+", A, B)]
@@ -186,8 +186,7 @@ def main(folder):
         for _ in range(3):
             y = drawn(x, words, phase)
             values.append(own(y))
-    open(f"{folder}/stdin", "w").write("\n".join(lines) + "\n")
-    open(f"{folder}/stdout", "w").write("\n".join(map(str, values)) + "\n")
+    tables.save("random_cases", lines, values)
 
 
 def wide(x):
@@ -198,4 +197,4 @@ def wide(x):
 
 
 if __name__ == "__main__":
-    main(sys.argv[1])
+    main()

@@ -415,19 +415,19 @@ fi
 
 # What a terminal is told: how far a campaign is, and what to do next.
 if has_tool python3 "no terminal is told how far a campaign is"; then
-    python3 "$root/tests/progress.py" "$mcy" >"$room/lines" 2>&1
+    python3 "$root/tests/program/progress.py" "$mcy" >"$room/lines" 2>&1
     case_is $? "a terminal is told how far a campaign is and what to do next, and nothing else: $(tail -n 1 "$room/lines")"
 fi
 
 # Random files, and random edits of the examples.
 if has_tool python3 "no random files are tried"; then
-    python3 "$root/tests/hostile.py" --program "$mcy" 500 "$seed" >"$room/lines"
+    python3 "$root/tests/program/hostile.py" --program "$mcy" 500 "$seed" >"$room/lines"
     case_is $? "random files have answers of the table: $(cat "$room/lines")"
 fi
 
 # The script, with a kit that makes programs that are none.
 if has_tool python3 "the script mcy is not tried"; then
-    python3 "$root/tests/script.py" >"$room/lines" 2>&1
+    python3 "$root/tests/program/script.py" >"$room/lines" 2>&1
     case_is $? "the script mcy builds a program where it has to, and takes no other: $(cat "$room/lines")"
 fi
 

@@ -1,8 +1,7 @@
 #!/usr/bin/env python3
 """The table 'reports' of crates/script_cases: reports, and what each prints by Python's own fractions, or why it is refused.
 
-    python3 tests/reports.py input | python3 tests/sections.py crates/script_cases/stdin 'reports'
-    python3 tests/reports.py output | python3 tests/sections.py crates/script_cases/stdout 'reports'
+    tests/reports.py [FOLDER]      the table 'reports' of crates/script_cases
 
 A report stands on one line, with `^` between its lines. Those that are taken are random programs in the language and worked ones,
 which Python's `ast` takes apart; their values are `fractions.Fraction`, and their texts are rounded by its `round`. Python binds `%`
@@ -16,6 +15,7 @@ import re
 import sys
 from fractions import Fraction
 
+from lib import tables
 sys.setrecursionlimit(20000)
 
 TAGS = ["COVERED", "UNCOVERED"]
@@ -410,8 +410,8 @@ def cases():
 
 
 def main():
-    for text, said in cases():
-        print(plain(text) if sys.argv[1] == "input" else told(text) if said is None else said)
+    made = list(cases())
+    tables.save("script_cases", [plain(text) for text, _ in made], [told(text) if said is None else said for text, said in made], "reports")
 
 
 main()

@@ -1,14 +1,15 @@
 #!/usr/bin/env python3
 """Makes stdin and stdout of crates/scope_cases: sources, and what their first module declares and lists.
 
-Usage: tests/scopes.py FOLDER
+    tests/scopes.py [FOLDER]      the table of crates/scope_cases
 
 The sources are drawn by a seeded generator from few names, so that names meet. What each gives is worked out here from the
 list of declarations, by the rules of IEEE 1364-2005, 4, 12.2, 12.3 and 12.4, and not from the source's text.
 """
 
 import random
-import sys
+
+from lib import tables
 
 NAMES = ["a", "b", "c", "q"]
 CASES = 120
@@ -400,12 +401,8 @@ def case(rng):
 
 def main():
     rng = random.Random(16)
-    folder = sys.argv[1]
     cases = [case(rng) for _ in range(CASES)]
-    with open(f"{folder}/stdin", "w", encoding="utf-8") as file:
-        file.writelines(f"{text}\n" for text, _ in cases)
-    with open(f"{folder}/stdout", "w", encoding="utf-8") as file:
-        file.writelines(f"{text}\n{page}\n" for text, page in cases)
+    tables.save("scope_cases", "".join(f"{text}\n" for text, _ in cases), "".join(f"{text}\n{page}\n" for text, page in cases))
 
 
 main()

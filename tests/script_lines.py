@@ -1,8 +1,7 @@
 #!/usr/bin/env python3
 """The table 'script lines' of crates/script_cases: lines of scripts, and what each says by Python's own tokenizer.
 
-    python3 tests/script_lines.py input | python3 tests/sections.py crates/script_cases/stdin 'script lines'
-    python3 tests/script_lines.py output | python3 tests/sections.py crates/script_cases/stdout 'script lines'
+    tests/script_lines.py [FOLDER]      the table 'script lines' of crates/script_cases
 
 Python reads more than the scripts have. So the lines have no numbers or texts that are written otherwise there: no digit or quote
 follows a letter or digit but in a name or number, and no backslash or open text is left to it. These few are told by the rules of
@@ -11,8 +10,9 @@ docs/FORMATS.md.
 
 import io
 import random
-import sys
 import tokenize
+
+from lib import tables
 
 KEYWORDS = {"and", "assert", "elif", "else", "False", "if", "not", "or", "pass", "True"}
 
@@ -114,8 +114,8 @@ def cases():
 
 
 def main():
-    for line, said in cases():
-        print(line if sys.argv[1] == "input" else said)
+    made = list(cases())
+    tables.save("script_cases", [text for text, _ in made], [said for _, said in made], "script lines")
 
 
 main()

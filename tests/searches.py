@@ -1,8 +1,7 @@
 #!/usr/bin/env python3
 """Writes the cases of searches: the standard input of `search_cases`, and what it must print.
 
-    tests/searches.py            writes crates/search_cases/stdin and crates/search_cases/stdout
-    tests/searches.py --check    only compares the two files with what would be written
+    tests/searches.py [FOLDER]      the table of crates/search_cases
 
 This is the rule of the search, over lists: decide the first open free bit to 0, propagate by examining the new clauses in order
 and then those in which the next literal of the trail is false, short ones first and then the long ones that are watched there, and learn the free bits at which the walk down the trail stops.
@@ -12,11 +11,9 @@ one as a part and follows by propagation, a model makes each clause true, and a 
 values of the free bits.
 """
 import itertools
-import pathlib
 import random
-import sys
 
-HERE = pathlib.Path(__file__).resolve().parent.parent / "crates/search_cases"
+from lib import tables
 
 
 def left(clause, known):
@@ -442,13 +439,7 @@ def cases():
 
 
 def main():
-    made = dict(zip(("stdin", "stdout"), cases()))
-    if sys.argv[1:] == ["--check"]:
-        differ = [name for name, text in made.items() if (HERE / name).read_text() != text]
-        print("\n".join(f"{name} differs" for name in differ) or "the cases are as written")
-        sys.exit(bool(differ))
-    for name, text in made.items():
-        (HERE / name).write_text(text)
+    tables.save("search_cases", *cases())
 
 
 main()

@@ -1,8 +1,7 @@
 #!/usr/bin/env python3
 """Campaigns with tests that are simulations: a part of the cases of crates/mcy_cases, by the definitions alone.
 
-    python3 tests/simulation_rows.py input     the part of crates/mcy_cases/stdin
-    python3 tests/simulation_rows.py output    the part of crates/mcy_cases/stdout
+    tests/simulation_rows.py [FOLDER]      a part of the table of crates/mcy_cases
 
 The bench of the saturating counter holds the reset for two edges of the clock and counts then: behind each of the 260 edges that follow
 it compares `q` with what it should be, once the clock has fallen. Here this is worked out by hand from its source: the register takes its
@@ -10,11 +9,11 @@ next value at each rising edge, before what the bench assigns there without bloc
 tests/equality_rows.py. `§` stands in front of the byte at which a bench is refused.
 """
 
-import sys
 
 from equality_rows import Campaign, all_sites, counter, project, step, tilde
-import pcg
-import saturating
+from lib import pcg
+from lib import saturating
+from lib import tables
 
 # `~` stands for the end of a line in the cases
 BENCH = [line.replace("~clk", "!clk") for line in saturating.BENCH]
@@ -129,11 +128,11 @@ def cases():
 
 
 def main():
-    if sys.argv[1:] not in (["input"], ["output"]):
-        sys.exit(__doc__)
-    for head, given, told in cases():
-        print(head)
-        print("\n".join(given if sys.argv[1] == "input" else told))
+    given, told = [], []
+    for head, lines, answers in cases():
+        given += [head, *lines]
+        told += [head, *answers]
+    tables.save_part("mcy_cases", given, told)
 
 
 if __name__ == "__main__":

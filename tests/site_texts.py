@@ -1,15 +1,15 @@
 #!/usr/bin/env python3
 """The cases of crates/site_text_cases: texts, and the site that each is or the first byte after which no site text goes on.
 
-    python3 tests/site_texts.py input > crates/site_text_cases/stdin
-    python3 tests/site_texts.py output > crates/site_text_cases/stdout
+    tests/site_texts.py [FOLDER]      the table of crates/site_text_cases
 
 A site text is told by a regular expression and by what its fields may be. That some site text begins with given bytes is told by one:
 all ends of many site texts are tried behind them, also with bytes between that end a character of UTF-8.
 """
 
 import re
-import sys
+
+from lib import tables
 
 MODES = ["inv", "const0", "const1", "cnot0", "cnot1"]
 PORTS = {"cell": "ABSDY", "reg": "DQ"}
@@ -113,10 +113,11 @@ def unescaped(text):
 
 
 def main():
+    given, told = [], []
     for title, texts in CASES.items():
-        print(f"# {title}")
-        for text in texts:
-            print(text if sys.argv[1] == "input" else answer(unescaped(text)))
+        given += [f"# {title}", *texts]
+        told += [f"# {title}", *(answer(unescaped(text)) for text in texts)]
+    tables.save("site_text_cases", given, told)
 
 
 if __name__ == "__main__":

@@ -1,8 +1,7 @@
 #!/usr/bin/env python3
 """The cases of crates/site_cases: netlists, their sites and what is selected of them, by the definitions alone.
 
-    python3 tests/sites.py input > crates/site_cases/stdin
-    python3 tests/sites.py output > crates/site_cases/stdout
+    tests/sites.py [FOLDER]      the table of crates/site_cases
 
 Sites stand by place (cells by number, then registers), port (of a register D, then Q), bit and mode. A
 port of one bit has no site of a mode that reads a control bit; the control bit of bit i of a port of width
@@ -15,9 +14,9 @@ one by rank, word and number, where a site's rank counts those of its file and l
 and number.
 """
 
-import sys
 
-import pcg
+from lib import pcg
+from lib import tables
 
 MODES = ["inv", "const0", "const1", "cnot0", "cnot1"]
 ALL = " ".join(MODES)
@@ -317,28 +316,26 @@ CASES = [
 ]
 
 
-def tell_sites(title, netlist, verb, modes):
-    if sys.argv[1] == "input":
-        return [f"# {title}", *netlist.lines, f"{verb} {modes}"]
+def about_sites(title, netlist, verb, modes):
+    """What is given about sites, and what is told."""
+    given = [f"# {title}", *netlist.lines, f"{verb} {modes}"]
     tell = {"count": lambda modes: [], "sites": netlist.sites, "texts": netlist.texts, "mutants": netlist.mutants}[verb]
-    return [f"# {title}", f"{len(netlist.sites(modes))} sites", *tell(modes)]
+    return given, [f"# {title}", f"{len(netlist.sites(modes))} sites", *tell(modes)]
 
 
-def tell_pick(title, netlist, pick, size, seed):
-    if sys.argv[1] == "input":
-        return [f"# {title}", *netlist.lines, f"{pick} {size} {seed}"]
-    return [f"# {title}", *map(str, selected(netlist, pick, size, seed))]
+def about_pick(title, netlist, pick, size, seed):
+    given = [f"# {title}", *netlist.lines, f"{pick} {size} {seed}"]
+    return given, [f"# {title}", *map(str, selected(netlist, pick, size, seed))]
 
 
-def tell_words(seed):
-    if sys.argv[1] == "input":
-        return [f"# the first words of seed {seed}", f"words 20 {seed}"]
-    return [f"# the first words of seed {seed}", *map(str, pcg.words(seed, 20))]
+def about_words(seed):
+    given = [f"# the first words of seed {seed}", f"words 20 {seed}"]
+    return given, [f"# the first words of seed {seed}", *map(str, pcg.words(seed, 20))]
 
 
 def main():
-    texts = [tell_sites(*case) for case in CASES] + [tell_pick(*case) for case in PICKS] + [tell_words(seed) for seed in SEEDS]
-    print("\n".join(line for text in texts for line in text))
+    made = [about_sites(*case) for case in CASES] + [about_pick(*case) for case in PICKS] + [about_words(seed) for seed in SEEDS]
+    tables.save("site_cases", [line for given, _ in made for line in given], [line for _, told in made for line in told])
 
 
 if __name__ == "__main__":

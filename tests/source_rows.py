@@ -1,14 +1,14 @@
 #!/usr/bin/env python3
 """Designs that are taken, and faults of sources at their places: a part of the cases of crates/mcy_cases, worked out by hand.
 
-    python3 tests/source_rows.py input      a part of crates/mcy_cases/stdin
-    python3 tests/source_rows.py output     the same part of crates/mcy_cases/stdout
+    tests/source_rows.py [FOLDER]      a part of the table of crates/mcy_cases
 
 A source has the mark `§` in front of the byte at which it is refused. The script takes the mark out and counts the line and the
 column there. `~` stands for the end of a line. What is said of places, sites and words is said here by hand, once for each row.
 """
 
-import sys
+
+from lib import tables
 
 FULL = ('[options]~size 10~modes inv~tags CHANGED NOCHANGE~[script]~read_verilog {names}~prep -top g~[files]~g.v~[logic]~'
         'if result("same") == "PASS":~    tag("NOCHANGE")~else:~    tag("CHANGED")~[test same]~eq~expect PASS FAIL~')
@@ -192,6 +192,4 @@ bad = "module §g();~endmodule~"
 r.refused(f"g.v:{place(bad)}: Twice", {"h.v": G, "g.v": bad})
 
 if __name__ == "__main__":
-    if sys.argv[1:] not in (["input"], ["output"]):
-        sys.exit(__doc__)
-    print("\n".join(r.given if sys.argv[1] == "input" else r.told))
+    tables.save_part("mcy_cases", r.given, r.told)

@@ -1,8 +1,7 @@
 #!/usr/bin/env python3
 """The table 'tag lines' of crates/script_cases: lines of tag scripts, and what each says by Python's own parser.
 
-    python3 tests/tag_lines.py input | python3 tests/sections.py crates/script_cases/stdin 'tag lines'
-    python3 tests/tag_lines.py output | python3 tests/sections.py crates/script_cases/stdout 'tag lines'
+    tests/tag_lines.py [FOLDER]      the table 'tag lines' of crates/script_cases
 
 Lines that are taken are random ones of the language, which Python's `ast` takes apart. The others are worked by the rules of
 docs/DECISIONS.md. Four parentheses and `not`s may be open.
@@ -10,7 +9,8 @@ docs/DECISIONS.md. Four parentheses and `not`s may be open.
 
 import ast
 import random
-import sys
+
+from lib import tables
 
 TESTS = ["t", "u"]
 TAGS = ["X", "Y"]
@@ -187,8 +187,8 @@ def cases():
 
 
 def main():
-    for text, said in cases():
-        print(text if sys.argv[1] == "input" else said)
+    made = list(cases())
+    tables.save("script_cases", [text for text, _ in made], [said for _, said in made], "tag lines")
 
 
 main()

@@ -1,8 +1,7 @@
 #!/usr/bin/env python3
 """The table 'tag scripts' of crates/script_cases: tag scripts, and what each says and asks by Python itself, or why it is refused.
 
-    python3 tests/tag_scripts.py input | python3 tests/sections.py crates/script_cases/stdin 'tag scripts'
-    python3 tests/tag_scripts.py output | python3 tests/sections.py crates/script_cases/stdout 'tag scripts'
+    tests/tag_scripts.py [FOLDER]      the table 'tag scripts' of crates/script_cases
 
 A script stands on one line, with `^` between its lines. Scripts that are taken are random programs in the language and worked ones,
 which Python's `ast` takes apart; Python runs each with some words of the tests, some of which are not there or not expected. Those
@@ -13,6 +12,8 @@ import ast
 import random
 import re
 import sys
+
+from lib import tables
 
 sys.setrecursionlimit(20000)
 
@@ -330,10 +331,13 @@ def cases():
 
 
 def main():
+    given, told = [], []
     for text, said in cases():
-        print(text if sys.argv[1] == "input" else said)
-        if sys.argv[1] == "output" and said.startswith("script"):
-            print(asks(text))
+        given.append(text)
+        told.append(said)
+        if said.startswith("script"):
+            told.append(asks(text))
+    tables.save("script_cases", given, told, "tag scripts")
 
 
 main()

@@ -1,18 +1,19 @@
 #!/usr/bin/env python3
 """Makes the table of assignments that the crate update_cases carries out: its input, and the answers of Icarus Verilog.
 
-usage: tests/updates.py      writes crates/update_cases/stdin and crates/update_cases/stdout; needs iverilog and vvp
+    tests/updates.py [FOLDER]      the table of crates/update_cases; needs iverilog and vvp
 
 A line of the input is an assignment, as `{a[5:2], c} = d[c +: 8]`. Each has as answer the values of four signals after it, from the same
 values on. The right sides read no bit out of range, so that the simulator has no unknown bits. The left sides lie out of range now and
 then, as a whole or in part, and some have bits in common. No left side of several parts writes what one of its indices reads: the
 simulator evaluates an index when its part is written, and here all are evaluated before.
 """
-import os
 import random
 import re
 import subprocess
 import tempfile
+
+from lib import tables
 
 START = "a = 8'd200; b = -8'sd3; c = 4'd9; d = 64'h0123456789abcdef;"
 DECLARATIONS = "reg [9:2] a; reg signed [7:0] b; reg [3:0] c; reg [63:0] d;"
@@ -67,7 +68,6 @@ def left(rng):
 
 
 def main():
-    folder = os.path.join(os.path.dirname(os.path.abspath(__file__)), "..", "crates", "update_cases")
     rng = random.Random(20)
     cases = ["a = b", "b = a", "{a, b} = 16'h1234", "a[9] = 1'b0", "a[1] = 1'b1", "a[10] = 1'b1", "{a[5:2], a[7:4]} = 8'h5a", "d[c +: 8] = 8'hff", "{c, c[1:0]} = 6'd36"]
     while len(cases) < 300:
@@ -78,10 +78,7 @@ def main():
             out.write(f"module m; {DECLARATIONS}\ninitial begin\n{body}\nend\nendmodule\n")
         subprocess.run(["iverilog", "-g2005", "-o", f"{work}/m.vvp", f"{work}/m.v"], check=True)
         shown = subprocess.run(["vvp", "-n", f"{work}/m.vvp"], check=True, capture_output=True, text=True).stdout
-    with open(f"{folder}/stdin", "w") as out:
-        out.write("\n".join(cases) + "\n")
-    with open(f"{folder}/stdout", "w") as out:
-        out.write(shown)
+    tables.save("update_cases", cases, shown)
 
 
 main()

@@ -1,7 +1,7 @@
 #!/usr/bin/env python3
 """An example for `bench/examples.sh`: its campaign by the program, and the same done by hand for its first mutants.
 
-    bench/examples.py PROGRAM FOLDER TOP COUNT     FOLDER holds the project, with its bench at FOLDER/bench/TOP_tb.v, which passes where it
+    bench/lib/examples.py PROGRAM FOLDER TOP COUNT     FOLDER holds the project, with its bench at FOLDER/bench/TOP_tb.v, which passes where it
                                                    prints ALL GOOD. Prints milliseconds of processor time, of the user and the system
 
 By hand each mutant is tested as a script would do it: yosys breaks the design and writes it as Verilog, iverilog compiles that with the

@@ -1,8 +1,8 @@
 """A design, and what its modules are flattened to (IEEE 1364-2005, 12.1 to 12.4). A scope is declared as a whole, and then its items
 stand for what they stand for, each at its place."""
 
-from item_exprs import at, constant, integer, is_left
-from item_trees import CONSTRUCTS, Block, ForItem, IfItem, RegionItem, Scope
+from lib.item_exprs import at, constant, integer, is_left
+from lib.item_trees import CONSTRUCTS, Block, ForItem, IfItem, RegionItem, Scope
 
 
 class Design:

@@ -1,7 +1,7 @@
 #!/usr/bin/env python3
 """What the script `mcy` does before it runs the program: when it builds one, when it takes one that is there, and what it leaves behind.
 
-usage: tests/script.py
+usage: tests/program/script.py
 
 Each case is a repository of three crates with the script, and a made-up `rt` that makes programs that are none, so nothing is proved. Tells what
 is wrong, and ends with the line 'N passed, M failed'.
@@ -18,7 +18,7 @@ from pathlib import Path
 
 from progress import on_terminal
 
-ROOT = Path(__file__).resolve().parent.parent
+ROOT = Path(__file__).resolve().parents[2]
 
 # What stands in for `rt`: it notes the call with what the copy has, and does what KIT_DOES says.
 KIT = r"""#!/bin/sh

@@ -2,9 +2,9 @@
 """Writes a whole design of at most so many bytes of Verilog, within the profile of docs/PROFILE.md: a top that chains instances of
 stages, each a module of its own with assigns, a combinational and a clocked process.
 
-usage: bench/design.py SIZE >FILE          a design of at most SIZE bytes
-       bench/design.py parts SIZE >FILE    a design of at most SIZE bytes, of as many small modules as there is room for
-       bench/design.py states N >FILE      a machine of N states with outputs of 16 bits
+usage: bench/lib/design.py SIZE >FILE          a design of at most SIZE bytes
+       bench/lib/design.py parts SIZE >FILE    a design of at most SIZE bytes, of as many small modules as there is room for
+       bench/lib/design.py states N >FILE      a machine of N states with outputs of 16 bits
 """
 
 import sys
@@ -52,7 +52,7 @@ endmodule
 """
 
 HEAD = """\
-// Made by bench/design.py.
+// Made by bench/lib/design.py.
 module top (input clk, input enable, input [15:0] a, input [7:0] b, input [1:0] mode, output [15:0] y, output [7:0] z);
   wire [15:0] y_0 = a;
   wire [7:0] z_0 = b;
@@ -100,7 +100,7 @@ PART_INSTANCE = """\
 def parts(size):
     """As many modules of one assign as there is room for, each with an instance."""
     modules, instances = [], []
-    head = "// Made by bench/design.py.\nmodule top (input [7:0] a, output [7:0] y);\n  wire [7:0] w_0 = a;\n"
+    head = "// Made by bench/lib/design.py.\nmodule top (input [7:0] a, output [7:0] y);\n  wire [7:0] w_0 = a;\n"
     used = len(head) + 50
     for n in range(size):
         module, instance = filled(PART, n), filled(PART_INSTANCE, n)
@@ -116,7 +116,7 @@ def states(count):
     """A machine with so many states: where each goes by two inputs, and what it shows."""
     width = max((count - 1).bit_length(), 1)
     lines = [
-        "// Made by bench/design.py.",
+        "// Made by bench/lib/design.py.",
         "module top (input clk, input go, input [3:0] key, output reg [15:0] shown);",
         f"  reg [{width - 1}:0] state = 0, next;",
         "  always @(posedge clk) state <= next;",

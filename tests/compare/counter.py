@@ -1,8 +1,8 @@
 #!/usr/bin/env python3
 """The campaign of examples/counter, worked out by the definitions alone.
 
-    python3 tests/counter.py status     examples/counter/status
-    python3 tests/counter.py list       what `mcy list` prints after the run
+    python3 tests/compare/counter.py status     examples/counter/status
+    python3 tests/compare/counter.py list       what `mcy list` prints after the run
 
 The cells and their places are written down from the sources by hand. A site is a bit of a port with a mode; its mutant is
 compared with the design by the outputs and the next value of the register, for all inputs and values of the register.
@@ -10,8 +10,11 @@ compared with the design by the outputs and the next value of the register, for 
 
 import itertools
 import sys
+from pathlib import Path
 
-import pcg
+sys.path.insert(0, str(Path(__file__).resolve().parents[1]))
+
+from lib import pcg
 
 SIZE, SEED = 12, 3
 MODES = ["inv", "const0", "const1", "cnot0", "cnot1"]

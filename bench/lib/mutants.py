@@ -1,12 +1,12 @@
 #!/usr/bin/env python3
 """A design and mutants of it for `bench/mutants.sh`, both made by yosys, and a pipeline of yosys that tests them.
 
-    bench/mutants.py FOLDER SOURCE TOP SIZE    writes FOLDER/read (a pair of netlists for each of SIZE mutants that yosys lists) and
+    bench/lib/mutants.py FOLDER SOURCE TOP SIZE    writes FOLDER/read (a pair of netlists for each of SIZE mutants that yosys lists) and
                                                FOLDER/tested (the same with a test of each)
-    bench/mutants.py --yosys FOLDER COUNT      tests the first COUNT of them as it is done by hand: for each a process that breaks the
+    bench/lib/mutants.py --yosys FOLDER COUNT      tests the first COUNT of them as it is done by hand: for each a process that breaks the
                                                design, and one that compares it with the design by a miter and a solver, with registers
                                                cut, so that one step is compared. Prints the verdicts and the processor time
-    bench/mutants.py --told FOLDER             counts what the program told in FOLDER/told, and compares it with yosys' verdicts
+    bench/lib/mutants.py --told FOLDER             counts what the program told in FOLDER/told, and compares it with yosys' verdicts
 """
 import collections
 import json
@@ -16,7 +16,7 @@ import resource
 import subprocess
 import sys
 
-sys.path.insert(0, str(pathlib.Path(__file__).resolve().parent.parent / "tests"))
+sys.path.insert(0, str(pathlib.Path(__file__).resolve().parents[2] / "tests"))
 from pairs import Netlist
 
 LIMIT = 20_000

@@ -1,7 +1,7 @@
 #!/usr/bin/env python3
 """What a terminal is told beside the lines of the outcomes: how far a campaign is, and what to do next.
 
-    python3 tests/progress.py PROGRAM
+    python3 tests/program/progress.py PROGRAM
 
 Runs a campaign with standard error as a terminal: lines come, ten times a second at most, each with numbers that fit
 the campaign, and the last one is cleared. Standard output is the same as where standard error is a pipe, to which nothing is written.

@@ -1,7 +1,7 @@
 #!/usr/bin/env python3
 """Runs the program on random files and on random edits of valid projects: each call ends with an answer of the table.
 
-    python3 tests/hostile.py --program FILE [COUNT [SEED]]
+    python3 tests/program/hostile.py --program FILE [COUNT [SEED]]
 
 FILE is the built program, COUNT how many calls are made (10,000 where it is left out), and SEED begins the random numbers; it is
 printed, so that a run can be made again. Each call is `init`, or one of ten times `run`, in an empty folder with a `config.mcy` and
@@ -20,7 +20,7 @@ import sys
 import tempfile
 from pathlib import Path
 
-ROOT = Path(__file__).resolve().parent.parent
+ROOT = Path(__file__).resolve().parents[2]
 EXAMPLES = sorted(path for path in (ROOT / "examples").iterdir() if (path / "config.mcy").is_file())
 # Small ones, which are taken more often than the others.
 SMALL = [path for path in EXAMPLES if path.name in ("counter", "and_gate", "parity", "redundant_or")]

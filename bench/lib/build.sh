@@ -2,15 +2,15 @@
 # the gate, without must-fail edits, so what the gate has passed on this machine is kept.
 . "$root/build/copy.sh"
 
-# `build_beside NAME LINE`: the program whose sources stand as text in bench/NAME, with LINE for its crates.txt.
+# `build_beside NAME LINE`: the program whose sources stand as text in bench/programs/NAME, with LINE for its crates.txt.
 build_beside() {
     name=${2%%:*}
     begin_copy ${2#*:}
     mkdir -p "$all/crates/$name/specs"
     echo "$2" >>"$all/crates.txt"
-    (cd "$root/bench/$1" && find . -name '*.txt') | while read -r file; do
+    (cd "$root/bench/programs/$1" && find . -name '*.txt') | while read -r file; do
         mkdir -p "$(dirname "$all/crates/$name/$file")"
-        cp "$root/bench/$1/$file" "$all/crates/$name/${file%.txt}"
+        cp "$root/bench/programs/$1/$file" "$all/crates/$name/${file%.txt}"
     done
     [ -f "$all/crates/$name/specs/Lib.antt" ] || : >"$all/crates/$name/specs/Lib.antt"
     # Without arguments the program says how it is used.

@@ -1,11 +1,11 @@
 #!/usr/bin/env python3
 """Pairs of netlists for `bench/equiv.sh`: small designs, each beside mutants of it at drawn sites, and two forms of one design.
 
-    bench/equiv.py FOLDER          writes FOLDER/read (the pairs), FOLDER/tested (the same with a test of each) and FOLDER/*.cnf, and
+    bench/lib/equiv.py FOLDER          writes FOLDER/read (the pairs), FOLDER/tested (the same with a test of each) and FOLDER/*.cnf, and
                                    FOLDER/large.1 and FOLDER/large.200: a product of 96 bits beside the one with its operands
                                    exchanged, tested with so many lemmas; and FOLDER/cone.*: two forms of a sum of 6 bits alone,
                                    beside a product of 96 bits of other inputs, and beside one of the same inputs
-    bench/equiv.py --told FOLDER   compares what the program told in FOLDER/told with what minisat told of the clauses
+    bench/lib/equiv.py --told FOLDER   compares what the program told in FOLDER/told with what minisat told of the clauses
 
 The clauses are made by the gates of `tests/`, not by the program.
 """
@@ -19,7 +19,7 @@ import resource
 import subprocess
 import sys
 
-sys.path.insert(0, str(pathlib.Path(__file__).resolve().parent.parent / "tests"))
+sys.path.insert(0, str(pathlib.Path(__file__).resolve().parents[2] / "tests"))
 from cell_gates import Gates
 from pairs import Netlist, apart, clauses_of
 

@@ -1,6 +1,6 @@
 """Modules and their items: how they are written, and what they declare in a scope (IEEE 1364-2005, 4, 6, 12.1 to 12.4)."""
 
-from item_exprs import at, constant, integer, put_list
+from lib.item_exprs import at, constant, integer, put_list
 
 
 class Scope:

@@ -1,7 +1,7 @@
 #!/usr/bin/env python3
 """Writes a Verilog source of at most so many bytes, within the profile of docs/PROFILE.md ("Verilog sources").
 
-usage: bench/source.py SIZE [dense] >FILE
+usage: bench/lib/source.py SIZE [dense] >FILE
 
 With `dense` it is one concatenation of the same name over and over, where tokens are densest.
 
@@ -12,7 +12,7 @@ a number. As many of them are written as there is room for.
 import sys
 
 MACROS = """\
-// Made by bench/source.py.
+// Made by bench/lib/source.py.
 `timescale 1ns / 1ps
 `default_nettype none
 `define WORD 32
@@ -152,7 +152,7 @@ def dense(size):
 
 def main():
     if len(sys.argv) not in (2, 3) or not sys.argv[1].isdecimal() or sys.argv[2:] not in ([], ["dense"]):
-        sys.exit("usage: bench/source.py SIZE [dense] >FILE")
+        sys.exit("usage: bench/lib/source.py SIZE [dense] >FILE")
     size = int(sys.argv[1])
     sys.stdout.write(dense(size) if sys.argv[2:] else source(size))
 

@@ -1,7 +1,7 @@
 #!/usr/bin/env python3
 """The sites and mutants of ten small designs against Yosys's `mutate`, in five modes.
 
-usage: tests/yosys_sites.py      needs yosys, iverilog and vvp; without them it says so and is skipped
+usage: tests/compare/yosys_sites.py      needs yosys, iverilog and vvp; without them it says so and is skipped
 
 The designs are those of crates/site_cases/stdin of which the program prints the mutants in all modes, and the mutants are those of its
 stdout, which the gate compares with what the program prints. For each design
@@ -23,9 +23,12 @@ import subprocess
 import sys
 import tempfile
 
+TESTS = pathlib.Path(__file__).resolve().parents[1]
+sys.path.insert(0, str(TESTS))
+
 import sites
 
-ROOT = pathlib.Path(__file__).resolve().parent.parent / "crates" / "site_cases"
+ROOT = TESTS.parent / "crates" / "site_cases"
 TYPES = {"not": "$not", "ror": "$reduce_or", "and": "$and", "add": "$add", "eq": "$eq", "lt": "$lt", "land": "$logic_and", "shl": "$shl", "mux": "$mux"}
 # Seeds that lie near each other draw much the same control bits.
 SEEDS = random.Random(1).sample(range(1, 2**31), 60)

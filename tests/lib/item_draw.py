@@ -2,8 +2,8 @@
 
 import random
 
-from item_exprs import Binary, Group, Name, Number, Parts, Select
-from item_trees import (
+from lib.item_exprs import Binary, Group, Name, Number, Parts, Select
+from lib.item_trees import (
     AssignItem, Block, DataItem, ForItem, GenvarItem, IfItem, InstanceItem, Kind,
     Module, Pair, ParameterItem, PortItem, ProcessItem, Range, RegionItem,
 )

@@ -3,9 +3,9 @@
 # by itself within the cycles of its project, and to print what is expected here, whatever $random draws. Ends with the line
 # 'N passed, M failed'.
 #
-# usage: tests/benches.sh      what is not installed of iverilog, vvp and yosys is said, and its part is left out
+# usage: tests/compare/benches.sh      what is not installed of iverilog, vvp and yosys is said, and its part is left out
 set -u
-root=$(cd "$(dirname "$0")/.." && pwd) || exit 1
+root=$(cd "$(dirname "$0")/../.." && pwd) || exit 1
 room=$(mktemp -d) || exit 1
 trap 'rm -rf "$room"' EXIT
 passed=0
