@@ -16,7 +16,7 @@ use Rattle.project_file.specs.Lines.{args_of, behind_key, find_line, is_filled, 
 use Rattle.project_file.specs.Paths.{Known, count_fault, find_path, gather, with_names}
 use Rattle.project_file.specs.Projects.{design_in, header_fault, lines_fault, part_fault, part_reads, project_of, reads_in, test_of, titled_fault, IsProject}
 use Rattle.project_file.specs.Scripts.{first_top, script_fault, script_reads}
-use Rattle.project_file.specs.Sections.{Part, find_part, lines_in, name_in, parts_of, plain_title, tests_in, title_of}
+use Rattle.project_file.specs.Sections.{Part, find_part, is_test, lines_in, name_in, parts_of, plain_title, tests_in, title_of}
 use Rattle.project_file.specs.Tests.{files_by, formed_fault, has_kind, is_clash, is_kind, is_test_form, kind_by, kind_in, known_test_fault, plan_of, test_at, test_fault, test_key, test_key_fault, test_reads}
 use Rattle.project_file.specs.Lines.{has_line}
 use Rattle.project_file.specs.Words.{is_name}
@@ -158,9 +158,6 @@ design_among known names parts is good are = subst (λ (k : Known). AreAmong (ga
 
 -- tests
 
-abbrev is_test : Part → Bool
-is_test part = bytes_eq (key_of part.header) (codes "test")
-
 -- a good header whose first word is `test` has the title of a test
 test_title : (a b t c : Bool) (plain : Option Title) (earlier : List Part) (number : ℕ) (header : List ℕ) → t ≡ true → plain ≡ None → titled_fault (if a then None else (if b then (if t && c then Some Test else None) else plain)) earlier number header ≡ None → (if a then None else (if b then (if t && c then Some Test else None) else plain)) ≡ Some Test
 test_title true b t c plain earlier number header is none good = cc
@@ -176,7 +173,7 @@ test_header earlier number header is good =
     test_title (is_filled (key_of (behind_key (behind_key header)))) (is_filled (name_in header)) (bytes_eq (key_of header) (codes "test")) (is_name (name_in header)) (plain_title (key_of header)) earlier number header (ap (λ key. bytes_eq key (codes "test")) is) (ap plain_title is) good
 
 test_part : (known : Known) (earlier : List Part) (number : ℕ) (part : Part) → is_test part ≡ true → part_fault known earlier number part ≡ None → part_reads known part ≡ gather test_reads part.lines
-unfolding part_reads
+unfolding part_reads is_test
 test_part known earlier number part is good =
     let key : key_of part.header ≡ codes "test" = (bytes_eq-Decides (key_of part.header) (codes "test")).0 is in
     ap (λ (title : Option Title). reads_in known title part.lines) (test_header earlier part.number part.header key (header_good known earlier number part good))

@@ -10,12 +10,9 @@ use Rattle.project_file.specs.Checks.{first_fault}
 use Rattle.project_file.specs.Lines.{key_of}
 use Rattle.project_file.specs.Paths.{Known, find_path}
 use Rattle.project_file.specs.Projects.{part_fault, project_of, test_of, IsProject}
-use Rattle.project_file.specs.Sections.{Part, lines_in, parts_of, tests_in}
+use Rattle.project_file.specs.Sections.{Part, is_test, lines_in, parts_of, tests_in}
 use Rattle.project_limits.proofs.Headers.{header_good, room_for_test, sections_good}
 use Rattle.project_limits.proofs.Lines.{head_good, tail_good}
-
-abbrev is_test : Part → Bool
-is_test part = bytes_eq (key_of part.header) (codes "test")
 
 one_few : (b : Bool) (part : Part) (count : ℕ) → count ≤ 16 → (b ≡ true → nat_lt 15 count ≡ false) → count + length (cond b (part ∷ []) []) ≤ 16
 one_few true part count few room = (let not_many : nat_lt 15 count ≡ false = room refl in grind (arith, nat_tests))
@@ -23,7 +20,7 @@ one_few false part count few room = omega (arith, few)
 
 -- with a good section there are still few tests
 push_few : (known : Known) (earlier : List Part) (number : ℕ) (part : Part) → part_fault known earlier number part ≡ None → length (tests_in earlier) ≤ 16 → length (tests_in (earlier ++ part ∷ [])) ≤ 16
-unfolding tests_in
+unfolding tests_in is_test
 push_few known earlier number part good few =
     let room : is_test part ≡ true → nat_lt 15 (length (tests_in earlier)) ≡ false = λ is. room_for_test earlier part.number part.header ((bytes_eq-Decides (key_of part.header) (codes "test")).0 is) (header_good known earlier number part good) in
     let all : length (tests_in (earlier ++ part ∷ [])) ≡ length (tests_in earlier) + length (cond (is_test part) (part ∷ []) []) = ap length (filter-append is_test earlier (part ∷ [])) ∙ length-append (tests_in earlier) (cond (is_test part) (part ∷ []) []) in
