@@ -173,6 +173,14 @@ fn ports_of(alloc: Global, givens: &[Given]) -> Result<Vec<BitList>, AllocError>
     Ok(ports)
 }
 
+/// The last of the rows, or an empty one where there is none.
+fn last_of<'a>(rows: &'a [GateBits]) -> &'a [GateLit] {
+    match rows.last() {
+        Some(row) => row.as_slice(),
+        None => &[],
+    }
+}
+
 /// Adds the row at a port behind those before. The values of its free bits are added to the values.
 fn add_row(
     alloc: Global,
@@ -180,11 +188,7 @@ fn add_row(
     port: &Given,
     values: &mut Vec<bool>,
 ) -> Result<()> {
-    let before: &[GateLit] = match rows.last() {
-        Some(row) => row.as_slice(),
-        None => &[],
-    };
-    let literals = port.literals(alloc, before, values)?;
+    let literals = port.literals(alloc, last_of(rows.as_slice()), values)?;
     Ok(rows.push(Items::from_vec(literals))?)
 }
 
