@@ -43,6 +43,7 @@ fn kind_of(kind: Kind) -> &'static str {
         Kind::Cells => "Cells",
         Kind::NetBits => "NetBits",
         Kind::RegisterBits => "RegisterBits",
+        Kind::Scopes => "Scopes",
         _ => "another kind",
     }
 }

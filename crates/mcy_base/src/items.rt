@@ -7,9 +7,14 @@ use std::alloc::{AllocError, Global};
 use std::marker::Model;
 
 /// A list of items.
-#[derive(Drop)]
 pub struct Items<T> {
     vec: Vec<T>,
+}
+
+impl<T: Drop> Drop for Items<T> {
+    fn drop(self) {
+        let Items { vec: _vec } = self;
+    }
 }
 
 impl<T> Model for Items<T> {

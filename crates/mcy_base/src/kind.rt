@@ -10,4 +10,5 @@ pub enum Kind {
     Sites,
     Gates,
     FreeBits,
+    Scopes,
 }

@@ -5,9 +5,14 @@ use std::alloc::{AllocError, Global};
 use std::marker::Model;
 
 /// A text in UTF-8.
-#[derive(Drop)]
 pub struct Text {
     string: String,
+}
+
+impl Drop for Text {
+    fn drop(self) {
+        let Text { string: _string } = self;
+    }
 }
 
 impl Model for Text {

@@ -61,6 +61,7 @@ kind_name k.RegisterBits = codes "RegisterBits"
 kind_name k.Sites = codes "Sites"
 kind_name k.Gates = codes "Gates"
 kind_name k.FreeBits = codes "FreeBits"
+kind_name k.Scopes = codes "Scopes"
 
 -- a line of these words
 abbrev pub told : List ℕ → List ℕ

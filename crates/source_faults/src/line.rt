@@ -75,6 +75,7 @@ pub fn kind_name(kind: Kind) -> &'static str
         Kind::Sites => "Sites",
         Kind::Gates => "Gates",
         Kind::FreeBits => "FreeBits",
+        Kind::Scopes => "Scopes",
     }
 }
 
