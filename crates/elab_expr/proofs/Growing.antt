@@ -42,6 +42,7 @@ more_short n m (error.TooMany kind.RegisterBits) le h = h
 more_short n m (error.TooMany kind.Sites) le h = h
 more_short n m (error.TooMany kind.Gates) le h = h
 more_short n m (error.TooMany kind.FreeBits) le h = h
+more_short n m (error.TooMany kind.Scopes) le h = h
 more_short n m error.Memory le h = tt
 more_short n m (error.Unknown s) le h = h
 more_short n m (error.NotConstant s) le h = h

@@ -213,6 +213,7 @@ module _ (b : Building) (top : List ℕ) (clock : Option (List ℕ)) (ins outs d
   only_loops few within (e.TooMany k.Sites) is = is
   only_loops few within (e.TooMany k.Gates) is = is
   only_loops few within (e.TooMany k.FreeBits) is = is
+  only_loops few within (e.TooMany k.Scopes) is = is
   only_loops few within (e.BadShape c) is = none_misshapen fin.to b.cells c can.stands.formed (subst (λ (cells : List Cell). HasBadShape (slice_get cells c)) fin.cells is.1.here)
   only_loops few within (e.TwoDrivers n) is = single n is.1.here
   only_loops few within (e.Undriven n) is = connected n is.1.here

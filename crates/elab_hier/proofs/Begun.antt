@@ -49,3 +49,4 @@ full_bits bits kind.RegisterBits h = absurd h
 full_bits bits kind.Sites h = absurd h
 full_bits bits kind.Gates h = absurd h
 full_bits bits kind.FreeBits h = absurd h
+full_bits bits kind.Scopes h = absurd h

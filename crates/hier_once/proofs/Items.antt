@@ -37,6 +37,7 @@ too_many n kind.RegisterBits h = absurd h
 too_many n kind.Sites h = absurd h
 too_many n kind.Gates h = absurd h
 too_many n kind.FreeBits h = absurd h
+too_many n kind.Scopes h = absurd h
 
 some_once : {A : Type 0} (x y : A) → Some x ≡ Some y → x ≡ y
 some_once x y e = cc

@@ -91,6 +91,7 @@ which_limit b n kind.Cells h = absurd h
 which_limit b n kind.Sites h = absurd h
 which_limit b n kind.Gates h = absurd h
 which_limit b n kind.FreeBits h = absurd h
+which_limit b n kind.Scopes h = absurd h
 
 within_not_over : (b : Building) (n : RawNetlist) (k : Kind) → IsWithin n → IsOver b n (TooMany k) → ⊥
 within_not_over b n k within over = elim (which_limit b n k over) [

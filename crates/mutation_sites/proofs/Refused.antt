@@ -1,6 +1,6 @@
 -- A mutant is refused for want of memory alone.
 use Rattle.std.proofs.Common.{◌≡◌, ℕ, ◌≤◌, length, refl, arith}
-use Rattle.mcy_base.specs.declared.kind.Kind.TheVariants.{Tokens, LoopTurns, Cells, NetBits, RegisterBits, Sites, Gates, FreeBits}
+use Rattle.mcy_base.specs.declared.kind.Kind.TheVariants.{Tokens, LoopTurns, Cells, NetBits, RegisterBits, Sites, Gates, FreeBits, Scopes}
 use Rattle.netlist_core.specs.declared.netlist.NetError.{NetError}
 use Rattle.netlist_core.specs.declared.netlist.NetError.TheVariants.{TooMany, BadShape, TwoDrivers, Undriven, Loop, Memory}
 use Rattle.netlist_core.specs.Drivers.{drivers}
@@ -20,6 +20,7 @@ refused-memory plan sound site fresh none cells bits (TooMany RegisterBits) refu
 refused-memory plan sound site fresh none cells bits (TooMany Sites) refused = absurd refused
 refused-memory plan sound site fresh none cells bits (TooMany Gates) refused = absurd refused
 refused-memory plan sound site fresh none cells bits (TooMany FreeBits) refused = absurd refused
+refused-memory plan sound site fresh none cells bits (TooMany Scopes) refused = absurd refused
 refused-memory plan sound site fresh none cells bits (BadShape c) refused = absurd (shapes-kept plan sound site fresh c refused.1.here)
 refused-memory plan sound site fresh none cells bits (TwoDrivers n) refused = absurd (single-kept plan sound site fresh none n refused.1.here)
 refused-memory plan sound site fresh none cells bits (Undriven n) refused = absurd (reads-kept plan sound site fresh n refused.1.here)
