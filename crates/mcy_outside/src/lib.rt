@@ -3,7 +3,9 @@
 #![tactic(auto)]
 
 mod clean_files;
+mod disk;
 mod files;
+mod laws;
 mod memory_files;
 mod memory_sink;
 mod real_files;
@@ -11,7 +13,9 @@ mod real_sink;
 mod sink;
 
 pub use clean_files::CleanFiles;
+pub use disk::{Disk, read_from};
 pub use files::{FileError, SourceFiles};
+pub use laws::{memory_files_tell, memory_sinks_tell};
 pub use memory_files::MemoryFiles;
 pub use memory_sink::MemorySink;
 pub use real_files::{RealFiles, read_within};

@@ -5,6 +5,7 @@
 ghost use Rattle.std.specs.Prelude.{◌≡◌, ◌↔◌, ◌≤◌, None, [], IfOk, length, option_map, Some};
 ghost use Rattle.mcy_outside.specs.Files.{Reads};
 
+use crate::disk::{Disk, read_from};
 use crate::files::{FileError, SourceFiles};
 use std::alloc::Global;
 use std::fs::{self, File};
@@ -40,18 +41,26 @@ impl<R: Files> RealFiles<R> {
             faults: 0,
         }
     }
+}
 
-    /// All bytes of the file of this name, of which there may be `max`. What is no regular file is not
-    /// opened: a FIFO would wait for its writer, and a device may have no end.
-    fn read_file(&self, name: &str, max: u32) -> Result<Vec<u8>, FileError>
-        ensures { IfOk result (λ bytes. length bytes.items ≤ max) }
-    {
-        let metadata = fs::metadata(&self.files, name).map_err(|error| open_error(error.kind()))?;
-        if !metadata.is_file() {
-            return Err(FileError::Failed);
+/// The disk of a runtime, which tells nothing of what it holds.
+#[derive(Drop)]
+struct RealDisk<'a, R> {
+    files: &'a R,
+}
+
+impl<R: Files> Disk<R::File> for RealDisk<'_, R> {
+    ghost entries = { λ _. None };
+
+    fn is_regular(&self, name: &str) -> Result<bool, FileError> {
+        match fs::metadata(self.files, name) {
+            Ok(metadata) => Ok(metadata.is_file()),
+            Err(error) => Err(open_error(error.kind())),
         }
-        let file = File::open(&self.files, name).map_err(|error| open_error(error.kind()))?;
-        read_within(self.alloc, file, max)
+    }
+
+    fn open(&self, name: &str) -> Result<R::File, FileError> {
+        File::open(self.files, name).map_err(|error| open_error(error.kind()))
     }
 }
 
@@ -88,7 +97,8 @@ impl<R: Files> SourceFiles for RealFiles<R> {
     ghost faults = { λ f. f };
 
     fn read(&mut self, name: &str, max: u32) -> Result<Vec<u8>, FileError> {
-        let result = self.read_file(name, max);
+        let disk = RealDisk { files: &self.files };
+        let result = read_from(self.alloc, &disk, name, max);
         if let Err(FileError::Failed) = result {
             self.faults = self.faults.saturating_add(1);
         }

@@ -3,4 +3,4 @@
 
 mod watched;
 
-pub use watched::{WatchedKeeper, Watcher};
+pub use watched::{WatchedKeeper, Watcher, watched_keepers_tell};

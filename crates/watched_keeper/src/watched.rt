@@ -2,6 +2,9 @@
 //!
 //! What is kept is what the keeper below keeps: the watcher is told of a book or a row once it is there, and plays no part in any
 //! clause.
+ghost use Rattle.std.specs.Prelude.{◌≡◌, ◌↔◌, Option};
+ghost use Rattle.mcy_keeper.specs.declared.book.Book.{Book as Pages};
+
 use mcy_base::BytesList;
 use mcy_keeper::{Book, Entry, KeepError, Keeper};
 
@@ -67,4 +70,15 @@ impl<K: Keeper, W: Watcher> Keeper for WatchedKeeper<K, W> {
     fn settled(&self) -> bool {
         self.keeper.settled()
     }
+}
+
+/// It tells what the keeper below tells.
+pub fn watched_keepers_tell<K: Keeper, W: Watcher>(keeper: &WatchedKeeper<K, W>)
+    ensures tells { ⟦<WatchedKeeper<K, W> as Keeper>⟧.tells keeper.now ↔ K.tells keeper.now.keeper }
+    ensures holds { (b : Pages) → ⟦<WatchedKeeper<K, W> as Keeper>⟧.holds keeper.now b ↔ K.holds keeper.now.keeper b }
+    ensures leaves { (left : Option Pages) → ⟦<WatchedKeeper<K, W> as Keeper>⟧.leaves keeper.now left ↔ K.leaves keeper.now.keeper left }
+    ensures settled { ⟦<WatchedKeeper<K, W> as Keeper>⟧.is_settled keeper.now ≡ K.is_settled keeper.now.keeper }
+    ensures faults { ⟦<WatchedKeeper<K, W> as Keeper>⟧.faults keeper.now ≡ K.faults keeper.now.keeper }
+{
+    let _ = keeper;
 }
