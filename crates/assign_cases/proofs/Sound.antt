@@ -37,7 +37,7 @@ fresh_long from (suc width) = let e = fresh_long (from + 1) width in omega (arit
 
 stays_signal : (b : Building) (name : List ℕ) (span : Span) (width : ℕ) (d : Option Decl) → IsSignal b d → IsSignal (with_declared b name span width) d
 stays_signal b name span width None h = tt
-stays_signal b name span width (Some (Constant value is_signed)) h = tt
+stays_signal b name span width (Some (Constant value low is_signed)) h = tt
 stays_signal b name span width (Some (Signal w low is_signed k)) h =
     let y : List Bit = fresh_bits b.nets width in
     let same = index_left b.signals (y ∷ []) k h.0 in
@@ -60,9 +60,9 @@ declared_signals names after b name span width low is_signed k is e h = subst (�
 
 -- A constant.
 
-pub constant_signals : (names after : Names) (b : Building) (name : List ℕ) (value : Word) (is_signed : Bool) → after ≡ with_name names name (Some (Constant value is_signed)) → HasSignals names b → HasSignals after b
+pub constant_signals : (names after : Names) (b : Building) (name : List ℕ) (value : Word) (is_signed : Bool) → after ≡ with_name names name (Some (Constant value low is_signed)) → HasSignals names b → HasSignals after b
 constant_signals names after b name value is_signed e h = subst (λ (n : Names). HasSignals n b) (sym e) (λ other. go other (bytes_eq name other)) where
-  go : (other : List ℕ) (same : Bool) → IsSignal b (if same then Some (Constant value is_signed) else names other)
+  go : (other : List ℕ) (same : Bool) → IsSignal b (if same then Some (Constant value low is_signed) else names other)
   go other true = tt
   go other false = h other
 
@@ -70,7 +70,7 @@ constant_signals names after b name value is_signed e h = subst (λ (n : Names).
 
 same_signal : (old new : Building) (d : Option Decl) → new.signals ≡ old.signals → old.nets ≤ new.nets → IsSignal old d → IsSignal new d
 same_signal old new None same le h = tt
-same_signal old new (Some (Constant value is_signed)) same le h = tt
+same_signal old new (Some (Constant value low is_signed)) same le h = tt
 same_signal old new (Some (Signal w low is_signed k)) same le h =
     let P : List (List Bit) → Type 0 = λ l. (k < length l) × (length (slice_index_or l k []) ≡ w) × AllBelow new.nets (slice_index_or l k []) in
     subst P (sym same) (h.0, h.1, below_more old.nets new.nets (signal old k) le h.2)

@@ -71,6 +71,7 @@ impl Bench {
         let value = value.parse::<u128>().ok().context("no value")?;
         let decl = Decl::Constant {
             value: Word::new(32, value).context("no value")?,
+            low: 0,
             is_signed: true,
         };
         match self.scope.declare(name, decl) {

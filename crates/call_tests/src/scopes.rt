@@ -32,6 +32,7 @@ fn names_are_declared_copied_replaced_and_hidden(rt: HostRuntime) -> Result<(), 
     let value = Word::new(8, 200).ok_or("it is a word")?;
     let decl = Decl::Constant {
         value,
+        low: 0,
         is_signed: false,
     };
     let other = Decl::Signal {

@@ -133,9 +133,7 @@ low_0 span (suc low) false e h =
     let full : fault IndexedBase span ∷ [] ≡ [] = ap (λ (t : Bool). if t || false then [] else fault IndexedBase span ∷ []) (sym no) ∙ h in cc
 
 low_is_0 : (span : Span) (d : Option Decl) (i : Sense) → index_features span d i ≡ [] → is_empty i.signals ≡ false → decl_low d ≡ 0
-low_is_0 span (Some (Signal width low signed number)) i none varies = low_0 span low (is_empty i.signals) varies none
-low_is_0 span (Some (Constant value signed)) i none varies = refl
-low_is_0 span None i none varies = refl
+low_is_0 span d i none varies = low_0 span (decl_low d) (is_empty i.signals) varies none
 
 minus_0 : (n k : ℕ) → k ≡ 0 → pos n -ℤ pos k ≡ pos n
 minus_0 n k e = omega (arith, ints, e)

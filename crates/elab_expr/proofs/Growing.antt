@@ -124,7 +124,7 @@ signal_kept : (a b : Building) (decl : Option Decl) → b.signals ≡ a.signals 
 signal_kept a b (Some (Signal width low signed number)) same le h =
     let bits : signal b number ≡ signal a number = ap (λ (l : List (List Bit)). slice_index_or l number []) same in
     (subst (λ (l : List (List Bit)). number < length l) (sym same) h.0, ap length bits ∙ h.1, below_later a.nets b.nets (signal b number) le (subst (AllBelow a.nets) (sym bits) h.2))
-signal_kept a b (Some (Constant value signed)) same le h = tt
+signal_kept a b (Some (Constant value low signed)) same le h = tt
 signal_kept a b None same le h = tt
 
 pub signals_kept : (names : Names) (a b : Building) → Grows a b → HasSignals names a → HasSignals names b

@@ -55,7 +55,7 @@ times (suc count) bits = bits ++ times count bits
 -- what a name shows: the bits that its signal has now, or its constant
 abbrev pub name_bits : Building → Option Decl → List Bit
 name_bits b (Some (Signal width low is_signed number)) = signal b number
-name_bits b (Some (Constant value is_signed)) = number_bits value.width value.bits
+name_bits b (Some (Constant value low is_signed)) = number_bits value.width value.bits
 name_bits b None = number_bits 1 0
 
 -- Cells.

@@ -41,16 +41,6 @@ pub(crate) fn name_bits(
     }
 }
 
-/// The number of a name's lowest bit.
-pub(crate) fn name_low(scope: &Scope, name: &Identifier) -> u32
-    ensures { result ≡ decl_low (names_of scope.now name.now.name) }
-{
-    match scope.get(name.name.as_str()) {
-        Some(Decl::Signal { low, .. }) => low,
-        Some(Decl::Constant { .. }) | None => 0,
-    }
-}
-
 /// The bits of a name at a width and sign.
 pub(crate) fn named(
     builder: &Builder,
@@ -116,6 +106,6 @@ pub(crate) fn placed(
     ensures holds { IfOk result (λ bits. Holds builder.now bits width (λ signals. window (bound_integer place -ℤ pos (decl_low (names_of scope.now name.now.name))) size (decl_value signals (names_of scope.now name.now.name)))) }
 {
     let bits = name_bits(builder, scope, name)?;
-    let low = name_low(scope, name);
+    let low = scope.low_of(name.name.as_str());
     Ok(placed_bits(builder.alloc(), bits.as_slice(), place, low, size, width)?)
 }

@@ -36,7 +36,7 @@ pub sized_at : (places : List Place) (b : Building) (k : ℕ) → Stands places 
 sized_at places b k h = λ name. go (names_at places k name) (h.signals k name) where
   go : (d : Option Decl) → IsSignal b d → IsSized (decl_shape d)
   go None s = record { some = lit≤ tt; narrow = lit≤ tt }
-  go (Some (Constant value is_signed)) s = record { some = value.some; narrow = value.narrow }
+  go (Some (Constant value low is_signed)) s = record { some = value.some; narrow = value.narrow }
   go (Some (Signal w low is_signed n)) s = record { some = subst (λ (x : ℕ). 1 ≤ x) s.1 (h.some n s.0); narrow = subst (λ (x : ℕ). x ≤ 128) s.1 (h.narrow n) }
 
 pub sized_as : (places : List Place) (b : Building) (k : ℕ) (names : Names) → names ≡ names_at places k → Stands places b → AreSized names

@@ -55,7 +55,7 @@ signal_stands ss w low n (Some s) is h =
 
 name_stands : (ss : List Signal) (o : Option Decl) → NamesSignal ss o → IsSignal (declared ss empty) o
 name_stands ss None h = tt
-name_stands ss (Some (d.Constant value is_signed)) h = tt
+name_stands ss (Some (d.Constant value low is_signed)) h = tt
 name_stands ss (Some (d.Signal w low is_signed n)) h = signal_stands ss w low n (slice_get ss n) refl h
 
 scope_stands : (ss : List Signal) (places : List Place) → ((i : ℕ) (p : Place) → slice_get places i ≡ Some p → PlaceStands ss p) → (k : ℕ) (name : List ℕ) → IsSignal (declared ss empty) (names_at places k name)

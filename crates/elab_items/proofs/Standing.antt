@@ -45,7 +45,7 @@ names_found places k names h = go (slice_get places k) refl h where
 
 pub same_signal : (old new : Building) (d : Option Decl) → new.signals ≡ old.signals → old.nets ≤ new.nets → IsSignal old d → IsSignal new d
 same_signal old new None same le h = tt
-same_signal old new (Some (Constant value is_signed)) same le h = tt
+same_signal old new (Some (Constant value low is_signed)) same le h = tt
 same_signal old new (Some (Signal w low is_signed k)) same le h =
     let P : List (List Bit) → Type 0 = λ l. (k < length l) × (length (slice_index_or l k []) ≡ w) × AllBelow new.nets (slice_index_or l k []) in
     subst P (sym same) (h.0, h.1, below_more old.nets new.nets (signal old k) le h.2)

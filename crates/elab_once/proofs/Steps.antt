@@ -19,7 +19,7 @@ use Rattle.elab_proc.specs.Refusals.{sides_faults, same_form, is_written, name_r
 -- a declared signal is one of these, with its width
 abbrev pub IsKnown : List (List Bit) → Option Decl → Type 0
 IsKnown signals (Some (Signal width low is_signed number)) = (number < length signals) × (length (slice_index_or signals number []) ≡ width)
-IsKnown signals (Some (Constant value is_signed)) = Unit {0}
+IsKnown signals (Some (Constant value low is_signed)) = Unit {0}
 IsKnown signals None = Unit {0}
 
 abbrev pub AreKnown : List (List Bit) → Names → Type 0
@@ -56,7 +56,7 @@ widths_hold : (signals : List (List Bit)) (names : Names) → AreKnown signals n
 widths_hold signals names h = λ name. go (names name) (h name) where
   go : (d : Option Decl) → IsKnown signals d → IsSized (widths signals) d
   go (Some (Signal width low is_signed number)) k = k.1
-  go (Some (Constant value is_signed)) k = tt
+  go (Some (Constant value low is_signed)) k = tt
   go None k = tt
 
 -- the same is told of the writers of all signals
@@ -67,7 +67,7 @@ wider_hold : (written others : List Bool) (signals : List (List Bit)) (names : N
 wider_hold written others signals names same h = λ name. go (names name) (h name) where
   go : (d : Option Decl) → IsKnown signals d → IsSized (wider written others signals) d
   go (Some (Signal width low is_signed number)) k = none_apart (is_written written number) (is_written others number) (widths signals number) width (same number k.0) k.1
-  go (Some (Constant value is_signed)) k = tt
+  go (Some (Constant value low is_signed)) k = tt
   go None k = tt
 
 -- Where names are sized in both ways, the same is refused.
@@ -75,7 +75,7 @@ wider_hold written others signals names same h = λ name. go (names name) (h nam
 name_once : (written others : List Bool) (signals : List (List Bit)) (span : Span) (d : Option Decl) → IsSized (widths signals) d → IsSized (wider written others signals) d → name_refusals written span d ≡ name_refusals others span d
 name_once written others signals span (Some (Signal width low is_signed number)) e f =
     ap (λ (x : Bool). if x then TwoWriters span number ∷ [] else []) (not_apart (is_written written number) (is_written others number) (widths signals number) width e f)
-name_once written others signals span (Some (Constant value is_signed)) e f = refl
+name_once written others signals span (Some (Constant value low is_signed)) e f = refl
 name_once written others signals span None e f = refl
 
 parts_once : (written others : List Bool) (signals : List (List Bit)) (names : Names) (ps : List Part) → AreSized (widths signals) names → AreSized (wider written others signals) names → flat_map (part_refusals names written) ps ≡ flat_map (part_refusals names others) ps

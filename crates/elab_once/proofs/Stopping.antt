@@ -31,7 +31,7 @@ scopes_known : (places : List Place) (b : Building) → Stands places b → Scop
 scopes_known places b h = λ k name. go (names_at places k name) (h.signals k name) where
   go : (d : Option Decl) → IsSignal b d → IsKnown b.signals d
   go (Some (Signal width low is_signed number)) s = (s.0, s.1)
-  go (Some (Constant value is_signed)) s = tt
+  go (Some (Constant value low is_signed)) s = tt
   go None s = tt
 
 timed_once : (inputs : List Bool) (flat : Flat) (clocks : Clocks) (item : FlatItem) (b c : Building) (x y : Option Reason)

@@ -123,7 +123,7 @@ word_again w =
     let by_bits : ℕ → Option Word = λ n. tested_word w.width n (nat_le 1 w.width) (nat_le w.width 128) (nat_lt n (2 ^ w.width)) refl refl refl in
     ap by_bits (mod-eq_of_lt w.fits) ∙ tested_is w _ _ _ refl refl refl (le-leb 1 w.width w.some) (le-leb w.width 128 w.narrow) (lt-ltb w.bits (2 ^ w.width) w.fits)
 
-pub names_by_word : (loop : Loop) (names : Names) (word : Word) → word.width ≡ loop.width → turn_names loop names word.bits ≡ with_name names loop.name.name (Some (Constant word loop.is_signed))
+pub names_by_word : (loop : Loop) (names : Names) (word : Word) → word.width ≡ loop.width → turn_names loop names word.bits ≡ with_name names loop.name.name (Some (Constant word 0 loop.is_signed))
 names_by_word loop names word e = ap (with_word loop names) (ap (λ (n : ℕ). word_of n word.bits) (sym e) ∙ word_again word)
 
 -- the names of a turn rest on the lowest bits of the variable's value
@@ -145,11 +145,11 @@ turns_by_bits zero loop body names v = turns_last loop body names (v % 2 ^ loop.
 turns_by_bits (suc most) loop body names v = turns_one most loop body names (v % 2 ^ loop.width) ∙ ap (λ (here : Names). turn_steps loop body here (λ next. turns most loop body names next)) (names_by_bits loop names v) ∙ sym (turns_one most loop body names v)
 
 -- the turns from a word on, of which there are some
-pub turns_first : (n : ℕ) (loop : Loop) (body : InNames) (names : Names) (word : Word) → 1 ≤ n → word.width ≡ loop.width → turns n loop body names word.bits ≡ turn_steps loop body (with_name names loop.name.name (Some (Constant word loop.is_signed))) (λ next. turns (n - 1) loop body names next)
+pub turns_first : (n : ℕ) (loop : Loop) (body : InNames) (names : Names) (word : Word) → 1 ≤ n → word.width ≡ loop.width → turns n loop body names word.bits ≡ turn_steps loop body (with_name names loop.name.name (Some (Constant word 0 loop.is_signed))) (λ next. turns (n - 1) loop body names next)
 turns_first zero loop body names word some e = absurd (omega arith)
 turns_first (suc most) loop body names word some e = let m : suc most - 1 ≡ most = omega arith in rw m (turns_one most loop body names word.bits ∙ ap (λ (here : Names). turn_steps loop body here (λ next. turns most loop body names next)) (names_by_word loop names word e))
 
-pub turns_none : (loop : Loop) (body : InNames) (names : Names) (word : Word) → word.width ≡ loop.width → turns zero loop body names word.bits ≡ tested (constant_of (with_name names loop.name.name (Some (Constant word loop.is_signed))) 1 loop.condition) (flaws_of (constant_faults (with_name names loop.name.name (Some (Constant word loop.is_signed))) 1 loop.condition)) (Refuse Turns Done)
+pub turns_none : (loop : Loop) (body : InNames) (names : Names) (word : Word) → word.width ≡ loop.width → turns zero loop body names word.bits ≡ tested (constant_of (with_name names loop.name.name (Some (Constant word 0 loop.is_signed))) 1 loop.condition) (flaws_of (constant_faults (with_name names loop.name.name (Some (Constant word 0 loop.is_signed))) 1 loop.condition)) (Refuse Turns Done)
 turns_none loop body names word e = turns_last loop body names word.bits ∙ ap (λ (here : Names). tested (constant_of here 1 loop.condition) (flaws_of (constant_faults here 1 loop.condition)) (Refuse Turns Done)) (names_by_word loop names word e)
 
 pub turns_next : (n : ℕ) (loop : Loop) (body : InNames) (names : Names) (word : Word) (v : ℕ) → word.bits ≡ v % 2 ^ loop.width → turns n loop body names v ≡ turns n loop body names word.bits
@@ -157,14 +157,14 @@ turns_next n loop body names word v is = sym (ap (turns n loop body names) is �
 
 -- Scopes.
 
-sized_if : (b : Bool) (word : Word) (s : Bool) (d : Option Decl) → IsSized (decl_shape d) → IsSized (decl_shape (if b then Some (Constant word s) else d))
+sized_if : (b : Bool) (word : Word) (s : Bool) (d : Option Decl) → IsSized (decl_shape d) → IsSized (decl_shape (if b then Some (Constant word 0 s) else d))
 sized_if true word s d k = record { some = word.some; narrow = word.narrow }
 sized_if false word s d k = k
 
-pub sized_with : (names : Names) (name : List ℕ) (word : Word) (s : Bool) → AreSized names → AreSized (with_name names name (Some (Constant word s)))
+pub sized_with : (names : Names) (name : List ℕ) (word : Word) (s : Bool) → AreSized names → AreSized (with_name names name (Some (Constant word 0 s)))
 sized_with names name word s k = λ other. sized_if (bytes_eq name other) word s (names other) (k other)
 
-pub sized_after : (current after : Names) (name : List ℕ) (word : Word) (s : Bool) → after ≡ with_name current name (Some (Constant word s)) → AreSized current → AreSized after
+pub sized_after : (current after : Names) (name : List ℕ) (word : Word) (s : Bool) → after ≡ with_name current name (Some (Constant word 0 s)) → AreSized current → AreSized after
 sized_after current after name word s is k = subst AreSized (sym is) (sized_with current name word s k)
 
 some_if : (b : Bool) (d : Decl) (o : Option Decl) → b ≡ true → IsSome (if b then Some d else o)
@@ -188,7 +188,7 @@ module _ (comb : Bool) (w : List Bool) (loop : Loop) (body : InNames) where
   abbrev pub turns_left : Names → ℕ → Word → List Refusal
   turns_left names n word = step_refusals comb w (turns n loop body names word.bits)
 
-  pub turn_by_turn : (names here : Names) (word : Word) (k : ℕ) → k < max_turns → word.width ≡ loop.width → here ≡ with_name names loop.name.name (Some (Constant word loop.is_signed)) → turns (max_turns - k) loop body names word.bits ≡ turn_steps loop body here (λ v. turns (max_turns - (k + 1)) loop body names v)
+  pub turn_by_turn : (names here : Names) (word : Word) (k : ℕ) → k < max_turns → word.width ≡ loop.width → here ≡ with_name names loop.name.name (Some (Constant word 0 loop.is_signed)) → turns (max_turns - k) loop body names word.bits ≡ turn_steps loop body here (λ v. turns (max_turns - (k + 1)) loop body names v)
   turn_by_turn names here word k h e is =
       let m : max_turns - k - 1 ≡ max_turns - (k + 1) = omega arith in
       turns_first (max_turns - k) loop body names word (omega arith) e ∙
@@ -196,17 +196,17 @@ module _ (comb : Bool) (w : List Bool) (loop : Loop) (body : InNames) where
       ap (λ (n : ℕ). turn_steps loop body here (λ v. turns n loop body names v)) m
 
   -- a turn, and the turns after it
-  pub left_more : (names here : Names) (word next : Word) (k : ℕ) → k < max_turns → word.width ≡ loop.width → here ≡ with_name names loop.name.name (Some (Constant word loop.is_signed)) → next.bits ≡ next_value loop here % 2 ^ loop.width → ((later : ℕ → Steps) → turn_steps loop body here later ≡ followed (body here) (later (next_value loop here))) → turns_left names (max_turns - k) word ≡ step_refusals comb w (body here) ++ turns_left names (max_turns - (k + 1)) next
+  pub left_more : (names here : Names) (word next : Word) (k : ℕ) → k < max_turns → word.width ≡ loop.width → here ≡ with_name names loop.name.name (Some (Constant word 0 loop.is_signed)) → next.bits ≡ next_value loop here % 2 ^ loop.width → ((later : ℕ → Steps) → turn_steps loop body here later ≡ followed (body here) (later (next_value loop here))) → turns_left names (max_turns - k) word ≡ step_refusals comb w (body here) ++ turns_left names (max_turns - (k + 1)) next
   left_more names here word next k h e is bits goes =
       ap (step_refusals comb w) (turn_by_turn names here word k h e is ∙ goes (λ v. turns (max_turns - (k + 1)) loop body names v) ∙ ap (followed (body here)) (turns_next (max_turns - (k + 1)) loop body names next (next_value loop here) bits)) ∙
       followed_refusals comb w (body here) (turns (max_turns - (k + 1)) loop body names next.bits)
 
   -- a last turn
-  pub left_ends : (names here : Names) (word : Word) (k : ℕ) (o : Option Refusal) → k < max_turns → word.width ≡ loop.width → here ≡ with_name names loop.name.name (Some (Constant word loop.is_signed)) → ((later : ℕ → Steps) → IsFirst (step_refusals comb w (turn_steps loop body here later)) o) → IsFirst (turns_left names (max_turns - k) word) o
+  pub left_ends : (names here : Names) (word : Word) (k : ℕ) (o : Option Refusal) → k < max_turns → word.width ≡ loop.width → here ≡ with_name names loop.name.name (Some (Constant word 0 loop.is_signed)) → ((later : ℕ → Steps) → IsFirst (step_refusals comb w (turn_steps loop body here later)) o) → IsFirst (turns_left names (max_turns - k) word) o
   left_ends names here word k o h e is ends = subst (λ (s : Steps). IsFirst (step_refusals comb w s) o) (sym (turn_by_turn names here word k h e is)) (ends (λ v. turns (max_turns - (k + 1)) loop body names v))
 
   -- no turn more
-  pub left_none : (names here : Names) (word : Word) (k : ℕ) (o : Option Refusal) → max_turns ≤ k → word.width ≡ loop.width → here ≡ with_name names loop.name.name (Some (Constant word loop.is_signed)) → IsFirst (step_refusals comb w (tested (constant_of here 1 loop.condition) (flaws_of (constant_faults here 1 loop.condition)) (Refuse Turns Done))) o → IsFirst (turns_left names (max_turns - k) word) o
+  pub left_none : (names here : Names) (word : Word) (k : ℕ) (o : Option Refusal) → max_turns ≤ k → word.width ≡ loop.width → here ≡ with_name names loop.name.name (Some (Constant word 0 loop.is_signed)) → IsFirst (step_refusals comb w (tested (constant_of here 1 loop.condition) (flaws_of (constant_faults here 1 loop.condition)) (Refuse Turns Done))) o → IsFirst (turns_left names (max_turns - k) word) o
   left_none names here word k o h e is i =
       let m : max_turns - k ≡ 0 = omega arith in
       subst (λ (s : Steps). IsFirst (step_refusals comb w s) o) (sym (ap (λ (n : ℕ). turns n loop body names word.bits) m ∙ turns_none loop body names word e ∙ ap (λ (n : Names). tested (constant_of n 1 loop.condition) (flaws_of (constant_faults n 1 loop.condition)) (Refuse Turns Done)) (sym is))) i

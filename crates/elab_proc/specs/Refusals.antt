@@ -81,7 +81,7 @@ is_written written number = slice_index_or written number false
 -- a name that is written: a signal without another writer
 abbrev pub name_refusals : List Bool → Span → Option Decl → List Refusal
 name_refusals written span (Some (Signal width low is_signed number)) = if is_written written number then TwoWriters span number ∷ [] else []
-name_refusals written span (Some (Constant value is_signed)) = Wrong (fault cause.Unknown span) ∷ []
+name_refusals written span (Some (Constant value low is_signed)) = Wrong (fault cause.Unknown span) ∷ []
 name_refusals written span None = []
 
 abbrev pub part_refusals : Names → List Bool → Part → List Refusal

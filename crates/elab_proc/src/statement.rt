@@ -330,8 +330,8 @@ fn turn_refusal(
     requires sized { AreSized (names_of scope.old) }
     requires declared { IsSome (names_of scope.old header.now.name.now.name) }
     requires width { word.width ≡ header.now.width }
-    ensures turn { IfOk result (λ t. IsTurn walk.now.is_combinational walk.now.written.now (loop_of header.now) (steps_of body.now) (with_name (names_of scope.old) header.now.name.now.name (Some (Constant word header.now.is_signed))) t) }
-    ensures kept { OnOk result (names_of scope.new ≡ with_name (names_of scope.old) header.now.name.now.name (Some (Constant word header.now.is_signed))) }
+    ensures turn { IfOk result (λ t. IsTurn walk.now.is_combinational walk.now.written.now (loop_of header.now) (steps_of body.now) (with_name (names_of scope.old) header.now.name.now.name (Some (Constant word 0 header.now.is_signed))) t) }
+    ensures kept { OnOk result (names_of scope.new ≡ with_name (names_of scope.old) header.now.name.now.name (Some (Constant word 0 header.now.is_signed))) }
 {
     scope.replace(header.name.name.as_str(), header.variable(word));
     match holds(header.condition, scope) {

@@ -40,10 +40,11 @@ pub(crate) enum Turn {
 impl Header<'_> {
     /// The variable in a turn in which it has this value.
     pub fn variable(&self, value: Word) -> Decl
-        ensures { result ≡ Constant value self.now.is_signed }
+        ensures { result ≡ Constant value 0 self.now.is_signed }
     {
         Decl::Constant {
             value,
+            low: 0,
             is_signed: self.is_signed,
         }
     }

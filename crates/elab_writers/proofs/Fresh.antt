@@ -29,7 +29,7 @@ new_both written (x ∷ xs) ys h k = (h.0, new_both written xs ys h.1 k)
 
 new_part : (written : List Bool) (b : Bool) (p : Part) (d : Option Decl) → name_refusals written p.name.span d ≡ [] → AllNew written (part_targets b p (vector_of d))
 new_part written b p None e = tt
-new_part written b p (Some (Constant value is_signed)) e = tt
+new_part written b p (Some (Constant value low is_signed)) e = tt
 new_part written b p (Some (Signal width low is_signed number)) e = (by_flag (is_written written number) e, tt) where
   by_flag : (w : Bool) → (if w then TwoWriters p.name.span number ∷ [] else []) ≡ [] → w ≡ false
   by_flag true e = cc

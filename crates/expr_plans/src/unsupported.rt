@@ -8,7 +8,7 @@ ghost use Rattle.expr_plans.specs.Made.{plan, plans, all_unsupported, call_unsup
 
 use crate::constant::is_constant;
 use mcy_base::Span;
-use vlog_meaning::{Cause, Decl, Fault, Function, Scope, earlier, function_of};
+use vlog_meaning::{Cause, Fault, Function, Scope, earlier, function_of};
 use vlog_syntax::{BinaryOperator, Expr, Identifier};
 
 /// A variable index of a vector whose lowest bit is not number 0.
@@ -16,18 +16,13 @@ use vlog_syntax::{BinaryOperator, Expr, Identifier};
 fn index_unsupported(scope: &Scope, name: &Identifier, span: Span, index: &Expr) -> Option<Fault>
     ensures { result ≡ least (index_features span (names_of scope.now name.now.name) (sense (names_of scope.now) index.now)) }
 {
-    match scope.get(name.name.as_str()) {
-        Some(Decl::Signal { low, .. }) => {
-            if low == 0 || is_constant(index, scope) {
-                None
-            } else {
-                Some(Fault {
-                    cause: Cause::IndexedBase,
-                    span,
-                })
-            }
-        }
-        Some(Decl::Constant { .. }) | None => None,
+    if scope.low_of(name.name.as_str()) == 0 || is_constant(index, scope) {
+        None
+    } else {
+        Some(Fault {
+            cause: Cause::IndexedBase,
+            span,
+        })
     }
 }
 

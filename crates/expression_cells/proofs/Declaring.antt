@@ -40,7 +40,7 @@ module _ (o n : Building) (name : List ℕ) (span : Span) (w : ℕ) (joints : Li
   stays (Some (Signal width low signed number)) h =
       let bits = kept number h.0 in
       (omega (arith, h.0, one_more), ap length bits ∙ h.1, subst (AllBelow n.nets) (sym bits) (below_later o.nets n.nets (signal o number) (omega (arith, nets_are)) h.2))
-  stays (Some (Constant value signed)) h = tt
+  stays (Some (Constant value low signed)) h = tt
   stays None h = tt
 
   -- the new one is there

@@ -13,6 +13,7 @@ pub fn value_of_row(alloc: Global, line: &str) -> Option<u128> {
             Some((name, given)) => {
                 let decl = Decl::Constant {
                     value: given.value,
+                    low: 0,
                     is_signed: given.is_signed,
                 };
                 scope.declare(name, decl).ok()?;

@@ -116,7 +116,7 @@ name_free names n (Indexed at base count) e = left_nil _ _ (sym (ap (λ (x : Sen
 
 only_signal : (span : Span) (decl : Option Decl) → constant_target span decl ≡ [] → name_faults span decl ≡ [] → (v : Vector) × (vector_of decl ≡ Some v)
 only_signal span (Some (Signal width low is_signed number)) t n = (record { number = number; width = width; low = low }, refl)
-only_signal span (Some (Constant value is_signed)) t n = absurd cc
+only_signal span (Some (Constant value low is_signed)) t n = absurd cc
 only_signal span None t n = absurd cc
 
 pub names_vector : (names : Names) (p : Part) → part_faults names p ≡ [] → (v : Vector) × (part_vector names p ≡ Some v)
@@ -127,7 +127,7 @@ names_vector names p free =
 
 vector_width : (decl : Option Decl) (v : Vector) → vector_of decl ≡ Some v → (decl_shape decl).width ≡ v.width
 vector_width (Some (Signal width low is_signed number)) v e = cc
-vector_width (Some (Constant value is_signed)) v e = absurd cc
+vector_width (Some (Constant value low is_signed)) v e = absurd cc
 vector_width None v e = absurd cc
 
 pub size_is : (names : Names) (n : Identifier) (s : Select) (v : Vector) → vector_of (names n.name) ≡ Some v → (sense names (form_of n s)).shape.width ≡ select_width names v s

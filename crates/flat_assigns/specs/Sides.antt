@@ -21,7 +21,7 @@ use Rattle.flat_runs.specs.Meanings.{Place}
 -- its index is a constant.
 
 abbrev pub constant_target : Span → Option Decl → List Fault
-constant_target span (Some (Constant value is_signed)) = fault Unknown span ∷ []
+constant_target span (Some (Constant value low is_signed)) = fault Unknown span ∷ []
 constant_target span decl = []
 
 abbrev pub index_faults : Names → Select → List Fault

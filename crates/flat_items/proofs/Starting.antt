@@ -14,7 +14,7 @@ use Rattle.flat_items.specs.Flattened.{turn_start}
 use Rattle.flat_instances.specs.Places.{Place}
 
 pub turn_starts : (o n : Opened) (p : Place) (signals : List Signal) (x : Turn) (head : GenerateLoop) (decl : Decl) (names : Names)
-    → names ≡ p.names → o ≡ unopened names signals → head ≡ x.head → decl ≡ Constant (word 32 x.value) true → n ≡ constant_name o head.name decl (o.own head.name.name) → n ≡ turn_start p signals x
+    → names ≡ p.names → o ≡ unopened names signals → head ≡ x.head → decl ≡ Constant (word 32 x.value) 0 true → n ≡ constant_name o head.name decl (o.own head.name.name) → n ≡ turn_start p signals x
 turn_starts o n p signals x head decl names same is heads decls e =
     let over : Names → GenerateLoop → Decl → Opened = λ (m : Names) (h : GenerateLoop) (d : Decl). own_name (unopened m signals) h.name.name w.Constant (Some d) in
     e ∙ ap (λ (y : Opened). constant_name y head.name decl (y.own head.name.name)) is ∙ ap (λ (m : Names). over m head decl) same ∙ ap (λ (h : GenerateLoop). over p.names h decl) heads ∙ ap (λ (d : Decl). over p.names x.head d) decls

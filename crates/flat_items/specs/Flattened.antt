@@ -182,4 +182,4 @@ genvar_fault other at = Some (e.Unknown at)
 
 -- in a turn the variable is a constant, a signed number of 32 bits
 abbrev pub turn_start : Place → List Signal → Turn → Opened
-turn_start place signals x = own_name (unopened place.names signals) x.head.name.name w.Constant (Some (d.Constant (word 32 x.value) true))
+turn_start place signals x = own_name (unopened place.names signals) x.head.name.name w.Constant (Some (d.Constant (word 32 x.value) 0 true))

@@ -154,7 +154,7 @@ inner_kept place flat h p = unopened_kept place.names flat.signals h.sized p.nam
 pub turn_kept : (place : Place) (flat : Flat) (x : Turn) → FlatStands flat → PlaceStands flat.signals place → Keeps (turn_start place flat.signals x) (turn_start place flat.signals x)
 turn_kept place flat x h p =
     let start : Opened = unopened place.names flat.signals in
-    let kept : Keeps start (turn_start place flat.signals x) = kept_name start start x.head.name.name w.Constant (Some (Constant (word 32 x.value) true)) (inner_kept place flat h p) refl tt tt in
+    let kept : Keeps start (turn_start place flat.signals x) = kept_name start start x.head.name.name w.Constant (Some (Constant (word 32 x.value) 0 true)) (inner_kept place flat h p) refl tt tt in
     record { grows = grows_self flat.signals; sized = kept.sized; names = kept.names; own = kept.own; steps = tt; once = λ k. refl; owned = λ name what e. e; refused = λ some. some }
 
 stepped_quiet : (n m k : ℕ) (x : Turn) (value : Result ℕ ItemError) → k < m → AreQuiet n m (stepped k x value ∷ [])

@@ -67,7 +67,7 @@ sized_set (x ∷ signals) (suc k) g new e bits h = (h.0, h.1, sized_set signals 
 
 pub named_on : (old new : List Signal) (x : Option Decl) → Grows old new → NamesSignal old x → NamesSignal new x
 named_on old new (Some (d.Signal width low is_signed k)) g h = g.same width low k h
-named_on old new (Some (d.Constant value is_signed)) g h = tt
+named_on old new (Some (d.Constant value low is_signed)) g h = tt
 named_on old new None g h = tt
 
 pub owned_on : (n m : ℕ) (x : Option What) → n ≤ m → OwnsSignal n x → OwnsSignal m x

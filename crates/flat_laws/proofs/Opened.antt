@@ -53,11 +53,11 @@ kept_constant start o id decl (Some other) h e named = kept_refuse start o (r.Tw
 
 value_named : (signals : List Signal) (bits : ParameterBits) (a : Sense) → NamesSignal signals (Some (declared_as bits a))
 value_named signals (OfValue signed) a = tt
-value_named signals (OfRange width signed) a = tt
+value_named signals (OfRange bits signed) a = tt
 
 zero_named : (signals : List Signal) (bits : ParameterBits) → NamesSignal signals (Some (zero_as bits))
 zero_named signals (OfValue signed) = tt
-zero_named signals (OfRange width signed) = tt
+zero_named signals (OfRange bits signed) = tt
 
 kept_fault : (start o : Opened) (given : Option Expr) (e : ConstError) → Keeps start o → Keeps start (step o (value_fault given e))
 kept_fault start o (Some x) e h = kept_step start o (s.RefusesGiven e) h tt (λ k. refl)

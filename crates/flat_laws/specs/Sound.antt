@@ -26,7 +26,7 @@ HasBits width low (Some s) = (s.bits.width ≡ width) × (s.bits.low ≡ low)
 -- what is declared as a signal has the number of one with these bits
 abbrev pub NamesSignal : List Signal → Option Decl → Type 0
 NamesSignal signals (Some (d.Signal width low is_signed k)) = HasBits width low (slice_get signals k)
-NamesSignal signals (Some (d.Constant value is_signed)) = Unit {0}
+NamesSignal signals (Some (d.Constant value low is_signed)) = Unit {0}
 NamesSignal signals None = Unit {0}
 
 -- what a scope declares as a signal has the number of one

@@ -40,9 +40,13 @@ word_is w width bits p q =
     let again : w ≡ word w.width w.bits = same_parts w (word w.width w.bits) wide (own ∙ ap (λ (n : ℕ). w.bits % 2 ^ n) wide) in
     again ∙ ap (λ (n : ℕ). word n w.bits) p ∙ ap (λ (n : ℕ). word width n) q
 
+same_constant : (value : Word) (low : ℕ) (sign : Bool) (width bits first : ℕ) (signed : Bool) → value.width ≡ width → value.bits ≡ bits → low ≡ first → sign ≡ signed → d.Constant value low sign ≡ d.Constant (word width bits) first signed
+same_constant value low sign width bits first signed e f g h =
+    ap (λ (w : Word). d.Constant w low sign) (word_is value width bits e f) ∙ ap (λ (n : ℕ). d.Constant (word width bits) n sign) g ∙ ap (λ (s : Bool). d.Constant (word width bits) first s) h
+
 pub declared_is : (bits : ParameterBits) (a : Sense) (decl : Decl) → IsDeclared bits a decl → decl ≡ declared_as bits a
-declared_is (OfValue signed) a (d.Constant value is_signed) h = ap (λ (w : Word). d.Constant w is_signed) (word_is value a.shape.width (own nothing a) h.0 h.1) ∙ ap (λ (s : Bool). d.Constant (word a.shape.width (own nothing a)) s) h.2
-declared_is (OfRange width signed) a (d.Constant value is_signed) h = ap (λ (w : Word). d.Constant w is_signed) (word_is value width (a.value nothing (assigned a width) % 2 ^ width) h.0 h.1) ∙ ap (λ (s : Bool). d.Constant (word width (a.value nothing (assigned a width) % 2 ^ width)) s) h.2
+declared_is (OfValue signed) a (d.Constant value low is_signed) h = same_constant value low is_signed a.shape.width (own nothing a) 0 (signed || a.shape.is_signed) h.0 h.1 h.2 h.3
+declared_is (OfRange bits signed) a (d.Constant value low is_signed) h = same_constant value low is_signed bits.width (a.value nothing (assigned a bits.width) % 2 ^ bits.width) bits.low signed h.0 h.1 h.2 h.3
 declared_is (OfValue signed) a (d.Signal width low is_signed number) h = absurd h
 declared_is (OfRange w signed) a (d.Signal width low is_signed number) h = absurd h
 

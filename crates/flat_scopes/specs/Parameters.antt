@@ -12,19 +12,20 @@ use Rattle.flat_scopes.specs.declared.parameter.ParameterBits.TheVariants.{OfVal
 -- a range has from 1 to 128 bits
 abbrev pub HasBits : ParameterBits → Type 0
 HasBits (OfValue is_signed) = Unit {0}
-HasBits (OfRange width is_signed) = (1 ≤ width) × (width ≤ 128)
+HasBits (OfRange bits is_signed) = (1 ≤ bits.width) × (bits.width ≤ 128)
 
 -- why its value is no constant
 abbrev pub parameter_faults : ParameterBits → Sense → List Fault
 parameter_faults (OfValue is_signed) a = constant_faults a
-parameter_faults (OfRange width is_signed) a = constant_faults_at a (assigned a width)
+parameter_faults (OfRange bits is_signed) a = constant_faults_at a (assigned a bits.width)
 
--- the bits of the value are its own, and it is signed where either is; with a range it is assigned to so many bits
-abbrev pub HasValue : ParameterBits → Sense → Word → Bool → Type 0
-HasValue (OfValue signed) a value is_signed = (value.width ≡ a.shape.width) × (value.bits ≡ own nothing a) × (is_signed ≡ (signed || a.shape.is_signed))
-HasValue (OfRange width signed) a value is_signed = (value.width ≡ width) × (value.bits ≡ a.value nothing (assigned a width) % 2 ^ width) × (is_signed ≡ signed)
+-- the bits of the value are its own, count from 0, and it is signed where either is; with a range it is assigned to so many
+-- bits, which count by the range
+abbrev pub HasValue : ParameterBits → Sense → Word → ℕ → Bool → Type 0
+HasValue (OfValue signed) a value low is_signed = (value.width ≡ a.shape.width) × (value.bits ≡ own nothing a) × (low ≡ 0) × (is_signed ≡ (signed || a.shape.is_signed))
+HasValue (OfRange bits signed) a value low is_signed = (value.width ≡ bits.width) × (value.bits ≡ a.value nothing (assigned a bits.width) % 2 ^ bits.width) × (low ≡ bits.low) × (is_signed ≡ signed)
 
 -- it is a constant with this value
 abbrev pub IsDeclared : ParameterBits → Sense → Decl → Type 0
-IsDeclared bits a (Constant value is_signed) = HasValue bits a value is_signed
+IsDeclared bits a (Constant value low is_signed) = HasValue bits a value low is_signed
 IsDeclared bits a (Signal width low is_signed number) = ⊥

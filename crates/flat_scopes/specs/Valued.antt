@@ -33,10 +33,10 @@ use Rattle.flat_scopes.specs.Parameters.{parameter_faults}
 use Rattle.flat_scopes.specs.Ranges.{bits_of_range}
 use Rattle.flat_scopes.specs.Words.{word}
 
--- The type: a range says how many bits, and `integer` that there are 32 signed ones. A range that is refused says nothing.
+-- The type: a range says which bits, and `integer` that there are 32 signed ones. A range that is refused says nothing.
 
 abbrev pub ranged_bits : Result VectorBits RangeError → Bool → ParameterBits
-ranged_bits (Ok bits) is_signed = OfRange bits.width is_signed
+ranged_bits (Ok bits) is_signed = OfRange bits is_signed
 ranged_bits (Err e) is_signed = OfValue is_signed
 
 abbrev pub vector_bits : Names → Option Range → Bool → ParameterBits
@@ -45,7 +45,7 @@ vector_bits names (Some range) is_signed = ranged_bits (bits_of_range names (Som
 
 abbrev pub parameter_bits : Names → ParameterType → ParameterBits
 parameter_bits names (Vector v) = vector_bits names v.range v.is_signed
-parameter_bits names Integer = OfRange 32 true
+parameter_bits names Integer = OfRange (record { width = 32; low = 0 }) true
 
 abbrev pub refused_bits : Opened → ParameterType → Opened
 refused_bits o (Vector v) = refused_range o (bits_of_range o.names v.range)
@@ -71,13 +71,13 @@ value_fault (Some given) e = s.RefusesGiven e
 value_fault None e = s.Refuses (r.Value e)
 
 abbrev pub declared_as : ParameterBits → Sense → Decl
-declared_as (OfValue signed) a = d.Constant (word a.shape.width (own nothing a)) (signed || a.shape.is_signed)
-declared_as (OfRange width signed) a = d.Constant (word width (a.value nothing (assigned a width) % 2 ^ width)) signed
+declared_as (OfValue signed) a = d.Constant (word a.shape.width (own nothing a)) 0 (signed || a.shape.is_signed)
+declared_as (OfRange bits signed) a = d.Constant (word bits.width (a.value nothing (assigned a bits.width) % 2 ^ bits.width)) bits.low signed
 
 -- a value that is refused reads as 0
 abbrev pub zero_as : ParameterBits → Decl
-zero_as (OfValue signed) = d.Constant (word 32 0) true
-zero_as (OfRange width signed) = d.Constant (word width 0) signed
+zero_as (OfValue signed) = d.Constant (word 32 0) 0 true
+zero_as (OfRange bits signed) = d.Constant (word bits.width 0) bits.low signed
 
 abbrev pub constant_name : Opened → Identifier → Decl → Option What → Opened
 constant_name o id decl None = own_name o id.name w.Constant (Some decl)

@@ -6,15 +6,16 @@ ghost use Rattle.vlog_meaning.specs.Scopes.{names_of};
 ghost use Rattle.vlog_meaning.specs.Senses.{sense};
 ghost use Rattle.flat_scopes.specs.Parameters.{parameter_faults, IsDeclared, HasBits};
 
+use crate::range::VectorBits;
 use vlog_meaning::{ConstError, Decl, Scope, constant, constant_at, shape};
 use vlog_syntax::Expr;
 
-/// The bits of a parameter: those of its value, which is signed also where `signed` is written, or as many as its range or
+/// The bits of a parameter: those of its value, which is signed also where `signed` is written, or those that its range or
 /// `integer` says.
 #[derive(Clone, Copy, Debug, PartialEq, Eq)]
 pub enum ParameterBits {
     OfValue(bool),
-    OfRange(u8, bool),
+    OfRange(VectorBits, bool),
 }
 
 /// What a parameter with this value is declared as. The value is read in `scope`.
@@ -29,11 +30,13 @@ pub fn parameter_decl(bits: ParameterBits, value: &Expr, scope: &Scope) -> Resul
             let own = shape(value, scope)?;
             Ok(Decl::Constant {
                 value: number,
+                low: 0,
                 is_signed: is_signed || own.is_signed,
             })
         }
-        ParameterBits::OfRange(width, is_signed) => Ok(Decl::Constant {
-            value: constant_at(value, scope, width)?,
+        ParameterBits::OfRange(bits, is_signed) => Ok(Decl::Constant {
+            value: constant_at(value, scope, bits.width)?,
+            low: bits.low,
             is_signed,
         }),
     }

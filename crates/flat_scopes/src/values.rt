@@ -15,7 +15,7 @@ ghost use Rattle.flat_scopes.specs.Words.{word};
 use crate::lent::Lent;
 use crate::opening::{Given, Head, Opening, Step};
 use crate::parameter::{ParameterBits, parameter_decl};
-use crate::range::range_bits;
+use crate::range::{VectorBits, range_bits};
 use crate::refusal::Refusal;
 use crate::signal::What;
 use mcy_base::Word;
@@ -25,6 +25,9 @@ use vlog_syntax::{
     Expr, Identifier, ParameterAssignment, ParameterDeclaration, ParameterKind, ParameterType,
     VectorType,
 };
+
+/// The bits of an `integer`.
+const INTEGER: VectorBits = VectorBits { width: 32, low: 0 };
 
 /// The value that an instance gives the parameter of this name.
 fn given_value<'a>(given: &[Given<'a>], name: &str) -> Option<Lent<'a, Expr>>
@@ -68,10 +71,11 @@ fn integer_word(value: u32) -> Word
 
 /// What a loop's variable is declared as in a turn: a signed number of 32 bits (IEEE 1364-2005, 12.4.1).
 pub fn turn_decl(value: u32) -> Decl
-    ensures { result ≡ Constant (word 32 value) true }
+    ensures { result ≡ Constant (word 32 value) 0 true }
 {
     Decl::Constant {
         value: integer_word(value),
+        low: 0,
         is_signed: true,
     }
 }
@@ -84,10 +88,12 @@ fn zero_decl(bits: ParameterBits) -> Decl
     match bits {
         ParameterBits::OfValue(_) => Decl::Constant {
             value: zero_word(32),
+            low: 0,
             is_signed: true,
         },
-        ParameterBits::OfRange(width, is_signed) => Decl::Constant {
-            value: zero_word(width),
+        ParameterBits::OfRange(bits, is_signed) => Decl::Constant {
+            value: zero_word(bits.width),
+            low: bits.low,
             is_signed,
         },
     }
@@ -124,7 +130,7 @@ impl<'a> Opening<'a> {
             return Ok(ParameterBits::OfValue(vector.is_signed));
         }
         match range_bits(&vector.range, &self.scope) {
-            Ok(bits) => Ok(ParameterBits::OfRange(bits.width, vector.is_signed)),
+            Ok(bits) => Ok(ParameterBits::OfRange(bits, vector.is_signed)),
             Err(error) => {
                 self.refuse(Refusal::Range(error))?;
                 Ok(ParameterBits::OfValue(vector.is_signed))
@@ -140,7 +146,7 @@ impl<'a> Opening<'a> {
     {
         match data_type {
             ParameterType::Vector(vector) => self.vector_bits(vector),
-            ParameterType::Integer => Ok(ParameterBits::OfRange(32, true)),
+            ParameterType::Integer => Ok(ParameterBits::OfRange(INTEGER, true)),
         }
     }
 

@@ -118,7 +118,7 @@ store b nets k = number (values nets (signal b k))
 -- a declared signal is one that the builder has, with its width, and its bits stand there
 abbrev pub IsSignal : Building → Option Decl → Type 0
 IsSignal b (Some (Signal width low is_signed number)) = (number < length b.signals) × (length (signal b number) ≡ width) × AllBelow b.nets (signal b number)
-IsSignal b (Some (Constant value is_signed)) = Unit {0}
+IsSignal b (Some (Constant value low is_signed)) = Unit {0}
 IsSignal b None = Unit {0}
 
 abbrev pub HasSignals : Names → Building → Type 0

@@ -67,11 +67,11 @@ stops-not loop here r s later clear =
 
 -- The names of a turn.
 
-signal-if : (b : Building) (k : Bool) (word : Word) (s : Bool) (d : Option Decl) → IsSignal b d → IsSignal b (if k then Some (Constant word s) else d)
+signal-if : (b : Building) (k : Bool) (word : Word) (s : Bool) (d : Option Decl) → IsSignal b d → IsSignal b (if k then Some (Constant word 0 s) else d)
 signal-if b true word s d h = tt
 signal-if b false word s d h = h
 
-pub ready-in : (names : Names) (name : List ℕ) (word : Word) (s : Bool) (p : Steps) (a : Work) → IsReady names p a → IsReady (with_name names name (Some (Constant word s))) p a
+pub ready-in : (names : Names) (name : List ℕ) (word : Word) (s : Bool) (p : Steps) (a : Work) → IsReady names p a → IsReady (with_name names name (Some (Constant word 0 s))) p a
 ready-in names name word s p a h = record {
   clear = h.clear;
   held = h.held;
@@ -87,7 +87,7 @@ value-word w v = record { width = w.width; bits = v % 2 ^ w.width; some = w.some
 -- turns are the same in names that are alike but for the variable
 pub turns-alike : (n : ℕ) (loop : Loop) (body : InNames) (a b : Names) (word : Word) → word.width ≡ loop.width → AlikeBut loop.name.name a b → turns n loop body a word.bits ≡ turns n loop body b word.bits
 turns-alike zero loop body a b word e alike =
-    turns_none loop body a word e ∙ ap (λ (here : Names). tested (constant_of here 1 loop.condition) (flaws_of (constant_faults here 1 loop.condition)) (Refuse Turns Done)) (alike (Some (Constant word loop.is_signed))) ∙ sym (turns_none loop body b word e)
+    turns_none loop body a word e ∙ ap (λ (here : Names). tested (constant_of here 1 loop.condition) (flaws_of (constant_faults here 1 loop.condition)) (Refuse Turns Done)) (alike (Some (Constant word 0 loop.is_signed))) ∙ sym (turns_none loop body b word e)
 turns-alike (suc n) loop body a b word e alike =
     let again : (v : ℕ) → turns n loop body a v ≡ turns n loop body b v = λ v.
     (let w : Word = value-word word v in
@@ -95,15 +95,15 @@ turns-alike (suc n) loop body a b word e alike =
     turns_next n loop body a w v same ∙ turns-alike n loop body a b w e alike ∙ sym (turns_next n loop body b w v same)) in
     let less : suc n - 1 ≡ n = omega arith in
     rw less at (turns_first (suc n) loop body a word (omega arith) e)
-    ∙ ap (λ (here : Names). turn_steps loop body here (λ v. turns n loop body a v)) (alike (Some (Constant word loop.is_signed)))
-    ∙ (λ j. turn_steps loop body (with_name b loop.name.name (Some (Constant word loop.is_signed))) (λ v. again v j))
+    ∙ ap (λ (here : Names). turn_steps loop body here (λ v. turns n loop body a v)) (alike (Some (Constant word 0 loop.is_signed)))
+    ∙ (λ j. turn_steps loop body (with_name b loop.name.name (Some (Constant word 0 loop.is_signed))) (λ v. again v j))
     ∙ sym (rw less at (turns_first (suc n) loop body b word (omega arith) e))
 
-pub turns-are : (loop : Loop) (body : InNames) (names after : Names) (first : Word) → after ≡ with_name names loop.name.name (Some (Constant first loop.is_signed)) → first.width ≡ loop.width → turns max_turns loop body after first.bits ≡ turns max_turns loop body names first.bits
+pub turns-are : (loop : Loop) (body : InNames) (names after : Names) (first : Word) → after ≡ with_name names loop.name.name (Some (Constant first 0 loop.is_signed)) → first.width ≡ loop.width → turns max_turns loop body after first.bits ≡ turns max_turns loop body names first.bits
 turns-are loop body names after first is e =
-    turns-alike max_turns loop body after names first e (alike_after names names after loop.name.name (Some (Constant first loop.is_signed)) is (λ d. refl))
+    turns-alike max_turns loop body after names first e (alike_after names names after loop.name.name (Some (Constant first 0 loop.is_signed)) is (λ d. refl))
 
-pub turns-ready : (loop : Loop) (body : InNames) (names after : Names) (first : Word) (a : Work) → after ≡ with_name names loop.name.name (Some (Constant first loop.is_signed)) → first.width ≡ loop.width → IsReady names (turns max_turns loop body names first.bits) a → IsReady after (turns max_turns loop body after first.bits) a
+pub turns-ready : (loop : Loop) (body : InNames) (names after : Names) (first : Word) (a : Work) → after ≡ with_name names loop.name.name (Some (Constant first 0 loop.is_signed)) → first.width ≡ loop.width → IsReady names (turns max_turns loop body names first.bits) a → IsReady after (turns max_turns loop body after first.bits) a
 turns-ready loop body names after first a is e r =
     subst (λ (p : Steps). IsReady after p a) (sym (turns-are loop body names after first is e))
     (subst (λ (n : Names). IsReady n (turns max_turns loop body names first.bits) a) (sym is) (ready-in names loop.name.name first loop.is_signed (turns max_turns loop body names first.bits) a r))
@@ -119,7 +119,7 @@ pub record Turned (loop : Loop) (body : InNames) (names : Names) (k : ℕ) (firs
 pub turned-start : (loop : Loop) (body : InNames) (names : Names) (first : Word) (a : Work) (cs : List Change) → cs ≡ [] → Turned loop body names 0 first first a a cs
 turned-start loop body names first a cs e = record { prefix = Done; built = record { builds = refl; changes_are = e }; same = refl }
 
-module _ (loop : Loop) (body : InNames) (names here : Names) (first word : Word) (k : ℕ) (a now : Work) (cs : List Change) (less : k < max_turns) (e : word.width ≡ loop.width) (is : here ≡ with_name names loop.name.name (Some (Constant word loop.is_signed))) (h : Turned loop body names k first word a now cs) where
+module _ (loop : Loop) (body : InNames) (names here : Names) (first word : Word) (k : ℕ) (a now : Work) (cs : List Change) (less : k < max_turns) (e : word.width ≡ loop.width) (is : here ≡ with_name names loop.name.name (Some (Constant word 0 loop.is_signed))) (h : Turned loop body names k first word a now cs) where
   abbrev later : ℕ → Steps
   later v = turns (max_turns - (k + 1)) loop body names v
 
@@ -165,7 +165,7 @@ last-none (Some (suc n)) flaws clear = absurd clear
 
 pub turned-all : (loop : Loop) (body : InNames) (names : Names) (first word : Word) (k : ℕ) (a now : Work) (cs : List Change) → max_turns ≤ k → word.width ≡ loop.width → Turned loop body names k first word a now cs → IsReady names (turns max_turns loop body names first.bits) a → Built (turns max_turns loop body names first.bits) a now cs
 turned-all loop body names first word k a now cs le e h r =
-    let here : Names = with_name names loop.name.name (Some (Constant word loop.is_signed)) in
+    let here : Names = with_name names loop.name.name (Some (Constant word 0 loop.is_signed)) in
     let none : max_turns - k ≡ 0 = omega arith in
     let last : Steps = tested (constant_of here 1 loop.condition) (flaws_of (constant_faults here 1 loop.condition)) (Refuse Turns Done) in
     let left : turns (max_turns - k) loop body names word.bits ≡ last = ap (λ (n : ℕ). turns n loop body names word.bits) none ∙ turns_none loop body names word e in
@@ -220,8 +220,8 @@ module _ (start : Assignment) (condition : Expr) (step : Assignment) (body : InN
     pub start-none : d ≡ None → IsClear loop-at → ⊥
     start-none none clear = subst IsClear (looped-is ∙ ap (looped start condition step body names n) none) clear
 
-    pub start-constant : (value : Word) (sign : Bool) → d ≡ Some (Constant value sign) → IsClear loop-at → ⊥
-    start-constant value sign some clear = subst IsClear (looped-is ∙ ap (looped start condition step body names n) some) clear
+    pub start-constant : (value : Word) (low : ℕ) (sign : Bool) → d ≡ Some (Constant value low sign) → IsClear loop-at → ⊥
+    start-constant value low sign some clear = subst IsClear (looped-is ∙ ap (looped start condition step body names n) some) clear
 
     module _ (width low : ℕ) (sign : Bool) (number : ℕ) (signal : d ≡ Some (Signal width low sign number)) where
       abbrev pub loop-of : Loop

@@ -71,7 +71,7 @@ held-wide a (x ∷ xs) h = (subst (λ (n : ℕ). 1 ≤ n) (sym h.0.long) h.0.som
 
 signal-later : (ts : List Target) (a b : Work) (decl : Option Decl) → Keeps ts a b → StandsBelow b → IsSignal a.building decl → IsSignal b.building decl
 signal-later ts a b (Some (Signal width low is_signed number)) k stands h = (rw k.adds.count h.0, k.seen_wide number ∙ h.1, stands.seen number)
-signal-later ts a b (Some (Constant value is_signed)) k stands h = tt
+signal-later ts a b (Some (Constant value low is_signed)) k stands h = tt
 signal-later ts a b None k stands h = tt
 
 pub ready-later : (names : Names) (p : Steps) (ts : List Target) (a b : Work) → Keeps ts a b → IsReady names p a → IsReady names p b

@@ -373,12 +373,12 @@ fn build_turn(
 ) -> Result<Option<Turn>, ElabError>
     requires declared { IsSome (names_of scope.old header.now.name.now.name) }
     requires width { word.width ≡ header.now.width }
-    requires ready { AsksTurn (loop_of header.now) (steps_of body.now) (with_name (names_of scope.old) header.now.name.now.name (Some (Constant word header.now.is_signed))) (work builder.old variables.old) }
+    requires ready { AsksTurn (loop_of header.now) (steps_of body.now) (with_name (names_of scope.old) header.now.name.now.name (Some (Constant word 0 header.now.is_signed))) (work builder.old variables.old) }
     requires places { length variables.old ≡ length builder.old.signals }
-    ensures turn { IfOk result (λ t. IsBuiltTurn (loop_of header.now) (steps_of body.now) (with_name (names_of scope.old) header.now.name.now.name (Some (Constant word header.now.is_signed))) t (work builder.old variables.old) (work builder.new variables.new)) }
+    ensures turn { IfOk result (λ t. IsBuiltTurn (loop_of header.now) (steps_of body.now) (with_name (names_of scope.old) header.now.name.now.name (Some (Constant word 0 header.now.is_signed))) t (work builder.old variables.old) (work builder.new variables.new)) }
     ensures places { IfOk result (λ t. length variables.new ≡ length builder.new.signals) }
-    ensures kept { IfOk result (λ t. names_of scope.new ≡ with_name (names_of scope.old) header.now.name.now.name (Some (Constant word header.now.is_signed))) }
-    ensures short { IfErr result (λ e. (v : ℕ → Steps) → IsShort (length builder.old.cells + cells_of (turn_steps (loop_of header.now) (steps_of body.now) (with_name (names_of scope.old) header.now.name.now.name (Some (Constant word header.now.is_signed))) v)) e) }
+    ensures kept { IfOk result (λ t. names_of scope.new ≡ with_name (names_of scope.old) header.now.name.now.name (Some (Constant word 0 header.now.is_signed))) }
+    ensures short { IfErr result (λ e. (v : ℕ → Steps) → IsShort (length builder.old.cells + cells_of (turn_steps (loop_of header.now) (steps_of body.now) (with_name (names_of scope.old) header.now.name.now.name (Some (Constant word 0 header.now.is_signed))) v)) e) }
 {
     scope.replace(header.name.name.as_str(), header.variable(word));
     match holds(header.condition, scope) {

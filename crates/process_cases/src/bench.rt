@@ -76,6 +76,7 @@ impl Bench {
             name,
             Decl::Constant {
                 value,
+                low: 0,
                 is_signed: true,
             },
         )

@@ -94,7 +94,7 @@ held_part a is_blocking p (Some (Signal width low is_signed number)) s k waits =
     long : (b : Bool) → (b ≡ false → a.pending number ≡ signal a.building number) → length (held a b number) ≡ width
     long true w = k
     long false w = ap length (w refl) ∙ k
-held_part a is_blocking p (Some (Constant value is_signed)) s k waits = tt
+held_part a is_blocking p (Some (Constant value low is_signed)) s k waits = tt
 held_part a is_blocking p None s k waits = tt
 
 waits_first : (a : Work) (xs ys : List Target) → AllWait a (xs ++ ys) → AllWait a xs
@@ -168,7 +168,7 @@ mutual
 
 sized_signal : (b : Building) (d : Option Decl) → IsSignal b d → IsSized (sizes b) d
 sized_signal b (Some (Signal width low is_signed number)) h = h.1
-sized_signal b (Some (Constant value is_signed)) h = tt
+sized_signal b (Some (Constant value low is_signed)) h = tt
 sized_signal b None h = tt
 
 pub accepted_ready : AcceptedAreReady

@@ -62,7 +62,7 @@ bits_there old nets n =
 
 wide_there : (old : Building) (x : Values) (d : Option Decl) → ((n : ℕ) → length (x n) ≡ length (signal old n)) → IsSignal old d → HasWidth x d
 wide_there old x (Some (Signal width low is_signed n)) wide h = wide n ∙ h.1
-wide_there old x (Some (Constant value is_signed)) wide h = tt
+wide_there old x (Some (Constant value low is_signed)) wide h = tt
 wide_there old x None wide h = tt
 
 have_widths : (names : Names) (old : Building) (x : Values) → HasSignals names old → ((n : ℕ) → length (x n) ≡ length (signal old n)) → HaveWidths names x

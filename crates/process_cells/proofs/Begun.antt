@@ -81,7 +81,7 @@ blank_signal ks b (Some (Signal width low is_signed number)) known below h = (
   blank_wide ks b number known ∙ h.1,
   subst (λ (n : ℕ). AllBelow n (signal (blank ks b) number)) (sym (blank_nets ks b)) (blank_below ks b known below number),
 )
-blank_signal ks b (Some (Constant value is_signed)) known below h = tt
+blank_signal ks b (Some (Constant value low is_signed)) known below h = tt
 blank_signal ks b None known below h = tt
 
 pub blank_stands : (ks : List ℕ) (b : Building) (waiting : List (List Bit)) → AllKnown (length b.signals) ks → HasOwnNets b → HasPlaces b waiting → StandsBelow (work (blank ks b) waiting)

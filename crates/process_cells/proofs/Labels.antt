@@ -90,7 +90,7 @@ own-all_turns loop body names (Some v) flaws b = own-turns max_turns loop body n
 
 own-looped : (start : Assignment) (condition : Expr) (step : Assignment) (body : InNames) (names : Names) (n : Identifier) (d : Option Decl) → OwnLabelsIn body → HasOwnLabels (looped start condition step body names n d)
 own-looped start condition step body names n (Some (Signal width low is_signed number)) b = own-all_turns (record { name = n; width = width; is_signed = is_signed; condition = condition; step = step }) body names (constant_of names width start.value) (flaws_of (constant_faults names width start.value)) b
-own-looped start condition step body names n (Some (Constant value is_signed)) b = tt
+own-looped start condition step body names n (Some (Constant value low is_signed)) b = tt
 own-looped start condition step body names n None b = tt
 
 own-loop : (start : Assignment) (condition : Expr) (step : Assignment) (body : InNames) (names : Names) (o : Option Identifier) → OwnLabelsIn body → HasOwnLabels (loop_steps start condition step body names o)

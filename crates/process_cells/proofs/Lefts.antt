@@ -50,7 +50,7 @@ pub record NamesSignal (d : Option Decl) : Type 0 where
 
 names_signal : (written : List Bool) (span : Span) (d : Option Decl) → name_faults span d ≡ [] → name_refusals written span d ≡ [] → NamesSignal d
 names_signal written span (Some (Signal width low is_signed number)) e f = record { vector = record { number = number; width = width; low = low }; is = refl; width = refl; sized = name_sized span (Some (Signal width low is_signed number)) e }
-names_signal written span (Some (Constant value is_signed)) e f = absurd cc
+names_signal written span (Some (Constant value low is_signed)) e f = absurd cc
 names_signal written span None e f = absurd cc
 
 -- What is known of the parts.
@@ -95,7 +95,7 @@ low_zero span (Some (Signal width low is_signed number)) s w is e varies = let s
   where
     vector_same : (a b : Vector) → Some a ≡ Some b → a ≡ b
     vector_same a b e = cc
-low_zero span (Some (Constant value is_signed)) s w is e varies = absurd cc
+low_zero span (Some (Constant value low is_signed)) s w is e varies = absurd cc
 low_zero span None s w is e varies = absurd cc
 
 -- One part.

@@ -226,9 +226,9 @@ signal_starts names a n d width low sign k value old new named is signal same ha
     subst (GoesOn (Assign (assigning true a names) Done) old) (sym last) (assignment_goes names a n width low sign k named (sym is ∙ signal) found.0 old there.0 there.1)
 
 -- another name is refused, and so is another left side
-pub constant_starts : (names : Names) (a : Assignment) (n : Identifier) (d : Option Decl) (word : Word) (sign : Bool) (old : Building) → a.left ≡ lv.Name n → d ≡ names n.name → d ≡ Some (Constant word sign) → assignment_refusals names a (name_alone (out-LeftSide a.left)) ≡ [] → GoesOn (Assign (assigning true a names) Done) old old
-constant_starts names a n d word sign old named is constant none =
-    let e : start_refusals names n a.value (Some (Constant word sign)) ≡ [] = ap (start_refusals names n a.value) (sym constant) ∙ sym (by_name names a n d named is) ∙ none in absurd cc
+pub constant_starts : (names : Names) (a : Assignment) (n : Identifier) (d : Option Decl) (word : Word) (low : ℕ) (sign : Bool) (old : Building) → a.left ≡ lv.Name n → d ≡ names n.name → d ≡ Some (Constant word low sign) → assignment_refusals names a (name_alone (out-LeftSide a.left)) ≡ [] → GoesOn (Assign (assigning true a names) Done) old old
+constant_starts names a n d word low sign old named is constant none =
+    let e : start_refusals names n a.value (Some (Constant word low sign)) ≡ [] = ap (start_refusals names n a.value) (sym constant) ∙ sym (by_name names a n d named is) ∙ none in absurd cc
 
 pub unknown_starts : (names : Names) (a : Assignment) (n : Identifier) (d : Option Decl) (old : Building) → a.left ≡ lv.Name n → d ≡ names n.name → d ≡ None → assignment_refusals names a (name_alone (out-LeftSide a.left)) ≡ [] → GoesOn (Assign (assigning true a names) Done) old old
 unknown_starts names a n d old named is unknown none =

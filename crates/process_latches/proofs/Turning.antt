@@ -65,7 +65,7 @@ const_halts names width x e k is fails = subst Halts (sym (ap k (constant_fails 
 
 name_stops : (d : Option Decl) (place : Span) → is_stop (name_flaw d place) ≡ true
 name_stops (Some (Signal width low is_signed number)) place = refl
-name_stops (Some (Constant value is_signed)) place = refl
+name_stops (Some (Constant value low is_signed)) place = refl
 name_stops None place = refl
 
 -- what comes after the body of a turn, where it is refused
@@ -105,15 +105,15 @@ module _ (loop : Loop) (body : InNames) where
   abbrev pub Leads : Names → ℕ → Word → Word → Marks → Marks → Type 0
   Leads names k first word old now = (end : Marks) → Marked (sound (turns (max_turns - k) loop body names word.bits)) now end → Marked (sound (turns max_turns loop body names first.bits)) old end
 
-  pub leads_on : (names here : Names) (first word next : Word) (k : ℕ) (old now new : Marks) → k < max_turns → word.width ≡ loop.width → here ≡ with_name names loop.name.name (Some (Constant word loop.is_signed)) → next.bits ≡ next_value loop here % 2 ^ loop.width → ((later : ℕ → Steps) → turn_steps loop body here later ≡ followed (body here) (later (next_value loop here))) → Leads names k first word old now → Marked (sound (body here)) now new → Leads names (k + 1) first next old new
+  pub leads_on : (names here : Names) (first word next : Word) (k : ℕ) (old now new : Marks) → k < max_turns → word.width ≡ loop.width → here ≡ with_name names loop.name.name (Some (Constant word 0 loop.is_signed)) → next.bits ≡ next_value loop here % 2 ^ loop.width → ((later : ℕ → Steps) → turn_steps loop body here later ≡ followed (body here) (later (next_value loop here))) → Leads names k first word old now → Marked (sound (body here)) now new → Leads names (k + 1) first next old new
   leads_on names here first word next k old now new h e is bits goes leads x end y =
       let rest : Steps = turns (max_turns - (k + 1)) loop body names next.bits in
       leads end (subst (λ (s : Steps). Marked (sound s) now end) (sym (turn_by_turn false [] loop body names here word k h e is ∙ goes (λ v. turns (max_turns - (k + 1)) loop body names v) ∙ ap (followed (body here)) (turns_next (max_turns - (k + 1)) loop body names next (next_value loop here) bits))) (marked_then (body here) rest now new end x y))
 
-  pub leads_end : (names here : Names) (first word : Word) (k : ℕ) (old now new : Marks) → k < max_turns → word.width ≡ loop.width → here ≡ with_name names loop.name.name (Some (Constant word loop.is_signed)) → Leads names k first word old now → ((later : ℕ → Steps) → Marked (sound (turn_steps loop body here later)) now new) → Marked (sound (turns max_turns loop body names first.bits)) old new
+  pub leads_end : (names here : Names) (first word : Word) (k : ℕ) (old now new : Marks) → k < max_turns → word.width ≡ loop.width → here ≡ with_name names loop.name.name (Some (Constant word 0 loop.is_signed)) → Leads names k first word old now → ((later : ℕ → Steps) → Marked (sound (turn_steps loop body here later)) now new) → Marked (sound (turns max_turns loop body names first.bits)) old new
   leads_end names here first word k old now new h e is leads x = leads new (subst (λ (s : Steps). Marked (sound s) now new) (sym (turn_by_turn false [] loop body names here word k h e is)) (x (λ v. turns (max_turns - (k + 1)) loop body names v)))
 
-  pub leads_none : (names here : Names) (first word : Word) (k : ℕ) (old now new : Marks) → max_turns ≤ k → word.width ≡ loop.width → here ≡ with_name names loop.name.name (Some (Constant word loop.is_signed)) → Leads names k first word old now → Marked (sound (last_steps here loop.condition)) now new → Marked (sound (turns max_turns loop body names first.bits)) old new
+  pub leads_none : (names here : Names) (first word : Word) (k : ℕ) (old now new : Marks) → max_turns ≤ k → word.width ≡ loop.width → here ≡ with_name names loop.name.name (Some (Constant word 0 loop.is_signed)) → Leads names k first word old now → Marked (sound (last_steps here loop.condition)) now new → Marked (sound (turns max_turns loop body names first.bits)) old new
   leads_none names here first word k old now new h e is leads x =
       let m : max_turns - k ≡ 0 = omega arith in
       leads new (subst (λ (s : Steps). Marked (sound s) now new) (sym (ap (λ (n : ℕ). turns n loop body names word.bits) m ∙ turns_none loop body names word e ∙ ap (λ (n : Names). last_steps n loop.condition) (sym is))) x)

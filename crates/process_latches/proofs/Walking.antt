@@ -146,8 +146,8 @@ module _ (names : Names) (a b : Marks) where
     pub start_none : (d : Option Decl) → d ≡ names n.name → d ≡ None → Added no_bits no_bits [] true a b → Marked (sound (loop_steps start condition step body names (name_alone (out-LeftSide start.left)))) a b
     start_none d is none x = subst (λ (z : Steps). Marked (sound z) a b) (sym (looped_is d is ∙ ap (looped start condition step body names n) none)) (halts_marked _ a b (refused_halts (Const (ce.Unknown n.span)) [] refl) x)
 
-    pub start_constant : (d : Option Decl) (value : Word) (sign : Bool) → d ≡ names n.name → d ≡ Some (Constant value sign) → Added no_bits no_bits [] true a b → Marked (sound (loop_steps start condition step body names (name_alone (out-LeftSide start.left)))) a b
-    start_constant d value sign is some x = subst (λ (z : Steps). Marked (sound z) a b) (sym (looped_is d is ∙ ap (looped start condition step body names n) some)) (halts_marked _ a b (refused_halts (Const (ce.Unknown n.span)) [] refl) x)
+    pub start_constant : (d : Option Decl) (value : Word) (low : ℕ) (sign : Bool) → d ≡ names n.name → d ≡ Some (Constant value low sign) → Added no_bits no_bits [] true a b → Marked (sound (loop_steps start condition step body names (name_alone (out-LeftSide start.left)))) a b
+    start_constant d value low sign is some x = subst (λ (z : Steps). Marked (sound z) a b) (sym (looped_is d is ∙ ap (looped start condition step body names n) some)) (halts_marked _ a b (refused_halts (Const (ce.Unknown n.span)) [] refl) x)
 
     module _ (d : Option Decl) (width low : ℕ) (sign : Bool) (number : ℕ) (declared : d ≡ names n.name) (signal : d ≡ Some (Signal width low sign number)) where
       signal_is : loop_steps start condition step body names (name_alone (out-LeftSide start.left)) ≡ all_turns (record { name = n; width = width; is_signed = sign; condition = condition; step = step }) body names (constant_of names width start.value) (flaws_of (constant_faults names width start.value))

@@ -96,7 +96,7 @@ or_end false = refl
 -- a part at a constant place
 fixed_covers : (names : Names) (p : Part) (d : Option Decl) (base : ℤ) (size n i : ℕ) → is_fixed names p.select ≡ true → ((v : Vector) → select_base names (λ m. 0) v p.select ≡ base) → ((v : Vector) → select_width names v p.select ≡ size) → part_covers names p (vector_of d) n i ≡ part_bits d (base -ℤ pos (decl_low d)) size n i
 fixed_covers names p None base size n i fixed at sized = refl
-fixed_covers names p (Some (Constant value is_signed)) base size n i fixed at sized = refl
+fixed_covers names p (Some (Constant value low is_signed)) base size n i fixed at sized = refl
 fixed_covers names p (Some (Signal width low is_signed number)) base size n i fixed at sized =
     let v : Vector = record { number = number; width = width; low = low } in
     ap (λ (b : Bool). nat_eq n number && (b && stands_in (places names (λ m. 0) v p.select) i)) fixed ∙
@@ -111,7 +111,7 @@ whole_row width i = grind (arith, nat_tests)
 -- a whole name
 whole_covers : (names : Names) (p : Part) (d : Option Decl) (n i : ℕ) → p.select ≡ Whole → part_covers names p (vector_of d) n i ≡ name_bits d n i
 whole_covers names p None n i is = refl
-whole_covers names p (Some (Constant value is_signed)) n i is = refl
+whole_covers names p (Some (Constant value low is_signed)) n i is = refl
 whole_covers names p (Some (Signal width low is_signed number)) n i is =
     let v : Vector = record { number = number; width = width; low = low } in
     let zero_off : pos low -ℤ pos low ≡ pos 0 = omega (arith, ints) in

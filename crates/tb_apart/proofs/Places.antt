@@ -118,7 +118,7 @@ off false e = absurd cc
 
 decl_writes : (names : Names) (p : Part) (d : Option Decl) (n i : ℕ) (told : Bool) → (told ≡ true → is_fixed names p.select ≡ true) → reaches names p d n i ≡ true → chosen names p d told n i ≡ true
 decl_writes names p None n i told fixed h = absurd (off (not (is_fixed names p.select)) h)
-decl_writes names p (Some (Constant value is_signed)) n i told fixed h = absurd (off (not (is_fixed names p.select)) h)
+decl_writes names p (Some (Constant value low is_signed)) n i told fixed h = absurd (off (not (is_fixed names p.select)) h)
 decl_writes names p (Some (Signal width low is_signed number)) n i told fixed h = signal_writes names p width low number n i is_signed told fixed h
 
 pub part_reaches : (names : Names) (p : Part) (n i : ℕ) → (part_covers names p (part_vector names p) n i || part_opens names p n i) ≡ true → part_writes names p n i ≡ true
@@ -128,7 +128,7 @@ part_reaches names p n i h = decl_writes names p (names p.name.name) n i (is_tol
 
 chosen_within : (names : Names) (p q : Part) (d : Option Decl) (n i : ℕ) → IsSized (decl_shape d) → part_covers names q (vector_of d) n i ≡ true → (v : Vector) × ((vector_of d ≡ Some v) × (n ≡ v.number) × (i < 128))
 chosen_within names p q None n i sized h = absurd cc
-chosen_within names p q (Some (Constant value is_signed)) n i sized h = absurd cc
+chosen_within names p q (Some (Constant value low is_signed)) n i sized h = absurd cc
 chosen_within names p q (Some (Signal width low is_signed number)) n i sized h =
     let v : Vector = record { number = number; width = width; low = low } in
     let parts = both_true (nat_eq n number) (is_fixed names q.select && stands_in (places names (λ m. 0) v q.select) i) h in

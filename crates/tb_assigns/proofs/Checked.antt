@@ -46,7 +46,7 @@ same_vector a b e = cc
 
 named_width : (d : Option Decl) (w : Vector) → vector_of d ≡ Some w → (decl_shape d).width ≡ w.width
 named_width (Some (Signal width low is_signed number)) w e = ap (λ (x : Vector). x.width) (same_vector (record { number = number; width = width; low = low }) w e)
-named_width (Some (Constant value is_signed)) w e = absurd cc
+named_width (Some (Constant value low is_signed)) w e = absurd cc
 named_width None w e = absurd cc
 
 right_name : (names : Names) (n : Identifier) → IsRight names (v.Name n) (record { name = n; select = Whole } ∷ [])

@@ -63,7 +63,7 @@ module _ (r : Rules) (y : Assignment) (width : ℕ) (form value : Expr) (found :
 
   signal_sized : (at : Span) (d : Option Decl) → signal_width d ≡ Some width → name_faults at d ≡ [] → (1 ≤ width) × (width ≤ 128)
   signal_sized at (Some (Signal w low is_signed number)) e none = let same : w ≡ width = cc in subst (λ (k : ℕ). (1 ≤ k) × (k ≤ 128)) same (sized_within at w none)
-  signal_sized at (Some (Constant value is_signed)) e none = absurd cc
+  signal_sized at (Some (Constant value low is_signed)) e none = absurd cc
   signal_sized at None e none = absurd cc
 
   named_sized : (at : Span) (name : List ℕ) (b : Bool) → (if b then signal_width (r.names name) else None) ≡ Some width → name_faults at (r.names name) ≡ [] → (1 ≤ width) × (width ≤ 128)

@@ -24,7 +24,7 @@ bits_at (x ∷ xs) (suc k) = bits_at xs k
 
 word_fits : (ws : List Word) (widths : List ℕ) → map (λ x. x.width) ws ≡ widths → (d : Option Decl) → HasSignal widths d → FitsWord ws d
 word_fits ws widths is (Some (Signal width low is_signed number)) has = width_at ws number width (ap (λ (ks : List ℕ). slice_index ks number) is ∙ has.1)
-word_fits ws widths is (Some (Constant value is_signed)) has = tt
+word_fits ws widths is (Some (Constant value low is_signed)) has = tt
 word_fits ws widths is None has = tt
 
 pub signals_fit : (names : Names) (ws : List Word) (widths : List ℕ) → map (λ x. x.width) ws ≡ widths → HasSignals names widths → FitsSignals names ws
@@ -49,7 +49,7 @@ signal_fits widths u v (Some (Signal width low is_signed number)) is has signal 
     let here : u.signal ≡ number = signal ∙ sym number_is in
     let wide : slice_index widths u.signal ≡ v.width = ap (λ (k : ℕ). slice_index widths k) here ∙ has.1 ∙ width_is in
     record { known = omega (arith, here, has.0); some = some; inside = omega (arith, inside, wide); value = value }
-signal_fits widths u v (Some (Constant value is_signed)) is has signal some inside below = absurd (none_some v is)
+signal_fits widths u v (Some (Constant value low is_signed)) is has signal some inside below = absurd (none_some v is)
 signal_fits widths u v None is has signal some inside below = absurd (none_some v is)
 
 pub update_fits : (names : Names) (widths : List ℕ) (u : Update) → HasSignals names widths → IsOfSignal names u → Fits widths u

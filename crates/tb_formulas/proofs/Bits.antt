@@ -25,8 +25,8 @@ number_fits widths b n h = closed widths (o.Number b) (v.Number b) n (v.rolls-Nu
 pub select_fits : (widths : List ℕ) (p : Part) (f : Formula) → p.signal < length widths → p.width ≤ 128 → ((k : ℕ) × FitsIn widths f k) → FitsIn widths (v.Select p f) p.width
 select_fits widths p f known narrow inner = closed widths (o.Select p f) (v.Select p f) p.width (v.rolls-Select p f) (known, narrow, omega arith, inner)
 
-pub number_select_fits : (widths : List ℕ) (b w : ℕ) (f : Formula) → w ≤ 128 → ((k : ℕ) × FitsIn widths f k) → FitsIn widths (v.NumberSelect b w f) w
-number_select_fits widths b w f narrow inner = closed widths (o.NumberSelect b w f) (v.NumberSelect b w f) w (v.rolls-NumberSelect b w f) (narrow, omega arith, inner)
+pub number_select_fits : (widths : List ℕ) (b l w : ℕ) (f : Formula) → w ≤ 128 → ((k : ℕ) × FitsIn widths f k) → FitsIn widths (v.NumberSelect b l w f) w
+number_select_fits widths b l w f narrow inner = closed widths (o.NumberSelect b l w f) (v.NumberSelect b l w f) w (v.rolls-NumberSelect b l w f) (narrow, omega arith, inner)
 
 pub slice_fits : (widths : List ℕ) (s at w : ℕ) → s < length widths → at < 128 → w ≤ 128 → FitsIn widths (v.Slice s at w) w
 slice_fits widths s at w known inside narrow = closed widths (o.Slice s at w) (v.Slice s at w) w (v.rolls-Slice s at w) (known, inside, narrow, omega arith)

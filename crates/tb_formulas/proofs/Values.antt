@@ -92,9 +92,9 @@ module _ (f : Formula) (store : Store) where
   says_select p g i x y r is got held one so =
       so ∙ ap (window (pos y -ℤ pos p.low) p.width) held ∙ ap (λ (z : ℕ). window (pos z -ℤ pos p.low) p.width (store p.signal)) (one ∙ ap (λ (h : Formula). formula_value h store) got) ∙ sym (valued (o.Select p i) f store (v.rolls-Select p i ∙ sym is))
 
-  pub says_number_select : (b w : ℕ) (g i : Formula) (x y r : ℕ) → f ≡ v.NumberSelect b w i → g ≡ i → y ≡ formula_value g store → x ≡ b / 2 ^ y → r ≡ x % 2 ^ w → r ≡ formula_value f store
-  says_number_select b w g i x y r is got one shifted so =
-      so ∙ ap (λ (z : ℕ). z % 2 ^ w) (shifted ∙ ap (λ (z : ℕ). b / 2 ^ z) (one ∙ ap (λ (h : Formula). formula_value h store) got)) ∙ sym (valued (o.NumberSelect b w i) f store (v.rolls-NumberSelect b w i ∙ sym is))
+  pub says_number_select : (b l w : ℕ) (g i : Formula) (y r : ℕ) → f ≡ v.NumberSelect b l w i → g ≡ i → y ≡ formula_value g store → r ≡ window (pos y -ℤ pos l) w b → r ≡ formula_value f store
+  says_number_select b l w g i y r is got one so =
+      so ∙ ap (λ (z : ℕ). window (pos z -ℤ pos l) w b) (one ∙ ap (λ (h : Formula). formula_value h store) got) ∙ sym (valued (o.NumberSelect b l w i) f store (v.rolls-NumberSelect b l w i ∙ sym is))
 
   pub says_extended : (s : Shape) (to : ℕ) (g i : Formula) (x r : ℕ) → f ≡ v.Extended s to i → g ≡ i → x ≡ formula_value g store → r ≡ extended s to x → r ≡ formula_value f store
   says_extended s to g i x r is got one so =

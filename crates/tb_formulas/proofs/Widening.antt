@@ -23,7 +23,7 @@ layer widths (o.Signal s w) n m le h = let g = opened widths (o.Signal s w) _ n 
 layer widths (o.SignedSignal s w t) n m le h = let g = opened widths (o.SignedSignal s w t) _ n refl h in closed widths (o.SignedSignal s w t) _ m refl (g.0, g.1, g.2, g.3, omega (arith, g.4, le))
 layer widths (o.Slice s a w) n m le h = let g = opened widths (o.Slice s a w) _ n refl h in closed widths (o.Slice s a w) _ m refl (g.0, g.1, g.2, omega (arith, g.3, le))
 layer widths (o.Select p x) n m le h = let g = opened widths (o.Select p x.0) _ n refl h in closed widths (o.Select p x.0) _ m refl (g.0, g.1, omega (arith, g.2, le), g.3)
-layer widths (o.NumberSelect b w x) n m le h = let g = opened widths (o.NumberSelect b w x.0) _ n refl h in closed widths (o.NumberSelect b w x.0) _ m refl (g.0, omega (arith, g.1, le), g.2)
+layer widths (o.NumberSelect b l w x) n m le h = let g = opened widths (o.NumberSelect b l w x.0) _ n refl h in closed widths (o.NumberSelect b l w x.0) _ m refl (g.0, omega (arith, g.1, le), g.2)
 layer widths (o.Extended s t x) n m le h = let g = opened widths (o.Extended s t x.0) _ n refl h in closed widths (o.Extended s t x.0) _ m refl (g.0, g.1, g.2, omega (arith, g.3, le), g.4)
 layer widths (o.Unary op s x) n m le h = let g = opened widths (o.Unary op s x.0) _ n refl h in closed widths (o.Unary op s x.0) _ m refl (g.0, omega (arith, g.1, le), g.2)
 layer widths (o.Binary op s t x y) n m le h = let g = opened widths (o.Binary op s t x.0 y.0) _ n refl h in closed widths (o.Binary op s t x.0 y.0) _ m refl (g.0, g.1, g.2, omega (arith, g.3, le), g.4, g.5)

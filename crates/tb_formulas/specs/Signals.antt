@@ -7,7 +7,7 @@ use Rattle.vlog_meaning.specs.Scopes.{Names}
 -- signals of these widths are those that are declared
 abbrev pub HasSignal : List ℕ → Option Decl → Type 0
 HasSignal widths (Some (Signal width low is_signed number)) = (number < length widths) × (slice_index widths number ≡ width)
-HasSignal widths (Some (Constant value is_signed)) = Unit {0}
+HasSignal widths (Some (Constant value low is_signed)) = Unit {0}
 HasSignal widths None = Unit {0}
 
 abbrev pub HasSignals : Names → List ℕ → Type 0

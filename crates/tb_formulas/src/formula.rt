@@ -9,8 +9,7 @@ ghost use Rattle.tb_formulas.specs.Formulas.{signed, formula_value, FitsIn};
 
 use mcy_base::Word;
 use vlog_meaning::{
-    Bound, Shape, binary_value, extend, repeated, shift_left, shift_right, truncate, unary_value,
-    window,
+    Bound, Shape, binary_value, extend, repeated, shift_left, truncate, unary_value, window,
 };
 use vlog_syntax::{BinaryOperator, Boxed, UnaryOperator};
 
@@ -33,8 +32,8 @@ pub enum Formula {
     Slice(u32, u8, u8),
     /// Bits of a signal from a place on, which is an index of the signal.
     Select(Part, Boxed<Formula>),
-    /// Bits of a number from a place on, as many as the width.
-    NumberSelect(u128, u8, Boxed<Formula>),
+    /// Bits of a number from a place on, as many as the width. The number's lowest bit has the number that stands before the width.
+    NumberSelect(u128, u32, u8, Boxed<Formula>),
     /// A number of this shape at another width.
     Extended(Shape, u8, Boxed<Formula>),
     /// An operator, and the shape at which its operand is evaluated.
@@ -57,7 +56,7 @@ impl Drop for Formula {
             Formula::SignedSignal(_, _, _) => {}
             Formula::Slice(_, _, _) => {}
             Formula::Select(_, _place) => {}
-            Formula::NumberSelect(_, _, _place) => {}
+            Formula::NumberSelect(_, _, _, _place) => {}
             Formula::Extended(_, _, _inner) => {}
             Formula::Unary(_, _, _inner) => {}
             Formula::Binary(_, _, _, _first, _second) => {}
@@ -87,17 +86,25 @@ fn signed(width: u8) -> Shape
     }
 }
 
+/// The bits of a number from an index on, where its lowest bit has the number `low`.
+fn bits_from(bits: u128, low: u32, width: u8, index: u128) -> u128
+    requires { width ≤ 128 }
+    ensures { result ≡ window (pos index -ℤ pos low) width bits }
+{
+    let place = Bound {
+        is_negative: false,
+        magnitude: index,
+    };
+    window(bits, place, low, width)
+}
+
 /// The bits of a part that begins at an index of the signal.
 fn part_from(store: &[Word], part: Part, index: u128) -> u128
     requires known { part.signal < length store.now }
     requires narrow { part.width ≤ 128 }
     ensures { result ≡ window (pos index -ℤ pos part.low) part.width (store_of store.now part.signal) }
 {
-    let place = Bound {
-        is_negative: false,
-        magnitude: index,
-    };
-    window(bits_of(store, part.signal), place, part.low, part.width)
+    bits_from(bits_of(store, part.signal), part.low, part.width, index)
 }
 
 impl Formula {
@@ -132,8 +139,8 @@ impl Formula {
             }
             Formula::Slice(signal, at, width) => truncate(bits_of(store, *signal) >> *at, *width),
             Formula::Select(part, place) => part_from(store, *part, place.get().value(store)),
-            Formula::NumberSelect(bits, width, place) => {
-                truncate(shift_right(*bits, place.get().value(store)), *width)
+            Formula::NumberSelect(bits, low, width, place) => {
+                bits_from(*bits, *low, *width, place.get().value(store))
             }
             Formula::Extended(shape, to, inner) => extend(*shape, inner.get().value(store), *to),
             Formula::Unary(op, shape, inner) => {

@@ -25,8 +25,10 @@ pub(crate) fn indexed(decl: Option<Decl>, width: u8, place: Boxed<Formula>) -> F
             };
             Formula::Select(part, place)
         }
-        Some(Decl::Constant { value, .. }) => Formula::NumberSelect(value.bits(), width, place),
-        None => Formula::NumberSelect(0, width, place),
+        Some(Decl::Constant { value, low, .. }) => {
+            Formula::NumberSelect(value.bits(), low, width, place)
+        }
+        None => Formula::NumberSelect(0, 0, width, place),
     }
 }
 
@@ -52,8 +54,8 @@ pub(crate) fn fixed(
             };
             signal_part(alloc, part, place)
         }
-        Some(Decl::Constant { value, .. }) => {
-            Ok(Formula::Number(window(value.bits(), place, 0, width)))
+        Some(Decl::Constant { value, low, .. }) => {
+            Ok(Formula::Number(window(value.bits(), place, low, width)))
         }
         None => Ok(Formula::Number(window(0, place, 0, width))),
     }

@@ -37,7 +37,7 @@ test_passes names x e = wrong_passes names x (none_before (wrong names x) (divis
 
 named_signal : (clock : Option (List ℕ)) (n : Identifier) (d : Option Decl) → name_faults clock n d ≡ [] → is_signal (vector_of d) ≡ true
 named_signal clock n (Some (Signal width low is_signed number)) e = refl
-named_signal clock n (Some (Constant value is_signed)) e = absurd cc
+named_signal clock n (Some (Constant value low is_signed)) e = absurd cc
 named_signal clock n None e = absurd cc
 
 pub signals_pass : (names : Names) (clock : Option (List ℕ)) (parts : List Part) → flat_map (part_faults names clock) parts ≡ [] → all_signals names parts ≡ true

@@ -56,7 +56,7 @@ module _ (r : Rules) where
   -- a left side that is the clock is that of a signal
   signal_there : (d : Option Decl) (w : ℕ) → signal_width d ≡ Some w → is_signal (vector_of d) ≡ true
   signal_there (Some (Signal width low is_signed number)) w e = refl
-  signal_there (Some (Constant value is_signed)) w e = absurd cc
+  signal_there (Some (Constant value low is_signed)) w e = absurd cc
   signal_there None w e = absurd cc
 
   clock_named : (name : List ℕ) (b : Bool) (w : ℕ) → (if b then signal_width (r.names name) else None) ≡ Some w → is_signal (vector_of (r.names name)) ≡ true

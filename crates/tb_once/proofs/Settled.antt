@@ -77,7 +77,7 @@ settled_values b tree netlist runs fits phase registers before after next values
 -- such values are those of declared signals
 decl_within : (sizes store : List ℕ) (d : Option Decl) → AreValues sizes store → HasSignal sizes d → IsWithin (λ m. slice_index store m) d
 decl_within sizes store (Some (Signal width low is_signed number)) values has = subst (λ (m : ℕ). slice_index store number < 2 ^ m) has.1 (values.within number)
-decl_within sizes store (Some (Constant value is_signed)) values has = tt
+decl_within sizes store (Some (Constant value low is_signed)) values has = tt
 decl_within sizes store None values has = tt
 
 pub is_store : (b : Parts) → IsRunnable b → (store : List ℕ) → AreValues (widths b) store → IsStore (names b) (widths b) store

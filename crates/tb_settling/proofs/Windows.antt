@@ -195,7 +195,7 @@ named_bit (Some (Signal width low is_signed number)) x n i is at below =
     let number_same : number ≡ x.number = ap (λ (y : Vector). y.number) same in
     let width_same : width ≡ x.width = ap (λ (y : Vector). y.width) same in
     and_both (nat_eq n number) (nat_lt i width) (number_is n number (at ∙ sym number_same)) (is_lt i width (omega (arith, below, width_same)))
-named_bit (Some (Constant value is_signed)) x n i is at below = absurd cc
+named_bit (Some (Constant value low is_signed)) x n i is at below = absurd cc
 named_bit None x n i is at below = absurd cc
 
 part_write : (names : Names) (phase : ℕ) (store : Store) (p : Part) (g : Lcg) (n i : ℕ) (o : Option Vector) → part_vector names p ≡ o → InSome (window_drawn names phase store p.select o g).0 n i → (part_covers names p o n i ≡ true) ⊎ (part_opens names p n i ≡ true)

@@ -35,7 +35,7 @@ named (s ∷ more) (suc k) width low h = let rest = named more k width low h in 
 
 stands : (signals : List Signal) (x : Option Decl) → NamesSignal signals x → HasSignal (map (λ s. s.bits.width) signals) x
 stands signals (Some (d.Signal width low is_signed k)) h = named signals k width low h
-stands signals (Some (d.Constant value is_signed)) h = tt
+stands signals (Some (d.Constant value low is_signed)) h = tt
 stands signals None h = tt
 
 pub signals_stand : (signals : List Signal) (names : Names) → ((name : List ℕ) → NamesSignal signals (names name)) → HasSignals names (map (λ s. s.bits.width) signals)
@@ -57,7 +57,7 @@ longer xs y = length-append xs (y ∷ []) ∙ omega arith
 
 has_more : (widths : List ℕ) (w : ℕ) (x : Option Decl) → HasSignal widths x → HasSignal (widths ++ w ∷ []) x
 has_more widths w (Some (d.Signal width low is_signed k)) h = let e = longer widths w in (omega (arith, h.0, e), at_front widths w k h.0 ∙ h.1)
-has_more widths w (Some (d.Constant value is_signed)) h = tt
+has_more widths w (Some (d.Constant value low is_signed)) h = tt
 has_more widths w None h = tt
 
 pub signals_more : (names : Names) (widths : List ℕ) (w : ℕ) → HasSignals names widths → HasSignals names (widths ++ w ∷ [])
@@ -109,7 +109,7 @@ word_sized (w ∷ words) (suc k) width h is = word_sized words k width (omega ar
 
 decl_sized : (words : List Word) (x : Option Decl) → HasSignal (map (λ v. v.width) words) x → IsSized (decl_shape x)
 decl_sized words (Some (d.Signal width low is_signed k)) h = let r = word_sized words k width h.0 h.1 in record { some = r.0; narrow = r.1 }
-decl_sized words (Some (d.Constant value is_signed)) h = record { some = value.some; narrow = value.narrow }
+decl_sized words (Some (d.Constant value low is_signed)) h = record { some = value.some; narrow = value.narrow }
 decl_sized words None h = record { some = omega arith; narrow = omega arith }
 
 pub names_sized : (names : Names) (words : List Word) → HasSignals names (map (λ v. v.width) words) → EachSized names

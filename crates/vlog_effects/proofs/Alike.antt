@@ -36,7 +36,7 @@ alike-to size b c s u f al = record { first = al.first; second = al.second; same
 
 within : (size : ℕ → ℕ) (store : Values) (d : Option Decl) → ((n : ℕ) → length (store n) ≡ size n) → IsSized size d → IsWithin (numbers store) d
 within size store (Some (Signal width low is_signed n)) l k = subst (λ (w : ℕ). number (store n) < 2 ^ w) (l n ∙ k) (number-small (store n))
-within size store (Some (Constant value is_signed)) l k = tt
+within size store (Some (Constant value low is_signed)) l k = tt
 within size store None l k = tt
 
 reads-same : (size : ℕ → ℕ) (names : Names) (e : Expr) (w : ℕ) (g : Bool) (b : Bits) (s u : State) → AreSized size names → ((n i : ℕ) → missed names e b n i ≡ false) → Alike size b s u → value names (numbers s.now) w g e ≡ value names (numbers u.now) w g e

@@ -103,7 +103,7 @@ last-item-serves c items s labels named keeps = go (names_all c) refl where
 
 decl-small : (store : Values) (d : Option Decl) → HasWidth store d → decl_value (numbers store) d < 2 ^ (decl_shape d).width
 decl-small store (Some (Signal width low is_signed n)) k = subst (λ (w : ℕ). number (store n) < 2 ^ w) k (number-small (store n))
-decl-small store (Some (Constant word is_signed)) k = word.fits
+decl-small store (Some (Constant word low is_signed)) k = word.fits
 decl-small store None k = omega arith
 
 pub names-keep-their-width : NamesKeepTheirWidth

@@ -23,7 +23,7 @@ use Rattle.vlog_effects.specs.Steps.{Flaw, Turns, Selection, Steps, Done, Assign
 -- a declared signal has this many bits
 abbrev pub IsSized : (ℕ → ℕ) → Option Decl → Type 0
 IsSized size (Some (Signal width low is_signed number)) = size number ≡ width
-IsSized size (Some (Constant value is_signed)) = Unit {0}
+IsSized size (Some (Constant value low is_signed)) = Unit {0}
 IsSized size None = Unit {0}
 
 abbrev pub AreSized : (ℕ → ℕ) → Names → Type 0
@@ -59,7 +59,7 @@ sized-refused size (x ∷ more) = sized-refused size more
 
 -- Loops.
 
-sized-with : (size : ℕ → ℕ) (b : Bool) (value : Word) (is_signed : Bool) (d : Option Decl) → IsSized size d → IsSized size (if b then Some (Constant value is_signed) else d)
+sized-with : (size : ℕ → ℕ) (b : Bool) (value : Word) (is_signed : Bool) (d : Option Decl) → IsSized size d → IsSized size (if b then Some (Constant value low is_signed) else d)
 sized-with size true value is_signed d k = tt
 sized-with size false value is_signed d k = k
 
@@ -98,7 +98,7 @@ sized-all_turns size loop body names (Some v) flaws b k = sized-turns size max_t
 
 sized-looped : (size : ℕ → ℕ) (start : Assignment) (condition : Expr) (step : Assignment) (body : InNames) (names : Names) (n : Identifier) (d : Option Decl) → SizedIn size body → AreSized size names → Sized size (looped start condition step body names n d)
 sized-looped size start condition step body names n (Some (Signal width low is_signed number)) b k = sized-all_turns size (record { name = n; width = width; is_signed = is_signed; condition = condition; step = step }) body names (constant_of names width start.value) (flaws_of (constant_faults names width start.value)) b k
-sized-looped size start condition step body names n (Some (Constant value is_signed)) b k = tt
+sized-looped size start condition step body names n (Some (Constant value low is_signed)) b k = tt
 sized-looped size start condition step body names n None b k = tt
 
 sized-loop : (size : ℕ → ℕ) (start : Assignment) (condition : Expr) (step : Assignment) (body : InNames) (names : Names) (o : Option Identifier) → SizedIn size body → AreSized size names → Sized size (loop_steps start condition step body names o)

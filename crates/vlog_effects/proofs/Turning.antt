@@ -25,8 +25,8 @@ tested-holds width bits false narrow fits e f g h j k = cc
 word-holds : (width v : ℕ) → 1 ≤ width → width ≤ 128 → IsWord width (v % 2 ^ width) (word_of width v)
 word-holds width v some narrow = tested-holds width (v % 2 ^ width) _ _ _ refl refl refl (le-leb 1 width some) (le-leb width 128 narrow) (lt-ltb (v % 2 ^ width) (2 ^ width) (mod-lt v (pow_pos width)))
 
-here : (b : Bool) (loop : Loop) (v : ℕ) (word : Word) (d : Option Decl) → b ≡ true → IsWord loop.width (v % 2 ^ loop.width) (Some word) → HoldsValue loop v (if b then Some (Constant word loop.is_signed) else d)
-here true loop v word d e h = (h.0, h.1, refl)
+here : (b : Bool) (loop : Loop) (v : ℕ) (word : Word) (d : Option Decl) → b ≡ true → IsWord loop.width (v % 2 ^ loop.width) (Some word) → HoldsValue loop v (if b then Some (Constant word 0 loop.is_signed) else d)
+here true loop v word d e h = (h.0, h.1, refl, refl)
 here false loop v word d e h = cc
 
 pub variable-is-constant : VariableIsConstant
@@ -38,5 +38,5 @@ variable-is-constant loop names v some narrow = go (word_of loop.width v) (word-
 pub others-stay : OthersStay
 others-stay loop names v other e = go (word_of loop.width v) where
   go : (o : Option Word) → with_word loop names o other ≡ names other
-  go (Some word) = ap (λ (b : Bool). if b then Some (Constant word loop.is_signed) else names other) e
+  go (Some word) = ap (λ (b : Bool). if b then Some (Constant word 0 loop.is_signed) else names other) e
   go None = refl

@@ -105,7 +105,7 @@ wide-both size (t ∷ ts) us k l = (k.0, wide-both size ts us k.1 l)
 
 wide-part : (size : ℕ → ℕ) (is_blocking : Bool) (p : Part) (d : Option Decl) → IsSized size d → AreWide size (part_targets is_blocking p (vector_of d))
 wide-part size is_blocking p (Some (Signal width low is_signed number)) k = (k, tt)
-wide-part size is_blocking p (Some (Constant value is_signed)) k = tt
+wide-part size is_blocking p (Some (Constant value low is_signed)) k = tt
 wide-part size is_blocking p None k = tt
 
 wide-parts : (size : ℕ → ℕ) (is_blocking : Bool) (names : Names) (ps : List Part) → AreSized size names → AreWide size (parts_targets is_blocking names ps)
@@ -126,7 +126,7 @@ mutual
 
 sizes-of : (store : Values) (d : Option Decl) → HasWidth store d → IsSized (λ n. length (store n)) d
 sizes-of store (Some (Signal width low is_signed number)) k = k
-sizes-of store (Some (Constant value is_signed)) k = tt
+sizes-of store (Some (Constant value low is_signed)) k = tt
 sizes-of store None k = tt
 
 -- an assigned variable has one size by both

@@ -128,7 +128,7 @@ abbrev mutual
 
 abbrev pub HasWidth : Values → Option Decl → Type 0
 HasWidth store (Some (Signal width low is_signed number)) = length (store number) ≡ width
-HasWidth store (Some (Constant value is_signed)) = Unit {0}
+HasWidth store (Some (Constant value low is_signed)) = Unit {0}
 HasWidth store None = Unit {0}
 
 -- each declared signal has as many bits as its declaration says

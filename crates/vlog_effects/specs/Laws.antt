@@ -53,7 +53,7 @@ TurnsGoOn = (most : ℕ) (loop : Loop) (body : InNames) (names : Names) (v n nex
 
 -- a constant with the loop's width and sign, and this value in its width
 abbrev pub HoldsValue : Loop → ℕ → Option Decl → Type 0
-HoldsValue loop v (Some (Constant word is_signed)) = (word.width ≡ loop.width) × (word.bits ≡ v % 2 ^ loop.width) × (is_signed ≡ loop.is_signed)
+HoldsValue loop v (Some (Constant word low is_signed)) = (word.width ≡ loop.width) × (word.bits ≡ v % 2 ^ loop.width) × (low ≡ 0) × (is_signed ≡ loop.is_signed)
 HoldsValue loop v other = ⊥
 
 -- in a turn the loop's variable is a constant

@@ -49,7 +49,7 @@ pub record Vector : Type 0 where
 
 abbrev pub vector_of : Option Decl → Option Vector
 vector_of (Some (Signal width low is_signed number)) = Some (record { number = number; width = width; low = low })
-vector_of (Some (Constant value is_signed)) = None
+vector_of (Some (Constant value low is_signed)) = None
 vector_of None = None
 
 -- how many bits a select of a vector writes

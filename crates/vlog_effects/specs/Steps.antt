@@ -117,7 +117,7 @@ pub record Loop : Type 0 where
 
 abbrev pub with_word : Loop → Names → Option Word → Names
 with_word loop names None = names
-with_word loop names (Some w) = with_name names loop.name.name (Some (Constant w loop.is_signed))
+with_word loop names (Some w) = with_name names loop.name.name (Some (Constant w 0 loop.is_signed))
 
 -- the names inside a turn in which the variable has this value
 abbrev pub turn_names : Loop → Names → ℕ → Names

@@ -51,7 +51,7 @@ module _ (words : List Word) where
       go : (o : Option Word) → fits_width width o ≡ true → FitsWidth width o
       go (Some word) h = grind (arith, nat_tests)
       go None h = tt
-  fits_entry (Constant value is_signed) e = tt
+  fits_entry (Constant value low is_signed) e = tt
 
   one_of : (b : Bool) (o p : Option Decl) → FitsWord words o → FitsWord words p → FitsWord words (if b then o else p)
   one_of true o p h k = h

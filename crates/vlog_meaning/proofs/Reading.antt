@@ -54,12 +54,12 @@ named_among number at width b h e = rw (named number at width h, e) refl
 
 name_same : (d : Option Decl) (s t : Store) → IsWithin s d → IsWithin t d → Agree (name_bits d) s t → decl_value s d ≡ decl_value t d
 name_same (Some (Signal width low is_signed number)) s t within within_too agree = same_from_bits_below width (s number) (t number) within within_too (λ i h. agree number i (named number i width h))
-name_same (Some (Constant value is_signed)) s t within within_too agree = refl
+name_same (Some (Constant value low is_signed)) s t within within_too agree = refl
 name_same None s t within within_too agree = refl
 
 part_same : (d : Option Decl) (from : ℤ) (size : ℕ) (s t : Store) → IsWithin s d → IsWithin t d → Agree (part_bits d from size) s t → window from size (decl_value s d) ≡ window from size (decl_value t d)
 part_same (Some (Signal width low is_signed number)) from size s t within within_too agree = window_same from size width (s number) (t number) within within_too (λ i h e. agree number i (named_among number i width (is_among from size i) h e))
-part_same (Some (Constant value is_signed)) from size s t within within_too agree = refl
+part_same (Some (Constant value low is_signed)) from size s t within within_too agree = refl
 part_same None from size s t within within_too agree = refl
 
 module _ (names : Names) (s t : Store) (within : AreWithin names s) (within_too : AreWithin names t) where
@@ -130,7 +130,7 @@ word_within width None fits = pow_pos width
 
 decl_within : (words : List Word) (d : Option Decl) → FitsWord words d → IsWithin (store_of words) d
 decl_within words (Some (Signal width low is_signed number)) fits = word_within width (slice_get words number) fits
-decl_within words (Some (Constant value is_signed)) fits = tt
+decl_within words (Some (Constant value low is_signed)) fits = tt
 decl_within words None fits = tt
 
 pub words_within : WordsAreWithin

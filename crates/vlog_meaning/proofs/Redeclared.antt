@@ -23,9 +23,9 @@ own_of false x y z same = refl
 pub restores : Restores
 restores names name between = fun_ext (λ other. own_of (bytes_eq name other) (names name) between (names other) (λ e. ap names ((bytes_decides name other).0 e)))
 
-stays : (b : Bool) (value : Word) (s : Bool) (z : Option Decl) (width low : ℕ) (sign : Bool) (number : ℕ) → (if b then Some (Constant value s) else z) ≡ Some (Signal width low sign number) → z ≡ Some (Signal width low sign number)
-stays true value s z width low sign number e = cc
-stays false value s z width low sign number e = e
+stays : (b : Bool) (value : Word) (first : ℕ) (s : Bool) (z : Option Decl) (width low : ℕ) (sign : Bool) (number : ℕ) → (if b then Some (Constant value first s) else z) ≡ Some (Signal width low sign number) → z ≡ Some (Signal width low sign number)
+stays true value first s z width low sign number e = cc
+stays false value first s z width low sign number e = e
 
 pub signals_stay : SignalsStay
-signals_stay names name value s other width low sign number e = stays (bytes_eq name other) value s (names other) width low sign number e
+signals_stay names name value first s other width low sign number e = stays (bytes_eq name other) value first s (names other) width low sign number e

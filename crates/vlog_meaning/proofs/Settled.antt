@@ -28,7 +28,7 @@ Proved names = (x : Expr) × Settles names x
 
 decl_settled : (span : Span) (d : Option Decl) (store : Store) → name_signals span d ≡ [] → decl_value store d ≡ decl_value nothing d
 decl_settled span (Some (Signal width low is_signed number)) store quiet = cc
-decl_settled span (Some (Constant value is_signed)) store quiet = refl
+decl_settled span (Some (Constant value low is_signed)) store quiet = refl
 decl_settled span None store quiet = refl
 
 joined_settled : (names : Names) (xs : List (Proved names)) (store : Store) → all_signals (senses names (map (λ w. w.0) xs)) ≡ [] → joined store (senses names (map (λ w. w.0) xs)) ≡ joined nothing (senses names (map (λ w. w.0) xs))

@@ -54,7 +54,7 @@ constant_whole a e = right_nil _ _ (these_nil _ _ e)
 
 pub name_sized : (span : Span) (decl : Option Decl) → name_faults span decl ≡ [] → IsSized (decl_shape decl)
 name_sized span (Some (Signal width low is_signed number)) e = let w = sized_within span width e in record { some = w.0; narrow = w.1 }
-name_sized span (Some (Constant value is_signed)) e = record { some = value.some; narrow = value.narrow }
+name_sized span (Some (Constant value low is_signed)) e = record { some = value.some; narrow = value.narrow }
 name_sized span None e = cc
 
 pub whole_name : (names : Names) (e : Expr) (n : Identifier) → e ≡ v.Name n → IsWhole names e → IsSized (decl_shape (names n.name))
@@ -186,7 +186,7 @@ element_whole names (e ∷ es) (suc i) x is h whole = element_whole names es i x
 -- where there are no words, no word has the wrong width
 nothing_fits : (d : Option Decl) → FitsWord [] d
 nothing_fits (Some (Signal width low is_signed number)) = tt
-nothing_fits (Some (Constant value is_signed)) = tt
+nothing_fits (Some (Constant value low is_signed)) = tt
 nothing_fits None = tt
 
 pub nothing_stored : (names : Names) → FitsSignals names []

@@ -11,4 +11,4 @@ fits_width width None = true
 -- a signal's word, where there is one at its number, has its width
 abbrev pub fits_word : List Word → Decl → Bool
 fits_word words (Signal width low is_signed number) = fits_width width (slice_get words number)
-fits_word words (Constant value is_signed) = true
+fits_word words (Constant value low is_signed) = true

@@ -41,4 +41,4 @@ Restores = (names : Names) (name : List ℕ) (between : Option Decl) → with_na
 
 -- Where a name becomes a constant, each signal was one before.
 abbrev pub SignalsStay : Type 0
-SignalsStay = (names : Names) (name : List ℕ) (value : Word) (is_signed : Bool) (other : List ℕ) (width low : ℕ) (sign : Bool) (number : ℕ) → with_name names name (Some (Constant value is_signed)) other ≡ Some (Signal width low sign number) → names other ≡ Some (Signal width low sign number)
+SignalsStay = (names : Names) (name : List ℕ) (value : Word) (first : ℕ) (is_signed : Bool) (other : List ℕ) (width low : ℕ) (sign : Bool) (number : ℕ) → with_name names name (Some (Constant value first is_signed)) other ≡ Some (Signal width low sign number) → names other ≡ Some (Signal width low sign number)

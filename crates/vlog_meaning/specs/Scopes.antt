@@ -27,15 +27,15 @@ entry_of entry = (string_bytes entry.0, entry.1)
 abbrev pub with_name : Names → List ℕ → Option Decl → Names
 with_name names name decl = λ other. if bytes_eq name other then decl else names other
 
--- the shape of a name, and the place of its lowest bit: a constant counts from 0
+-- the shape of a name, and the number of its lowest bit
 abbrev pub decl_shape : Option Decl → Shape
 decl_shape (Some (Signal width low is_signed number)) = record { width = width; is_signed = is_signed }
-decl_shape (Some (Constant value is_signed)) = record { width = value.width; is_signed = is_signed }
+decl_shape (Some (Constant value low is_signed)) = record { width = value.width; is_signed = is_signed }
 decl_shape None = bit
 
 abbrev pub decl_low : Option Decl → ℕ
 decl_low (Some (Signal width low is_signed number)) = low
-decl_low (Some (Constant value is_signed)) = 0
+decl_low (Some (Constant value low is_signed)) = low
 decl_low None = 0
 
 -- the values of signals, by their numbers
@@ -48,7 +48,7 @@ nothing number = 0
 
 abbrev pub decl_value : Store → Option Decl → ℕ
 decl_value store (Some (Signal width low is_signed number)) = store number
-decl_value store (Some (Constant value is_signed)) = value.bits
+decl_value store (Some (Constant value low is_signed)) = value.bits
 decl_value store None = 0
 
 abbrev pub word_bits : Option Word → ℕ
@@ -66,7 +66,7 @@ FitsWidth width None = Unit {0}
 
 abbrev pub FitsWord : List Word → Option Decl → Type 0
 FitsWord words (Some (Signal width low is_signed number)) = FitsWidth width (slice_get words number)
-FitsWord words (Some (Constant value is_signed)) = Unit {0}
+FitsWord words (Some (Constant value low is_signed)) = Unit {0}
 FitsWord words None = Unit {0}
 
 -- each word of a declared signal has its width
@@ -76,7 +76,7 @@ FitsSignals names words = (name : List ℕ) → FitsWord words (names name)
 -- each declared signal has a number of its width
 abbrev pub IsWithin : Store → Option Decl → Type 0
 IsWithin store (Some (Signal width low is_signed number)) = store number < 2 ^ width
-IsWithin store (Some (Constant value is_signed)) = Unit {0}
+IsWithin store (Some (Constant value low is_signed)) = Unit {0}
 IsWithin store None = Unit {0}
 
 abbrev pub AreWithin : Names → Store → Type 0

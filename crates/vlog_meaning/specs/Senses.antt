@@ -240,7 +240,7 @@ counted span count = if nat_lt 0 count then [] else fault TooWide span ∷ []
 abbrev pub name_faults : Span → Option Decl → List Fault
 name_faults span None = fault Unknown span ∷ []
 name_faults span (Some (Signal width low is_signed number)) = sized span width
-name_faults span (Some (Constant value is_signed)) = []
+name_faults span (Some (Constant value low is_signed)) = []
 
 abbrev pub all_faults : List Sense → List Fault
 all_faults [] = []
@@ -279,8 +279,7 @@ all_features [] = []
 all_features (a ∷ more) = a.features ++ all_features more
 
 abbrev pub index_features : Span → Option Decl → Sense → List Fault
-index_features span (Some (Signal width low is_signed number)) i = if low == 0 || is_empty i.signals then [] else fault IndexedBase span ∷ []
-index_features span decl i = []
+index_features span decl i = if decl_low decl == 0 || is_empty i.signals then [] else fault IndexedBase span ∷ []
 
 -- an operator that is only supported in constants
 abbrev pub is_division : BinaryOperator → Bool

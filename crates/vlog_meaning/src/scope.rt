@@ -2,7 +2,7 @@
 ghost use Rattle.std.specs.Prelude.{◌≡◌, ◌↔◌, [], Some, None, Err, IsSome, IsTrue, IfOk, OnOk, OnErr};
 ghost use Rattle.std.specs.List.{list_all};
 ghost use Rattle.vlog_meaning.specs.declared.scope.ScopeError.TheVariants as errors;
-ghost use Rattle.vlog_meaning.specs.Scopes.{names_of, with_name, FitsSignals};
+ghost use Rattle.vlog_meaning.specs.Scopes.{names_of, with_name, decl_low, FitsSignals};
 ghost use Rattle.vlog_meaning.specs.Fitting.{fits_word};
 
 use mcy_base::Word;
@@ -20,8 +20,10 @@ pub enum Decl {
         is_signed: bool,
         number: u32,
     },
+    /// A constant, whose lowest bit has the number `low`.
     Constant {
         value: Word,
+        low: u32,
         is_signed: bool,
     },
 }
@@ -83,6 +85,17 @@ impl Scope {
         ensures { result ≡ names_of self.now name.now }
     {
         self.names.get(name).copied()
+    }
+
+    /// The number of a name's lowest bit, which is 0 where none is declared.
+    pub fn low_of(&self, name: &str) -> u32
+        ensures { result ≡ decl_low (names_of self.now name.now) }
+    {
+        match self.get(name) {
+            Some(Decl::Signal { low, .. }) => low,
+            Some(Decl::Constant { low, .. }) => low,
+            None => 0,
+        }
     }
 
     /// Declares a name that is not declared yet.

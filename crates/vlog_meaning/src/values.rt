@@ -4,7 +4,7 @@
 ghost use Rattle.std.specs.Prelude.{◌≡◌, ◌≤◌, ◌<◌, ◌^◌, [], List, map, IsTrue, false};
 ghost use Rattle.vlog_meaning.specs.Integers.{integer, natural, window, bound_integer};
 ghost use Rattle.vlog_meaning.specs.Operators.{IsSized};
-ghost use Rattle.vlog_meaning.specs.Scopes.{Names, names_of, store_of, FitsSignals, decl_shape, decl_value, decl_low};
+ghost use Rattle.vlog_meaning.specs.Scopes.{Names, names_of, store_of, FitsSignals, decl_shape, decl_value};
 ghost use Rattle.vlog_meaning.specs.Senses.{Sense, sense, senses, own, constant_integer, IsWhole, AreWhole, IsWholeCall, IsContext, total_width, joined, repeated, call_shape, call_value, part_width};
 
 use crate::bound::{Bound, count, part_width, window};
@@ -40,21 +40,17 @@ fn name_shape(scope: &Scope, name: &Identifier) -> Shape
                 ..
             },
         ) => Shape { width, is_signed },
-        Some(Decl::Constant { value, is_signed }) => Shape {
+        Some(
+            Decl::Constant {
+                value,
+                is_signed,
+                ..
+            },
+        ) => Shape {
             width: value.width(),
             is_signed,
         },
         None => BIT,
-    }
-}
-
-/// The number of a name's lowest bit.
-fn name_low(scope: &Scope, name: &Identifier) -> u32
-    ensures { result ≡ decl_low (names_of scope.now name.now.name) }
-{
-    match scope.get(name.name.as_str()) {
-        Some(Decl::Signal { low, .. }) => low,
-        Some(Decl::Constant { .. }) | None => 0,
     }
 }
 
@@ -213,7 +209,7 @@ pub fn value_of(expr: &Expr, scope: &Scope, store: &[Word], context: Shape) -> u
             window(
                 name_value(scope, store, name),
                 place,
-                name_low(scope, name),
+                scope.low_of(name.name.as_str()),
                 1,
             )
         }
@@ -221,7 +217,12 @@ pub fn value_of(expr: &Expr, scope: &Scope, store: &[Word], context: Shape) -> u
             let msb = bound_of(msb.get(), scope);
             let lsb = bound_of(lsb.get(), scope);
             let whole = name_value(scope, store, name);
-            window(whole, lsb, name_low(scope, name), part_width(msb, lsb))
+            window(
+                whole,
+                lsb,
+                scope.low_of(name.name.as_str()),
+                part_width(msb, lsb),
+            )
         }
         Expr::IndexedPartSelect(name, _, base, width) => {
             let width = count_of(width.get(), scope) as u8;
@@ -232,7 +233,7 @@ pub fn value_of(expr: &Expr, scope: &Scope, store: &[Word], context: Shape) -> u
             window(
                 name_value(scope, store, name),
                 place,
-                name_low(scope, name),
+                scope.low_of(name.name.as_str()),
                 width,
             )
         }

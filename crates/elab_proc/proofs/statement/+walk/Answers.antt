@@ -78,41 +78,41 @@ pub each_turn_refusal-turn_refusal-requires : goal.each_turn_refusal-turn_refusa
 each_turn_refusal-turn_refusal-requires t c = (search (rules, the_lemmas), (c.loop-turn.invariant.3, (c.loop-turn.invariant.2, c.loop-turn.invariant.4)))
 
 pub each_turn_refusal-returns-in-Ends-clause-first : goal.each_turn_refusal-returns-in-Ends-clause-first
-each_turn_refusal-returns-in-Ends-clause-first t c = λ names a. splits_end _ _ c.loop-turn.found c.in-Ends.last c.earlier.result (c.loop-turn.invariant.0 names a) (left_ends c.args.walk.now.is_combinational c.args.walk.now.written.now (loop_of c.args.header.now) (steps_of c.args.body.now) names (with_name (names_of c.loop-turn.scope) c.args.header.now.name.now.name (Some (Constant c.loop-turn.word c.args.header.now.is_signed))) c.loop-turn.word c.loop-turn.turn c.in-Ends.last (omega arith) c.loop-turn.invariant.4 (c.loop-turn.invariant.1 (Some (Constant c.loop-turn.word c.args.header.now.is_signed)) ∙ a (Some (Constant c.loop-turn.word c.args.header.now.is_signed))) (subst (IsTurn c.args.walk.now.is_combinational c.args.walk.now.written.now (loop_of c.args.header.now) (steps_of c.args.body.now) (with_name (names_of c.loop-turn.scope) c.args.header.now.name.now.name (Some (Constant c.loop-turn.word c.args.header.now.is_signed)))) c.in-Ends.is c.in_ok-answer.ensures.turn)) c.earlier.ensures
+each_turn_refusal-returns-in-Ends-clause-first t c = λ names a. splits_end _ _ c.loop-turn.found c.in-Ends.last c.earlier.result (c.loop-turn.invariant.0 names a) (left_ends c.args.walk.now.is_combinational c.args.walk.now.written.now (loop_of c.args.header.now) (steps_of c.args.body.now) names (with_name (names_of c.loop-turn.scope) c.args.header.now.name.now.name (Some (Constant c.loop-turn.word 0 c.args.header.now.is_signed))) c.loop-turn.word c.loop-turn.turn c.in-Ends.last (omega arith) c.loop-turn.invariant.4 (c.loop-turn.invariant.1 (Some (Constant c.loop-turn.word 0 c.args.header.now.is_signed)) ∙ a (Some (Constant c.loop-turn.word 0 c.args.header.now.is_signed))) (subst (IsTurn c.args.walk.now.is_combinational c.args.walk.now.written.now (loop_of c.args.header.now) (steps_of c.args.body.now) (with_name (names_of c.loop-turn.scope) c.args.header.now.name.now.name (Some (Constant c.loop-turn.word 0 c.args.header.now.is_signed)))) c.in-Ends.is c.in_ok-answer.ensures.turn)) c.earlier.ensures
 
 pub each_turn_refusal-loop-turn-preserved : goal.each_turn_refusal-loop-turn-preserved
 each_turn_refusal-loop-turn-preserved t c =
-    let next = subst (IsTurn c.args.walk.now.is_combinational c.args.walk.now.written.now (loop_of c.args.header.now) (steps_of c.args.body.now) (with_name (names_of c.loop-turn.scope) c.args.header.now.name.now.name (Some (Constant c.loop-turn.word c.args.header.now.is_signed)))) c.in-GoesOn.is c.in_ok-answer.ensures.turn in (
-      λ names a. splits_on _ _ (step_refusals c.args.walk.now.is_combinational c.args.walk.now.written.now (steps_of c.args.body.now (with_name (names_of c.loop-turn.scope) c.args.header.now.name.now.name (Some (Constant c.loop-turn.word c.args.header.now.is_signed))))) _ c.loop-turn.found c.in-GoesOn.refusal c.earlier-found.result (c.loop-turn.invariant.0 names a) (left_more c.args.walk.now.is_combinational c.args.walk.now.written.now (loop_of c.args.header.now) (steps_of c.args.body.now) names (with_name (names_of c.loop-turn.scope) c.args.header.now.name.now.name (Some (Constant c.loop-turn.word c.args.header.now.is_signed))) c.loop-turn.word c.in-GoesOn.next c.loop-turn.turn (omega arith) c.loop-turn.invariant.4 (c.loop-turn.invariant.1 (Some (Constant c.loop-turn.word c.args.header.now.is_signed)) ∙ a (Some (Constant c.loop-turn.word c.args.header.now.is_signed))) next.1 next.3) next.2 c.earlier-found.ensures,
-      alike_after (names_of c.loop-turn.scope) (names_of c.args.scope.now) (names_of c.turn_refusal.new.scope) c.args.header.now.name.now.name (Some (Constant c.loop-turn.word c.args.header.now.is_signed)) c.in_ok-answer.ensures.kept c.loop-turn.invariant.1,
-      some_after (names_of c.loop-turn.scope) (names_of c.turn_refusal.new.scope) c.args.header.now.name.now.name (Constant c.loop-turn.word c.args.header.now.is_signed) c.in_ok-answer.ensures.kept,
+    let next = subst (IsTurn c.args.walk.now.is_combinational c.args.walk.now.written.now (loop_of c.args.header.now) (steps_of c.args.body.now) (with_name (names_of c.loop-turn.scope) c.args.header.now.name.now.name (Some (Constant c.loop-turn.word 0 c.args.header.now.is_signed)))) c.in-GoesOn.is c.in_ok-answer.ensures.turn in (
+      λ names a. splits_on _ _ (step_refusals c.args.walk.now.is_combinational c.args.walk.now.written.now (steps_of c.args.body.now (with_name (names_of c.loop-turn.scope) c.args.header.now.name.now.name (Some (Constant c.loop-turn.word 0 c.args.header.now.is_signed))))) _ c.loop-turn.found c.in-GoesOn.refusal c.earlier-found.result (c.loop-turn.invariant.0 names a) (left_more c.args.walk.now.is_combinational c.args.walk.now.written.now (loop_of c.args.header.now) (steps_of c.args.body.now) names (with_name (names_of c.loop-turn.scope) c.args.header.now.name.now.name (Some (Constant c.loop-turn.word 0 c.args.header.now.is_signed))) c.loop-turn.word c.in-GoesOn.next c.loop-turn.turn (omega arith) c.loop-turn.invariant.4 (c.loop-turn.invariant.1 (Some (Constant c.loop-turn.word 0 c.args.header.now.is_signed)) ∙ a (Some (Constant c.loop-turn.word 0 c.args.header.now.is_signed))) next.1 next.3) next.2 c.earlier-found.ensures,
+      alike_after (names_of c.loop-turn.scope) (names_of c.args.scope.now) (names_of c.turn_refusal.new.scope) c.args.header.now.name.now.name (Some (Constant c.loop-turn.word 0 c.args.header.now.is_signed)) c.in_ok-answer.ensures.kept c.loop-turn.invariant.1,
+      some_after (names_of c.loop-turn.scope) (names_of c.turn_refusal.new.scope) c.args.header.now.name.now.name (Constant c.loop-turn.word 0 c.args.header.now.is_signed) c.in_ok-answer.ensures.kept,
       sized_after (names_of c.loop-turn.scope) (names_of c.turn_refusal.new.scope) c.args.header.now.name.now.name c.loop-turn.word c.args.header.now.is_signed c.in_ok-answer.ensures.kept c.loop-turn.invariant.3,
       next.0,
     )
 
 pub each_turn_refusal-returns-in-Ends-clause-kept : goal.each_turn_refusal-returns-in-Ends-clause-kept
-each_turn_refusal-returns-in-Ends-clause-kept t c = alike_after (names_of c.loop-turn.scope) (names_of c.args.scope.now) (names_of c.turn_refusal.new.scope) c.args.header.now.name.now.name (Some (Constant c.loop-turn.word c.args.header.now.is_signed)) c.in_ok-answer.ensures.kept c.loop-turn.invariant.1
+each_turn_refusal-returns-in-Ends-clause-kept t c = alike_after (names_of c.loop-turn.scope) (names_of c.args.scope.now) (names_of c.turn_refusal.new.scope) c.args.header.now.name.now.name (Some (Constant c.loop-turn.word 0 c.args.header.now.is_signed)) c.in_ok-answer.ensures.kept c.loop-turn.invariant.1
 
 pub each_turn_refusal-returns-in-Ends-clause-declared : goal.each_turn_refusal-returns-in-Ends-clause-declared
-each_turn_refusal-returns-in-Ends-clause-declared t c = some_after (names_of c.loop-turn.scope) (names_of c.turn_refusal.new.scope) c.args.header.now.name.now.name (Constant c.loop-turn.word c.args.header.now.is_signed) c.in_ok-answer.ensures.kept
+each_turn_refusal-returns-in-Ends-clause-declared t c = some_after (names_of c.loop-turn.scope) (names_of c.turn_refusal.new.scope) c.args.header.now.name.now.name (Constant c.loop-turn.word 0 c.args.header.now.is_signed) c.in_ok-answer.ensures.kept
 
 pub each_turn_refusal-returns-clause-first : goal.each_turn_refusal-returns-clause-first
-each_turn_refusal-returns-clause-first t c = λ names a. splits_end _ _ c.loop-turn.found c.last_test.result c.earlier-2.result (c.loop-turn.invariant.0 names a) (left_none c.args.walk.now.is_combinational c.args.walk.now.written.now (loop_of c.args.header.now) (steps_of c.args.body.now) names (names_of c.replace.new.self) c.loop-turn.word c.loop-turn.turn c.last_test.result (omega arith) c.loop-turn.invariant.4 (((rw c.as_str.ensures at c.replace.ensures.declared) ∙ ap (λ (d : Decl). with_name (names_of c.loop-turn.scope) c.args.header.now.name.now.name (Some d)) c.variable.ensures) ∙ (c.loop-turn.invariant.1 (Some (Constant c.loop-turn.word c.args.header.now.is_signed)) ∙ a (Some (Constant c.loop-turn.word c.args.header.now.is_signed)))) (c.last_test.ensures c.args.walk.now.is_combinational c.args.walk.now.written.now)) c.earlier-2.ensures
+each_turn_refusal-returns-clause-first t c = λ names a. splits_end _ _ c.loop-turn.found c.last_test.result c.earlier-2.result (c.loop-turn.invariant.0 names a) (left_none c.args.walk.now.is_combinational c.args.walk.now.written.now (loop_of c.args.header.now) (steps_of c.args.body.now) names (names_of c.replace.new.self) c.loop-turn.word c.loop-turn.turn c.last_test.result (omega arith) c.loop-turn.invariant.4 (((rw c.as_str.ensures at c.replace.ensures.declared) ∙ ap (λ (d : Decl). with_name (names_of c.loop-turn.scope) c.args.header.now.name.now.name (Some d)) c.variable.ensures) ∙ (c.loop-turn.invariant.1 (Some (Constant c.loop-turn.word 0 c.args.header.now.is_signed)) ∙ a (Some (Constant c.loop-turn.word 0 c.args.header.now.is_signed)))) (c.last_test.ensures c.args.walk.now.is_combinational c.args.walk.now.written.now)) c.earlier-2.ensures
 
 pub each_turn_refusal-returns-clause-kept : goal.each_turn_refusal-returns-clause-kept
-each_turn_refusal-returns-clause-kept t c = alike_after (names_of c.loop-turn.scope) (names_of c.args.scope.now) (names_of c.replace.new.self) c.args.header.now.name.now.name (Some (Constant c.loop-turn.word c.args.header.now.is_signed)) ((rw c.as_str.ensures at c.replace.ensures.declared) ∙ ap (λ (d : Decl). with_name (names_of c.loop-turn.scope) c.args.header.now.name.now.name (Some d)) c.variable.ensures) c.loop-turn.invariant.1
+each_turn_refusal-returns-clause-kept t c = alike_after (names_of c.loop-turn.scope) (names_of c.args.scope.now) (names_of c.replace.new.self) c.args.header.now.name.now.name (Some (Constant c.loop-turn.word 0 c.args.header.now.is_signed)) ((rw c.as_str.ensures at c.replace.ensures.declared) ∙ ap (λ (d : Decl). with_name (names_of c.loop-turn.scope) c.args.header.now.name.now.name (Some d)) c.variable.ensures) c.loop-turn.invariant.1
 
 pub each_turn_refusal-returns-clause-declared : goal.each_turn_refusal-returns-clause-declared
-each_turn_refusal-returns-clause-declared t c = some_after (names_of c.loop-turn.scope) (names_of c.replace.new.self) c.args.header.now.name.now.name (Constant c.loop-turn.word c.args.header.now.is_signed) ((rw c.as_str.ensures at c.replace.ensures.declared) ∙ ap (λ (d : Decl). with_name (names_of c.loop-turn.scope) c.args.header.now.name.now.name (Some d)) c.variable.ensures)
+each_turn_refusal-returns-clause-declared t c = some_after (names_of c.loop-turn.scope) (names_of c.replace.new.self) c.args.header.now.name.now.name (Constant c.loop-turn.word 0 c.args.header.now.is_signed) ((rw c.as_str.ensures at c.replace.ensures.declared) ∙ ap (λ (d : Decl). with_name (names_of c.loop-turn.scope) c.args.header.now.name.now.name (Some d)) c.variable.ensures)
 
 pub turns_refusal-each_turn_refusal-requires : goal.turns_refusal-each_turn_refusal-requires
-turns_refusal-each_turn_refusal-requires t c = (search (rules, the_lemmas), (sized_after (names_of c.args.scope.now) (names_of c.replace-declared.new.self) c.args.header.now.name.now.name c.args.first c.args.header.now.is_signed ((rw c.as_str-name.ensures at c.replace-declared.ensures.declared) ∙ ap (λ (d : Decl). with_name (names_of c.args.scope.now) c.args.header.now.name.now.name (Some d)) c.variable.ensures) c.requires.sized, (some_after (names_of c.args.scope.now) (names_of c.replace-declared.new.self) c.args.header.now.name.now.name (Constant c.args.first c.args.header.now.is_signed) ((rw c.as_str-name.ensures at c.replace-declared.ensures.declared) ∙ ap (λ (d : Decl). with_name (names_of c.args.scope.now) c.args.header.now.name.now.name (Some d)) c.variable.ensures), c.requires.width)))
+turns_refusal-each_turn_refusal-requires t c = (search (rules, the_lemmas), (sized_after (names_of c.args.scope.now) (names_of c.replace-declared.new.self) c.args.header.now.name.now.name c.args.first c.args.header.now.is_signed ((rw c.as_str-name.ensures at c.replace-declared.ensures.declared) ∙ ap (λ (d : Decl). with_name (names_of c.args.scope.now) c.args.header.now.name.now.name (Some d)) c.variable.ensures) c.requires.sized, (some_after (names_of c.args.scope.now) (names_of c.replace-declared.new.self) c.args.header.now.name.now.name (Constant c.args.first 0 c.args.header.now.is_signed) ((rw c.as_str-name.ensures at c.replace-declared.ensures.declared) ∙ ap (λ (d : Decl). with_name (names_of c.args.scope.now) c.args.header.now.name.now.name (Some d)) c.variable.ensures), c.requires.width)))
 
 pub turns_refusal-returns-clause-first : goal.turns_refusal-returns-clause-first
-turns_refusal-returns-clause-first t c = c.in_ok-found.ensures.first (names_of c.args.scope.now) (alike_after (names_of c.args.scope.now) (names_of c.args.scope.now) (names_of c.replace-declared.new.self) c.args.header.now.name.now.name (Some (Constant c.args.first c.args.header.now.is_signed)) ((rw c.as_str-name.ensures at c.replace-declared.ensures.declared) ∙ ap (λ (d : Decl). with_name (names_of c.args.scope.now) c.args.header.now.name.now.name (Some d)) c.variable.ensures) (λ d. refl))
+turns_refusal-returns-clause-first t c = c.in_ok-found.ensures.first (names_of c.args.scope.now) (alike_after (names_of c.args.scope.now) (names_of c.args.scope.now) (names_of c.replace-declared.new.self) c.args.header.now.name.now.name (Some (Constant c.args.first 0 c.args.header.now.is_signed)) ((rw c.as_str-name.ensures at c.replace-declared.ensures.declared) ∙ ap (λ (d : Decl). with_name (names_of c.args.scope.now) c.args.header.now.name.now.name (Some d)) c.variable.ensures) (λ d. refl))
 
 pub turns_refusal-returns-clause-kept : goal.turns_refusal-returns-clause-kept
-turns_refusal-returns-clause-kept t c = put_back (names_of c.args.scope.now) (names_of c.replace-declared.new.self) (names_of c.each_turn_refusal.new.scope) (names_of c.replace.new.self) c.args.header.now.name.now.name (Some (Constant c.args.first c.args.header.now.is_signed)) c.replace-declared.result ((rw c.as_str-name.ensures at c.replace-declared.ensures.declared) ∙ ap (λ (d : Decl). with_name (names_of c.args.scope.now) c.args.header.now.name.now.name (Some d)) c.variable.ensures) c.in_ok-found.ensures.kept (rw c.as_str-name.ensures at c.replace.ensures.declared) (rw c.as_str-name.ensures at c.replace-declared.ensures.replaced)
+turns_refusal-returns-clause-kept t c = put_back (names_of c.args.scope.now) (names_of c.replace-declared.new.self) (names_of c.each_turn_refusal.new.scope) (names_of c.replace.new.self) c.args.header.now.name.now.name (Some (Constant c.args.first 0 c.args.header.now.is_signed)) c.replace-declared.result ((rw c.as_str-name.ensures at c.replace-declared.ensures.declared) ∙ ap (λ (d : Decl). with_name (names_of c.args.scope.now) c.args.header.now.name.now.name (Some d)) c.variable.ensures) c.in_ok-found.ensures.kept (rw c.as_str-name.ensures at c.replace.ensures.declared) (rw c.as_str-name.ensures at c.replace-declared.ensures.replaced)
 
 pub turn_refusal-statement_refusal-requires : goal.turn_refusal-statement_refusal-requires
 turn_refusal-statement_refusal-requires t c = (search (rules, the_lemmas), sized_after (names_of c.args.scope.now) (names_of c.replace.new.self) c.args.header.now.name.now.name c.args.word c.args.header.now.is_signed ((rw c.as_str.ensures at c.replace.ensures.declared) ∙ ap (λ (d : Decl). with_name (names_of c.args.scope.now) c.args.header.now.name.now.name (Some d)) c.variable.ensures) c.requires.sized)

@@ -185,13 +185,13 @@ pub build_arms-returns-clause-kept : goal.build_arms-returns-clause-kept
 build_arms-returns-clause-kept t c = c.loop-place.invariant.kept
 
 pub build_turns-build_each_turn-requires : goal.build_turns-build_each_turn-requires
-build_turns-build_each_turn-requires t c = (search (rules, the_lemmas), (some_after (names_of c.args.scope.now) (names_of c.replace-declared.new.self) c.args.header.now.name.now.name (Constant c.args.first c.args.header.now.is_signed) ((rw c.as_str-name.ensures at c.replace-declared.ensures.declared) ∙ ap (λ (d : Decl). with_name (names_of c.args.scope.now) c.args.header.now.name.now.name (Some d)) c.variable.ensures), (c.requires.width, (turns-ready (loop_of c.args.header.now) (steps_of c.args.body.now) (names_of c.args.scope.now) (names_of c.replace-declared.new.self) c.args.first (work c.args.builder.now c.args.variables.now) ((rw c.as_str-name.ensures at c.replace-declared.ensures.declared) ∙ ap (λ (d : Decl). with_name (names_of c.args.scope.now) c.args.header.now.name.now.name (Some d)) c.variable.ensures) c.requires.width c.requires.ready, c.requires.places))))
+build_turns-build_each_turn-requires t c = (search (rules, the_lemmas), (some_after (names_of c.args.scope.now) (names_of c.replace-declared.new.self) c.args.header.now.name.now.name (Constant c.args.first 0 c.args.header.now.is_signed) ((rw c.as_str-name.ensures at c.replace-declared.ensures.declared) ∙ ap (λ (d : Decl). with_name (names_of c.args.scope.now) c.args.header.now.name.now.name (Some d)) c.variable.ensures), (c.requires.width, (turns-ready (loop_of c.args.header.now) (steps_of c.args.body.now) (names_of c.args.scope.now) (names_of c.replace-declared.new.self) c.args.first (work c.args.builder.now c.args.variables.now) ((rw c.as_str-name.ensures at c.replace-declared.ensures.declared) ∙ ap (λ (d : Decl). with_name (names_of c.args.scope.now) c.args.header.now.name.now.name (Some d)) c.variable.ensures) c.requires.width c.requires.ready, c.requires.places))))
 
 pub build_turns-returns-clause-built : goal.build_turns-returns-clause-built
 build_turns-returns-clause-built t c = subst (λ (p : Steps). Built p (work c.args.builder.now c.args.variables.now) (work c.build_each_turn.new.builder c.build_each_turn.new.variables) c.in_ok-changes.changes) (turns-are (loop_of c.args.header.now) (steps_of c.args.body.now) (names_of c.args.scope.now) (names_of c.replace-declared.new.self) c.args.first ((rw c.as_str-name.ensures at c.replace-declared.ensures.declared) ∙ ap (λ (d : Decl). with_name (names_of c.args.scope.now) c.args.header.now.name.now.name (Some d)) c.variable.ensures) c.requires.width) c.in_ok-changes.ensures.built
 
 pub build_turns-returns-clause-kept : goal.build_turns-returns-clause-kept
-build_turns-returns-clause-kept t c = put_back (names_of c.args.scope.now) (names_of c.replace-declared.new.self) (names_of c.build_each_turn.new.scope) (names_of c.replace.new.self) c.args.header.now.name.now.name (Some (Constant c.args.first c.args.header.now.is_signed)) c.replace-declared.result ((rw c.as_str-name.ensures at c.replace-declared.ensures.declared) ∙ ap (λ (d : Decl). with_name (names_of c.args.scope.now) c.args.header.now.name.now.name (Some d)) c.variable.ensures) c.in_ok-changes.ensures.kept (rw c.as_str-name.ensures at c.replace.ensures.declared) (rw c.as_str-name.ensures at c.replace-declared.ensures.replaced)
+build_turns-returns-clause-kept t c = put_back (names_of c.args.scope.now) (names_of c.replace-declared.new.self) (names_of c.build_each_turn.new.scope) (names_of c.replace.new.self) c.args.header.now.name.now.name (Some (Constant c.args.first 0 c.args.header.now.is_signed)) c.replace-declared.result ((rw c.as_str-name.ensures at c.replace-declared.ensures.declared) ∙ ap (λ (d : Decl). with_name (names_of c.args.scope.now) c.args.header.now.name.now.name (Some d)) c.variable.ensures) c.in_ok-changes.ensures.kept (rw c.as_str-name.ensures at c.replace.ensures.declared) (rw c.as_str-name.ensures at c.replace-declared.ensures.replaced)
 
 pub build_turns-returns-in_err-changes-clause-short : goal.build_turns-returns-in_err-changes-clause-short
 build_turns-returns-in_err-changes-clause-short t c = same_err c.from_residual.result c.in_err-changes.field-0.0 _ c.from_residual.ensures.1 (subst (λ (p : Steps). IsShort (length c.args.builder.now.cells + cells_of p) c.in_err-changes.field-0.0) (turns-are (loop_of c.args.header.now) (steps_of c.args.body.now) (names_of c.args.scope.now) (names_of c.replace-declared.new.self) c.args.first ((rw c.as_str-name.ensures at c.replace-declared.ensures.declared) ∙ ap (λ (d : Decl). with_name (names_of c.args.scope.now) c.args.header.now.name.now.name (Some d)) c.variable.ensures) c.requires.width) c.in_err-changes.ensures.short)
@@ -206,26 +206,26 @@ build_each_turn-loop-turn-init t c = record {
 }
 
 pub build_each_turn-build_turn-requires : goal.build_each_turn-build_turn-requires
-build_each_turn-build_turn-requires t c = (search (rules, the_lemmas), (c.loop-turn.invariant.declared, (c.loop-turn.invariant.width, (turn-ready (loop_of c.args.header.now) (steps_of c.args.body.now) (names_of c.args.scope.now) (with_name (names_of c.loop-turn.scope) c.args.header.now.name.now.name (Some (Constant c.loop-turn.word c.args.header.now.is_signed))) c.args.first c.loop-turn.word c.loop-turn.turn (work c.args.builder.now c.args.variables.now) (work c.loop-turn.builder c.loop-turn.variables) c.loop-turn.changes (omega arith) c.loop-turn.invariant.width (c.loop-turn.invariant.alike (Some (Constant c.loop-turn.word c.args.header.now.is_signed))) c.loop-turn.invariant.turned c.requires.ready, c.loop-turn.invariant.places))))
+build_each_turn-build_turn-requires t c = (search (rules, the_lemmas), (c.loop-turn.invariant.declared, (c.loop-turn.invariant.width, (turn-ready (loop_of c.args.header.now) (steps_of c.args.body.now) (names_of c.args.scope.now) (with_name (names_of c.loop-turn.scope) c.args.header.now.name.now.name (Some (Constant c.loop-turn.word 0 c.args.header.now.is_signed))) c.args.first c.loop-turn.word c.loop-turn.turn (work c.args.builder.now c.args.variables.now) (work c.loop-turn.builder c.loop-turn.variables) c.loop-turn.changes (omega arith) c.loop-turn.invariant.width (c.loop-turn.invariant.alike (Some (Constant c.loop-turn.word 0 c.args.header.now.is_signed))) c.loop-turn.invariant.turned c.requires.ready, c.loop-turn.invariant.places))))
 
 pub build_each_turn-returns-in_err-after-clause-short : goal.build_each_turn-returns-in_err-after-clause-short
-build_each_turn-returns-in_err-after-clause-short t c = same_err c.from_residual.result c.in_err-after.field-0.0 _ c.from_residual.ensures.1 (turn-room (loop_of c.args.header.now) (steps_of c.args.body.now) (names_of c.args.scope.now) (with_name (names_of c.loop-turn.scope) c.args.header.now.name.now.name (Some (Constant c.loop-turn.word c.args.header.now.is_signed))) c.args.first c.loop-turn.word c.loop-turn.turn (work c.args.builder.now c.args.variables.now) (work c.loop-turn.builder c.loop-turn.variables) c.loop-turn.changes (omega arith) c.loop-turn.invariant.width (c.loop-turn.invariant.alike (Some (Constant c.loop-turn.word c.args.header.now.is_signed))) c.loop-turn.invariant.turned c.requires.ready c.in_err-after.field-0.0 c.in_err-after.ensures.short)
+build_each_turn-returns-in_err-after-clause-short t c = same_err c.from_residual.result c.in_err-after.field-0.0 _ c.from_residual.ensures.1 (turn-room (loop_of c.args.header.now) (steps_of c.args.body.now) (names_of c.args.scope.now) (with_name (names_of c.loop-turn.scope) c.args.header.now.name.now.name (Some (Constant c.loop-turn.word 0 c.args.header.now.is_signed))) c.args.first c.loop-turn.word c.loop-turn.turn (work c.args.builder.now c.args.variables.now) (work c.loop-turn.builder c.loop-turn.variables) c.loop-turn.changes (omega arith) c.loop-turn.invariant.width (c.loop-turn.invariant.alike (Some (Constant c.loop-turn.word 0 c.args.header.now.is_signed))) c.loop-turn.invariant.turned c.requires.ready c.in_err-after.field-0.0 c.in_err-after.ensures.short)
 
 pub build_each_turn-returns-in-None-clause-built : goal.build_each_turn-returns-in-None-clause-built
-build_each_turn-returns-in-None-clause-built t c = turned-end (loop_of c.args.header.now) (steps_of c.args.body.now) (names_of c.args.scope.now) (with_name (names_of c.loop-turn.scope) c.args.header.now.name.now.name (Some (Constant c.loop-turn.word c.args.header.now.is_signed))) c.args.first c.loop-turn.word c.loop-turn.turn (work c.args.builder.now c.args.variables.now) (work c.loop-turn.builder c.loop-turn.variables) c.loop-turn.changes (omega arith) c.loop-turn.invariant.width (c.loop-turn.invariant.alike (Some (Constant c.loop-turn.word c.args.header.now.is_signed))) c.loop-turn.invariant.turned (work c.build_turn.new.builder c.build_turn.new.variables) (subst (λ (o : Option Turn). IsBuiltTurn (loop_of c.args.header.now) (steps_of c.args.body.now) (with_name (names_of c.loop-turn.scope) c.args.header.now.name.now.name (Some (Constant c.loop-turn.word c.args.header.now.is_signed))) o (work c.loop-turn.builder c.loop-turn.variables) (work c.build_turn.new.builder c.build_turn.new.variables)) c.in-None.is c.in_ok-after.ensures.turn)
+build_each_turn-returns-in-None-clause-built t c = turned-end (loop_of c.args.header.now) (steps_of c.args.body.now) (names_of c.args.scope.now) (with_name (names_of c.loop-turn.scope) c.args.header.now.name.now.name (Some (Constant c.loop-turn.word 0 c.args.header.now.is_signed))) c.args.first c.loop-turn.word c.loop-turn.turn (work c.args.builder.now c.args.variables.now) (work c.loop-turn.builder c.loop-turn.variables) c.loop-turn.changes (omega arith) c.loop-turn.invariant.width (c.loop-turn.invariant.alike (Some (Constant c.loop-turn.word 0 c.args.header.now.is_signed))) c.loop-turn.invariant.turned (work c.build_turn.new.builder c.build_turn.new.variables) (subst (λ (o : Option Turn). IsBuiltTurn (loop_of c.args.header.now) (steps_of c.args.body.now) (with_name (names_of c.loop-turn.scope) c.args.header.now.name.now.name (Some (Constant c.loop-turn.word 0 c.args.header.now.is_signed))) o (work c.loop-turn.builder c.loop-turn.variables) (work c.build_turn.new.builder c.build_turn.new.variables)) c.in-None.is c.in_ok-after.ensures.turn)
 
 pub build_each_turn-returns-in-None-clause-kept : goal.build_each_turn-returns-in-None-clause-kept
-build_each_turn-returns-in-None-clause-kept t c = alike_after (names_of c.loop-turn.scope) (names_of c.args.scope.now) (names_of c.build_turn.new.scope) c.args.header.now.name.now.name (Some (Constant c.loop-turn.word c.args.header.now.is_signed)) c.in_ok-after.ensures.kept c.loop-turn.invariant.alike
+build_each_turn-returns-in-None-clause-kept t c = alike_after (names_of c.loop-turn.scope) (names_of c.args.scope.now) (names_of c.build_turn.new.scope) c.args.header.now.name.now.name (Some (Constant c.loop-turn.word 0 c.args.header.now.is_signed)) c.in_ok-after.ensures.kept c.loop-turn.invariant.alike
 
 pub build_each_turn-returns-in-None-clause-declared : goal.build_each_turn-returns-in-None-clause-declared
-build_each_turn-returns-in-None-clause-declared t c = some_after (names_of c.loop-turn.scope) (names_of c.build_turn.new.scope) c.args.header.now.name.now.name (Constant c.loop-turn.word c.args.header.now.is_signed) c.in_ok-after.ensures.kept
+build_each_turn-returns-in-None-clause-declared t c = some_after (names_of c.loop-turn.scope) (names_of c.build_turn.new.scope) c.args.header.now.name.now.name (Constant c.loop-turn.word 0 c.args.header.now.is_signed) c.in_ok-after.ensures.kept
 
 pub build_each_turn-loop-turn-preserved : goal.build_each_turn-loop-turn-preserved
 build_each_turn-loop-turn-preserved t c = record {
-  turned = turned-more (loop_of c.args.header.now) (steps_of c.args.body.now) (names_of c.args.scope.now) (with_name (names_of c.loop-turn.scope) c.args.header.now.name.now.name (Some (Constant c.loop-turn.word c.args.header.now.is_signed))) c.args.first c.loop-turn.word c.loop-turn.turn (work c.args.builder.now c.args.variables.now) (work c.loop-turn.builder c.loop-turn.variables) c.loop-turn.changes (omega arith) c.loop-turn.invariant.width (c.loop-turn.invariant.alike (Some (Constant c.loop-turn.word c.args.header.now.is_signed))) c.loop-turn.invariant.turned c.in-Some.turn (work c.build_turn.new.builder c.build_turn.new.variables) c.join.new.self (subst (λ (o : Option Turn). IsBuiltTurn (loop_of c.args.header.now) (steps_of c.args.body.now) (with_name (names_of c.loop-turn.scope) c.args.header.now.name.now.name (Some (Constant c.loop-turn.word c.args.header.now.is_signed))) o (work c.loop-turn.builder c.loop-turn.variables) (work c.build_turn.new.builder c.build_turn.new.variables)) c.in-Some.is c.in_ok-after.ensures.turn) c.in_ok-join-in-Some.ensures;
-  alike = alike_after (names_of c.loop-turn.scope) (names_of c.args.scope.now) (names_of c.build_turn.new.scope) c.args.header.now.name.now.name (Some (Constant c.loop-turn.word c.args.header.now.is_signed)) c.in_ok-after.ensures.kept c.loop-turn.invariant.alike;
-  declared = some_after (names_of c.loop-turn.scope) (names_of c.build_turn.new.scope) c.args.header.now.name.now.name (Constant c.loop-turn.word c.args.header.now.is_signed) c.in_ok-after.ensures.kept;
-  width = (subst (λ (o : Option Turn). IsBuiltTurn (loop_of c.args.header.now) (steps_of c.args.body.now) (with_name (names_of c.loop-turn.scope) c.args.header.now.name.now.name (Some (Constant c.loop-turn.word c.args.header.now.is_signed))) o (work c.loop-turn.builder c.loop-turn.variables) (work c.build_turn.new.builder c.build_turn.new.variables)) c.in-Some.is c.in_ok-after.ensures.turn).0;
+  turned = turned-more (loop_of c.args.header.now) (steps_of c.args.body.now) (names_of c.args.scope.now) (with_name (names_of c.loop-turn.scope) c.args.header.now.name.now.name (Some (Constant c.loop-turn.word 0 c.args.header.now.is_signed))) c.args.first c.loop-turn.word c.loop-turn.turn (work c.args.builder.now c.args.variables.now) (work c.loop-turn.builder c.loop-turn.variables) c.loop-turn.changes (omega arith) c.loop-turn.invariant.width (c.loop-turn.invariant.alike (Some (Constant c.loop-turn.word 0 c.args.header.now.is_signed))) c.loop-turn.invariant.turned c.in-Some.turn (work c.build_turn.new.builder c.build_turn.new.variables) c.join.new.self (subst (λ (o : Option Turn). IsBuiltTurn (loop_of c.args.header.now) (steps_of c.args.body.now) (with_name (names_of c.loop-turn.scope) c.args.header.now.name.now.name (Some (Constant c.loop-turn.word 0 c.args.header.now.is_signed))) o (work c.loop-turn.builder c.loop-turn.variables) (work c.build_turn.new.builder c.build_turn.new.variables)) c.in-Some.is c.in_ok-after.ensures.turn) c.in_ok-join-in-Some.ensures;
+  alike = alike_after (names_of c.loop-turn.scope) (names_of c.args.scope.now) (names_of c.build_turn.new.scope) c.args.header.now.name.now.name (Some (Constant c.loop-turn.word 0 c.args.header.now.is_signed)) c.in_ok-after.ensures.kept c.loop-turn.invariant.alike;
+  declared = some_after (names_of c.loop-turn.scope) (names_of c.build_turn.new.scope) c.args.header.now.name.now.name (Constant c.loop-turn.word 0 c.args.header.now.is_signed) c.in_ok-after.ensures.kept;
+  width = (subst (λ (o : Option Turn). IsBuiltTurn (loop_of c.args.header.now) (steps_of c.args.body.now) (with_name (names_of c.loop-turn.scope) c.args.header.now.name.now.name (Some (Constant c.loop-turn.word 0 c.args.header.now.is_signed))) o (work c.loop-turn.builder c.loop-turn.variables) (work c.build_turn.new.builder c.build_turn.new.variables)) c.in-Some.is c.in_ok-after.ensures.turn).0;
   places = c.in_ok-after.ensures.places;
 }
 
@@ -269,7 +269,7 @@ pub build_loop-unreachable-requires-in-Err : goal.build_loop-unreachable-require
 build_loop-unreachable-requires-in-Err t c = start-fails c.args.start.now c.args.condition.now c.args.step.now (steps_of c.args.body.now) (names_of c.args.scope.now) c.in-Name.name c.in-Name.is c.get-declared.result (c.get-declared.ensures ∙ ap (names_of c.args.scope.now) c.as_str.ensures) _ _ _ _ (c.in-Some-Signal.is ∙ ap Some (rw c.in-Some-Signal.is at c.in-Some-Signal.field-0-is)) c.in-Err.field-0 c.get-value.result.now c.get-value.ensures c.in-Err.ensures.refused c.requires.ready.clear
 
 pub build_loop-unreachable-requires-in-Some-Constant : goal.build_loop-unreachable-requires-in-Some-Constant
-build_loop-unreachable-requires-in-Some-Constant t c = start-constant c.args.start.now c.args.condition.now c.args.step.now (steps_of c.args.body.now) (names_of c.args.scope.now) c.in-Name.name c.in-Name.is c.get-declared.result (c.get-declared.ensures ∙ ap (names_of c.args.scope.now) c.as_str.ensures) _ _ (c.in-Some-Constant.is ∙ ap Some (rw c.in-Some-Constant.is at c.in-Some-Constant.field-0-is)) c.requires.ready.clear
+build_loop-unreachable-requires-in-Some-Constant t c = start-constant c.args.start.now c.args.condition.now c.args.step.now (steps_of c.args.body.now) (names_of c.args.scope.now) c.in-Name.name c.in-Name.is c.get-declared.result (c.get-declared.ensures ∙ ap (names_of c.args.scope.now) c.as_str.ensures) _ _ _ (c.in-Some-Constant.is ∙ ap Some (rw c.in-Some-Constant.is at c.in-Some-Constant.field-0-is)) c.requires.ready.clear
 
 pub build_loop-unreachable-requires-in-None : goal.build_loop-unreachable-requires-in-None
 build_loop-unreachable-requires-in-None t c = start-none c.args.start.now c.args.condition.now c.args.step.now (steps_of c.args.body.now) (names_of c.args.scope.now) c.in-Name.name c.in-Name.is c.get-declared.result (c.get-declared.ensures ∙ ap (names_of c.args.scope.now) c.as_str.ensures) c.in-None.is c.requires.ready.clear

@@ -22,7 +22,7 @@ pub returns-in-Some-Signal-clause-starts : goal.returns-in-Some-Signal-clause-st
 returns-in-Some-Signal-clause-starts c = signal_starts (names_of c.args.scope.now) c.args.assignment.now c.in-Name.name c.get.result c.in-Some-Signal.width c.in-Some-Signal.field-0-1 c.in-Some-Signal.field-0-2 c.in-Some-Signal.number c.get-in-Some-Signal.result.now c.args.builder.now c.start_signal.new.builder c.in-Name.is (c.get.ensures ∙ ap (names_of c.args.scope.now) c.as_str.ensures) (c.in-Some-Signal.is ∙ ap Some c.in-Some-Signal.field-0-is) c.get-in-Some-Signal.ensures c.requires.signals c.start_signal.ensures.starts
 
 pub returns-in-Some-Constant-clause-starts : goal.returns-in-Some-Constant-clause-starts
-returns-in-Some-Constant-clause-starts c = constant_starts (names_of c.args.scope.now) c.args.assignment.now c.in-Name.name c.get.result _ _ c.args.builder.now c.in-Name.is (c.get.ensures ∙ ap (names_of c.args.scope.now) c.as_str.ensures) (c.in-Some-Constant.is ∙ ap Some c.in-Some-Constant.field-0-is)
+returns-in-Some-Constant-clause-starts c = constant_starts (names_of c.args.scope.now) c.args.assignment.now c.in-Name.name c.get.result _ _ _ c.args.builder.now c.in-Name.is (c.get.ensures ∙ ap (names_of c.args.scope.now) c.as_str.ensures) (c.in-Some-Constant.is ∙ ap Some c.in-Some-Constant.field-0-is)
 
 pub returns-in-None-clause-starts : goal.returns-in-None-clause-starts
 returns-in-None-clause-starts c = unknown_starts (names_of c.args.scope.now) c.args.assignment.now c.in-Name.name c.get.result c.args.builder.now c.in-Name.is (c.get.ensures ∙ ap (names_of c.args.scope.now) c.as_str.ensures) c.in-None.is

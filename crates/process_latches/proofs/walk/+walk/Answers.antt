@@ -35,13 +35,13 @@ pub mark_block-returns-clause-marked : goal.mark_block-returns-clause-marked
 mark_block-returns-clause-marked t c = continues_end (names_of c.args.scope.now) c.args.body.now c.loop-stmt.stmt-index c.args.marks.now c.loop-stmt.marks (omega arith) c.loop-stmt.invariant.0 (added_none c.loop-stmt.marks)
 
 pub mark_turns-mark_each_turn-requires : goal.mark_turns-mark_each_turn-requires
-mark_turns-mark_each_turn-requires t c = (search (rules, the_lemmas), (sized_after (names_of c.args.scope.now) (names_of c.replace-declared.new.self) c.args.header.now.name.now.name c.args.first c.args.header.now.is_signed ((rw c.as_str-name.ensures at c.replace-declared.ensures.declared) ∙ ap (λ (d : Decl). with_name (names_of c.args.scope.now) c.args.header.now.name.now.name (Some d)) c.variable.ensures) c.requires.sized, (some_after (names_of c.args.scope.now) (names_of c.replace-declared.new.self) c.args.header.now.name.now.name (Constant c.args.first c.args.header.now.is_signed) ((rw c.as_str-name.ensures at c.replace-declared.ensures.declared) ∙ ap (λ (d : Decl). with_name (names_of c.args.scope.now) c.args.header.now.name.now.name (Some d)) c.variable.ensures), c.requires.width)))
+mark_turns-mark_each_turn-requires t c = (search (rules, the_lemmas), (sized_after (names_of c.args.scope.now) (names_of c.replace-declared.new.self) c.args.header.now.name.now.name c.args.first c.args.header.now.is_signed ((rw c.as_str-name.ensures at c.replace-declared.ensures.declared) ∙ ap (λ (d : Decl). with_name (names_of c.args.scope.now) c.args.header.now.name.now.name (Some d)) c.variable.ensures) c.requires.sized, (some_after (names_of c.args.scope.now) (names_of c.replace-declared.new.self) c.args.header.now.name.now.name (Constant c.args.first 0 c.args.header.now.is_signed) ((rw c.as_str-name.ensures at c.replace-declared.ensures.declared) ∙ ap (λ (d : Decl). with_name (names_of c.args.scope.now) c.args.header.now.name.now.name (Some d)) c.variable.ensures), c.requires.width)))
 
 pub mark_turns-returns-clause-marked : goal.mark_turns-returns-clause-marked
-mark_turns-returns-clause-marked t c = c.in_ok-mark_each_turn.ensures.marked (names_of c.args.scope.now) (alike_after (names_of c.args.scope.now) (names_of c.args.scope.now) (names_of c.replace-declared.new.self) c.args.header.now.name.now.name (Some (Constant c.args.first c.args.header.now.is_signed)) ((rw c.as_str-name.ensures at c.replace-declared.ensures.declared) ∙ ap (λ (d : Decl). with_name (names_of c.args.scope.now) c.args.header.now.name.now.name (Some d)) c.variable.ensures) (λ d. refl))
+mark_turns-returns-clause-marked t c = c.in_ok-mark_each_turn.ensures.marked (names_of c.args.scope.now) (alike_after (names_of c.args.scope.now) (names_of c.args.scope.now) (names_of c.replace-declared.new.self) c.args.header.now.name.now.name (Some (Constant c.args.first 0 c.args.header.now.is_signed)) ((rw c.as_str-name.ensures at c.replace-declared.ensures.declared) ∙ ap (λ (d : Decl). with_name (names_of c.args.scope.now) c.args.header.now.name.now.name (Some d)) c.variable.ensures) (λ d. refl))
 
 pub mark_turns-returns-clause-kept : goal.mark_turns-returns-clause-kept
-mark_turns-returns-clause-kept t c = put_back (names_of c.args.scope.now) (names_of c.replace-declared.new.self) (names_of c.mark_each_turn.new.scope) (names_of c.replace.new.self) c.args.header.now.name.now.name (Some (Constant c.args.first c.args.header.now.is_signed)) c.replace-declared.result ((rw c.as_str-name.ensures at c.replace-declared.ensures.declared) ∙ ap (λ (d : Decl). with_name (names_of c.args.scope.now) c.args.header.now.name.now.name (Some d)) c.variable.ensures) c.in_ok-mark_each_turn.ensures.kept (rw c.as_str-name.ensures at c.replace.ensures.declared) (rw c.as_str-name.ensures at c.replace-declared.ensures.replaced)
+mark_turns-returns-clause-kept t c = put_back (names_of c.args.scope.now) (names_of c.replace-declared.new.self) (names_of c.mark_each_turn.new.scope) (names_of c.replace.new.self) c.args.header.now.name.now.name (Some (Constant c.args.first 0 c.args.header.now.is_signed)) c.replace-declared.result ((rw c.as_str-name.ensures at c.replace-declared.ensures.declared) ∙ ap (λ (d : Decl). with_name (names_of c.args.scope.now) c.args.header.now.name.now.name (Some d)) c.variable.ensures) c.in_ok-mark_each_turn.ensures.kept (rw c.as_str-name.ensures at c.replace.ensures.declared) (rw c.as_str-name.ensures at c.replace-declared.ensures.replaced)
 
 pub mark_turn-mark-requires : goal.mark_turn-mark-requires
 mark_turn-mark-requires t c = (search (rules, the_lemmas), sized_after (names_of c.args.scope.now) (names_of c.replace.new.self) c.args.header.now.name.now.name c.args.word c.args.header.now.is_signed ((rw c.as_str.ensures at c.replace.ensures.declared) ∙ ap (λ (d : Decl). with_name (names_of c.args.scope.now) c.args.header.now.name.now.name (Some d)) c.variable.ensures) c.requires.sized)
@@ -152,7 +152,7 @@ pub mark_loop-returns-in-Ok-clause-marked : goal.mark_loop-returns-in-Ok-clause-
 mark_loop-returns-in-Ok-clause-marked t c = on_ok_weaker c.mark_turns.result (λ h. start_goes (names_of c.args.scope.now) c.args.marks.now _ c.args.start.now c.args.condition.now c.args.step.now (steps_of c.args.body.now) c.in-Name.name c.in-Name.is c.get-declared.result _ _ _ _ (c.get-declared.ensures ∙ ap (names_of c.args.scope.now) c.as_str.ensures) (c.in-Some-Signal.is ∙ ap Some (rw c.in-Some-Signal.is at c.in-Some-Signal.field-0-is)) c.get-value.result.now c.in-Ok.first c.get-value.ensures c.in-Ok.ensures.refused c.in-Ok.ensures.value h) c.mark_turns.ensures.marked
 
 pub mark_loop-returns-in-Some-Constant-clause-marked : goal.mark_loop-returns-in-Some-Constant-clause-marked
-mark_loop-returns-in-Some-Constant-clause-marked t c = start_constant (names_of c.args.scope.now) c.args.marks.now _ c.args.start.now c.args.condition.now c.args.step.now (steps_of c.args.body.now) c.in-Name.name c.in-Name.is c.get-declared.result _ _ (c.get-declared.ensures ∙ ap (names_of c.args.scope.now) c.as_str.ensures) (c.in-Some-Constant.is ∙ ap Some (rw c.in-Some-Constant.is at c.in-Some-Constant.field-0-is)) c.stop-in-Some-Constant.ensures
+mark_loop-returns-in-Some-Constant-clause-marked t c = start_constant (names_of c.args.scope.now) c.args.marks.now _ c.args.start.now c.args.condition.now c.args.step.now (steps_of c.args.body.now) c.in-Name.name c.in-Name.is c.get-declared.result _ _ _ (c.get-declared.ensures ∙ ap (names_of c.args.scope.now) c.as_str.ensures) (c.in-Some-Constant.is ∙ ap Some (rw c.in-Some-Constant.is at c.in-Some-Constant.field-0-is)) c.stop-in-Some-Constant.ensures
 
 pub mark_loop-returns-in-None-clause-marked : goal.mark_loop-returns-in-None-clause-marked
 mark_loop-returns-in-None-clause-marked t c = start_none (names_of c.args.scope.now) c.args.marks.now _ c.args.start.now c.args.condition.now c.args.step.now (steps_of c.args.body.now) c.in-Name.name c.in-Name.is c.get-declared.result (c.get-declared.ensures ∙ ap (names_of c.args.scope.now) c.as_str.ensures) c.in-None.is c.stop-in-None.ensures
@@ -164,32 +164,32 @@ pub mark_each_turn-mark_turn-requires : goal.mark_each_turn-mark_turn-requires
 mark_each_turn-mark_turn-requires t c = (search (rules, the_lemmas), (c.loop-turn.invariant.3, (c.loop-turn.invariant.2, c.loop-turn.invariant.4)))
 
 pub mark_each_turn-returns-in-None-clause-marked : goal.mark_each_turn-returns-in-None-clause-marked
-mark_each_turn-returns-in-None-clause-marked t c = λ names a. leads_end (loop_of c.args.header.now) (steps_of c.args.body.now) names (with_name (names_of c.loop-turn.scope) c.args.header.now.name.now.name (Some (Constant c.loop-turn.word c.args.header.now.is_signed))) c.args.first c.loop-turn.word c.loop-turn.turn c.args.marks.now c.loop-turn.marks c.mark_turn.new.marks (omega arith) c.loop-turn.invariant.4 (c.loop-turn.invariant.1 (Some (Constant c.loop-turn.word c.args.header.now.is_signed)) ∙ a (Some (Constant c.loop-turn.word c.args.header.now.is_signed))) (c.loop-turn.invariant.0 names a) (subst (λ (o : Option Word). IsMarkedTurn (loop_of c.args.header.now) (steps_of c.args.body.now) (with_name (names_of c.loop-turn.scope) c.args.header.now.name.now.name (Some (Constant c.loop-turn.word c.args.header.now.is_signed))) o c.loop-turn.marks c.mark_turn.new.marks) c.in-None.is c.in_ok-after.ensures.turn)
+mark_each_turn-returns-in-None-clause-marked t c = λ names a. leads_end (loop_of c.args.header.now) (steps_of c.args.body.now) names (with_name (names_of c.loop-turn.scope) c.args.header.now.name.now.name (Some (Constant c.loop-turn.word 0 c.args.header.now.is_signed))) c.args.first c.loop-turn.word c.loop-turn.turn c.args.marks.now c.loop-turn.marks c.mark_turn.new.marks (omega arith) c.loop-turn.invariant.4 (c.loop-turn.invariant.1 (Some (Constant c.loop-turn.word 0 c.args.header.now.is_signed)) ∙ a (Some (Constant c.loop-turn.word 0 c.args.header.now.is_signed))) (c.loop-turn.invariant.0 names a) (subst (λ (o : Option Word). IsMarkedTurn (loop_of c.args.header.now) (steps_of c.args.body.now) (with_name (names_of c.loop-turn.scope) c.args.header.now.name.now.name (Some (Constant c.loop-turn.word 0 c.args.header.now.is_signed))) o c.loop-turn.marks c.mark_turn.new.marks) c.in-None.is c.in_ok-after.ensures.turn)
 
 pub mark_each_turn-returns-in-None-clause-kept : goal.mark_each_turn-returns-in-None-clause-kept
-mark_each_turn-returns-in-None-clause-kept t c = alike_after (names_of c.loop-turn.scope) (names_of c.args.scope.now) (names_of c.mark_turn.new.scope) c.args.header.now.name.now.name (Some (Constant c.loop-turn.word c.args.header.now.is_signed)) c.in_ok-after.ensures.kept c.loop-turn.invariant.1
+mark_each_turn-returns-in-None-clause-kept t c = alike_after (names_of c.loop-turn.scope) (names_of c.args.scope.now) (names_of c.mark_turn.new.scope) c.args.header.now.name.now.name (Some (Constant c.loop-turn.word 0 c.args.header.now.is_signed)) c.in_ok-after.ensures.kept c.loop-turn.invariant.1
 
 pub mark_each_turn-returns-in-None-clause-declared : goal.mark_each_turn-returns-in-None-clause-declared
-mark_each_turn-returns-in-None-clause-declared t c = some_after (names_of c.loop-turn.scope) (names_of c.mark_turn.new.scope) c.args.header.now.name.now.name (Constant c.loop-turn.word c.args.header.now.is_signed) c.in_ok-after.ensures.kept
+mark_each_turn-returns-in-None-clause-declared t c = some_after (names_of c.loop-turn.scope) (names_of c.mark_turn.new.scope) c.args.header.now.name.now.name (Constant c.loop-turn.word 0 c.args.header.now.is_signed) c.in_ok-after.ensures.kept
 
 pub mark_each_turn-loop-turn-preserved : goal.mark_each_turn-loop-turn-preserved
 mark_each_turn-loop-turn-preserved t c =
-    let next = subst (λ (o : Option Word). IsMarkedTurn (loop_of c.args.header.now) (steps_of c.args.body.now) (with_name (names_of c.loop-turn.scope) c.args.header.now.name.now.name (Some (Constant c.loop-turn.word c.args.header.now.is_signed))) o c.loop-turn.marks c.mark_turn.new.marks) c.in-Some.is c.in_ok-after.ensures.turn in (
-      λ names a. leads_on (loop_of c.args.header.now) (steps_of c.args.body.now) names (with_name (names_of c.loop-turn.scope) c.args.header.now.name.now.name (Some (Constant c.loop-turn.word c.args.header.now.is_signed))) c.args.first c.loop-turn.word c.in-Some.next c.loop-turn.turn c.args.marks.now c.loop-turn.marks c.mark_turn.new.marks (omega arith) c.loop-turn.invariant.4 (c.loop-turn.invariant.1 (Some (Constant c.loop-turn.word c.args.header.now.is_signed)) ∙ a (Some (Constant c.loop-turn.word c.args.header.now.is_signed))) next.1 next.3 (c.loop-turn.invariant.0 names a) next.2,
-      alike_after (names_of c.loop-turn.scope) (names_of c.args.scope.now) (names_of c.mark_turn.new.scope) c.args.header.now.name.now.name (Some (Constant c.loop-turn.word c.args.header.now.is_signed)) c.in_ok-after.ensures.kept c.loop-turn.invariant.1,
-      some_after (names_of c.loop-turn.scope) (names_of c.mark_turn.new.scope) c.args.header.now.name.now.name (Constant c.loop-turn.word c.args.header.now.is_signed) c.in_ok-after.ensures.kept,
+    let next = subst (λ (o : Option Word). IsMarkedTurn (loop_of c.args.header.now) (steps_of c.args.body.now) (with_name (names_of c.loop-turn.scope) c.args.header.now.name.now.name (Some (Constant c.loop-turn.word 0 c.args.header.now.is_signed))) o c.loop-turn.marks c.mark_turn.new.marks) c.in-Some.is c.in_ok-after.ensures.turn in (
+      λ names a. leads_on (loop_of c.args.header.now) (steps_of c.args.body.now) names (with_name (names_of c.loop-turn.scope) c.args.header.now.name.now.name (Some (Constant c.loop-turn.word 0 c.args.header.now.is_signed))) c.args.first c.loop-turn.word c.in-Some.next c.loop-turn.turn c.args.marks.now c.loop-turn.marks c.mark_turn.new.marks (omega arith) c.loop-turn.invariant.4 (c.loop-turn.invariant.1 (Some (Constant c.loop-turn.word 0 c.args.header.now.is_signed)) ∙ a (Some (Constant c.loop-turn.word 0 c.args.header.now.is_signed))) next.1 next.3 (c.loop-turn.invariant.0 names a) next.2,
+      alike_after (names_of c.loop-turn.scope) (names_of c.args.scope.now) (names_of c.mark_turn.new.scope) c.args.header.now.name.now.name (Some (Constant c.loop-turn.word 0 c.args.header.now.is_signed)) c.in_ok-after.ensures.kept c.loop-turn.invariant.1,
+      some_after (names_of c.loop-turn.scope) (names_of c.mark_turn.new.scope) c.args.header.now.name.now.name (Constant c.loop-turn.word 0 c.args.header.now.is_signed) c.in_ok-after.ensures.kept,
       sized_after (names_of c.loop-turn.scope) (names_of c.mark_turn.new.scope) c.args.header.now.name.now.name c.loop-turn.word c.args.header.now.is_signed c.in_ok-after.ensures.kept c.loop-turn.invariant.3,
       next.0,
     )
 
 pub mark_each_turn-returns-clause-marked : goal.mark_each_turn-returns-clause-marked
-mark_each_turn-returns-clause-marked t c = λ names a. leads_none (loop_of c.args.header.now) (steps_of c.args.body.now) names (names_of c.replace.new.self) c.args.first c.loop-turn.word c.loop-turn.turn c.args.marks.now c.loop-turn.marks c.mark_last_test.new.marks (omega arith) c.loop-turn.invariant.4 (((rw c.as_str.ensures at c.replace.ensures.declared) ∙ ap (λ (d : Decl). with_name (names_of c.loop-turn.scope) c.args.header.now.name.now.name (Some d)) c.variable.ensures) ∙ (c.loop-turn.invariant.1 (Some (Constant c.loop-turn.word c.args.header.now.is_signed)) ∙ a (Some (Constant c.loop-turn.word c.args.header.now.is_signed)))) (c.loop-turn.invariant.0 names a) c.mark_last_test.ensures
+mark_each_turn-returns-clause-marked t c = λ names a. leads_none (loop_of c.args.header.now) (steps_of c.args.body.now) names (names_of c.replace.new.self) c.args.first c.loop-turn.word c.loop-turn.turn c.args.marks.now c.loop-turn.marks c.mark_last_test.new.marks (omega arith) c.loop-turn.invariant.4 (((rw c.as_str.ensures at c.replace.ensures.declared) ∙ ap (λ (d : Decl). with_name (names_of c.loop-turn.scope) c.args.header.now.name.now.name (Some d)) c.variable.ensures) ∙ (c.loop-turn.invariant.1 (Some (Constant c.loop-turn.word 0 c.args.header.now.is_signed)) ∙ a (Some (Constant c.loop-turn.word 0 c.args.header.now.is_signed)))) (c.loop-turn.invariant.0 names a) c.mark_last_test.ensures
 
 pub mark_each_turn-returns-clause-kept : goal.mark_each_turn-returns-clause-kept
-mark_each_turn-returns-clause-kept t c = alike_after (names_of c.loop-turn.scope) (names_of c.args.scope.now) (names_of c.replace.new.self) c.args.header.now.name.now.name (Some (Constant c.loop-turn.word c.args.header.now.is_signed)) ((rw c.as_str.ensures at c.replace.ensures.declared) ∙ ap (λ (d : Decl). with_name (names_of c.loop-turn.scope) c.args.header.now.name.now.name (Some d)) c.variable.ensures) c.loop-turn.invariant.1
+mark_each_turn-returns-clause-kept t c = alike_after (names_of c.loop-turn.scope) (names_of c.args.scope.now) (names_of c.replace.new.self) c.args.header.now.name.now.name (Some (Constant c.loop-turn.word 0 c.args.header.now.is_signed)) ((rw c.as_str.ensures at c.replace.ensures.declared) ∙ ap (λ (d : Decl). with_name (names_of c.loop-turn.scope) c.args.header.now.name.now.name (Some d)) c.variable.ensures) c.loop-turn.invariant.1
 
 pub mark_each_turn-returns-clause-declared : goal.mark_each_turn-returns-clause-declared
-mark_each_turn-returns-clause-declared t c = some_after (names_of c.loop-turn.scope) (names_of c.replace.new.self) c.args.header.now.name.now.name (Constant c.loop-turn.word c.args.header.now.is_signed) ((rw c.as_str.ensures at c.replace.ensures.declared) ∙ ap (λ (d : Decl). with_name (names_of c.loop-turn.scope) c.args.header.now.name.now.name (Some d)) c.variable.ensures)
+mark_each_turn-returns-clause-declared t c = some_after (names_of c.loop-turn.scope) (names_of c.replace.new.self) c.args.header.now.name.now.name (Constant c.loop-turn.word 0 c.args.header.now.is_signed) ((rw c.as_str.ensures at c.replace.ensures.declared) ∙ ap (λ (d : Decl). with_name (names_of c.loop-turn.scope) c.args.header.now.name.now.name (Some d)) c.variable.ensures)
 
 pub mark_turn-returns-in-Err-clause-turn : goal.mark_turn-returns-in-Err-clause-turn
 mark_turn-returns-in-Err-clause-turn t c = subst (λ (n : Names). IsMarkedTurn (loop_of c.args.header.now) (steps_of c.args.body.now) n None c.args.marks.now c.stop.new.self) ((rw c.as_str.ensures at c.replace.ensures.declared) ∙ ap (λ (d : Decl). with_name (names_of c.args.scope.now) c.args.header.now.name.now.name (Some d)) c.variable.ensures) (fails_marked (loop_of c.args.header.now) (steps_of c.args.body.now) (names_of c.replace.new.self) c.in-Err.field-0 c.args.marks.now c.stop.new.self c.in-Err.ensures.refused c.stop.ensures)

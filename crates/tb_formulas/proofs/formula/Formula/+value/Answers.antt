@@ -99,16 +99,16 @@ pub computed-returns-in-Select-clause-fits : goal.computed-returns-in-Select-cla
 computed-returns-in-Select-clause-fits t c = λ n h. let f = (opened (widths c.args.store.now) (o.Select c.in-Select.part c.in-Select.place) c.args.self.now n (v.rolls-Select c.in-Select.part c.in-Select.place ∙ sym c.in-Select.is) h) in window_within c.part_from.result _ c.in-Select.part.width _ n c.part_from.ensures f.2
 
 pub computed-value-requires-in-NumberSelect : goal.computed-value-requires-in-NumberSelect
-computed-value-requires-in-NumberSelect t c = (search (rules, the_lemmas), rw c.get-in-NumberSelect.ensures (opened (widths c.args.store.now) (o.NumberSelect c.in-NumberSelect.bits c.in-NumberSelect.width c.in-NumberSelect.place) c.args.self.now c.requires.0 (v.rolls-NumberSelect c.in-NumberSelect.bits c.in-NumberSelect.width c.in-NumberSelect.place ∙ sym c.in-NumberSelect.is) c.requires.1).2)
+computed-value-requires-in-NumberSelect t c = (search (rules, the_lemmas), rw c.get-in-NumberSelect.ensures (opened (widths c.args.store.now) (o.NumberSelect c.in-NumberSelect.bits c.in-NumberSelect.low c.in-NumberSelect.width c.in-NumberSelect.place) c.args.self.now c.requires.0 (v.rolls-NumberSelect c.in-NumberSelect.bits c.in-NumberSelect.low c.in-NumberSelect.width c.in-NumberSelect.place ∙ sym c.in-NumberSelect.is) c.requires.1).2)
 
-pub computed-truncate-requires-in-NumberSelect : goal.computed-truncate-requires-in-NumberSelect
-computed-truncate-requires-in-NumberSelect t c = (opened (widths c.args.store.now) (o.NumberSelect c.in-NumberSelect.bits c.in-NumberSelect.width c.in-NumberSelect.place) c.args.self.now c.requires.0 (v.rolls-NumberSelect c.in-NumberSelect.bits c.in-NumberSelect.width c.in-NumberSelect.place ∙ sym c.in-NumberSelect.is) c.requires.1).0
+pub computed-bits_from-requires : goal.computed-bits_from-requires
+computed-bits_from-requires t c = (opened (widths c.args.store.now) (o.NumberSelect c.in-NumberSelect.bits c.in-NumberSelect.low c.in-NumberSelect.width c.in-NumberSelect.place) c.args.self.now c.requires.0 (v.rolls-NumberSelect c.in-NumberSelect.bits c.in-NumberSelect.low c.in-NumberSelect.width c.in-NumberSelect.place ∙ sym c.in-NumberSelect.is) c.requires.1).0
 
 pub computed-returns-in-NumberSelect-clause-value : goal.computed-returns-in-NumberSelect-clause-value
-computed-returns-in-NumberSelect-clause-value t c = says_number_select c.args.self.now (store_of c.args.store.now) c.in-NumberSelect.bits c.in-NumberSelect.width c.get-in-NumberSelect.result.now c.in-NumberSelect.place c.shift_right.result c.value-in-NumberSelect.result c.truncate-in-NumberSelect.result c.in-NumberSelect.is c.get-in-NumberSelect.ensures c.value-in-NumberSelect.ensures.value c.shift_right.ensures c.truncate-in-NumberSelect.ensures
+computed-returns-in-NumberSelect-clause-value t c = says_number_select c.args.self.now (store_of c.args.store.now) c.in-NumberSelect.bits c.in-NumberSelect.low c.in-NumberSelect.width c.get-in-NumberSelect.result.now c.in-NumberSelect.place c.value-in-NumberSelect.result c.bits_from.result c.in-NumberSelect.is c.get-in-NumberSelect.ensures c.value-in-NumberSelect.ensures.value c.bits_from.ensures
 
 pub computed-returns-in-NumberSelect-clause-fits : goal.computed-returns-in-NumberSelect-clause-fits
-computed-returns-in-NumberSelect-clause-fits t c = λ n h. let f = (opened (widths c.args.store.now) (o.NumberSelect c.in-NumberSelect.bits c.in-NumberSelect.width c.in-NumberSelect.place) c.args.self.now n (v.rolls-NumberSelect c.in-NumberSelect.bits c.in-NumberSelect.width c.in-NumberSelect.place ∙ sym c.in-NumberSelect.is) h) in cut_fits c.truncate-in-NumberSelect.result _ c.in-NumberSelect.width n c.truncate-in-NumberSelect.ensures f.1
+computed-returns-in-NumberSelect-clause-fits t c = λ n h. let f = (opened (widths c.args.store.now) (o.NumberSelect c.in-NumberSelect.bits c.in-NumberSelect.low c.in-NumberSelect.width c.in-NumberSelect.place) c.args.self.now n (v.rolls-NumberSelect c.in-NumberSelect.bits c.in-NumberSelect.low c.in-NumberSelect.width c.in-NumberSelect.place ∙ sym c.in-NumberSelect.is) h) in window_within c.bits_from.result _ c.in-NumberSelect.width _ n c.bits_from.ensures f.1
 
 pub computed-value-requires-in-Extended : goal.computed-value-requires-in-Extended
 computed-value-requires-in-Extended t c = (search (rules, the_lemmas), (c.in-Extended.shape.width, rw c.get-in-Extended.ensures (opened (widths c.args.store.now) (o.Extended c.in-Extended.shape c.in-Extended.to c.in-Extended.inner) c.args.self.now c.requires.0 (v.rolls-Extended c.in-Extended.shape c.in-Extended.to c.in-Extended.inner ∙ sym c.in-Extended.is) c.requires.1).4))
