@@ -7,8 +7,6 @@ mod base;
 #[cfg(test)]
 mod keepers;
 #[cfg(test)]
-mod opening;
-#[cfg(test)]
 mod outside;
 #[cfg(test)]
 mod readers;
