@@ -1,12 +1,12 @@
 -- A table of drivers as a function of the net.
-use Rattle.std.proofs.Common.{◌≡◌, ◌≢◌, ℕ, zero, suc, ◌-◌, ◌<◌, true, List, [], ◌∷◌, ◌++◌, length, get_or, take, set, Option, Some, refl, sym, ◌∙◌, ap, subst, inl, inr, arith}
+use Rattle.std.proofs.Common.{◌≡◌, ◌≢◌, ℕ, zero, suc, ◌+◌, ◌-◌, ◌<◌, max, true, List, [], ◌∷◌, ◌++◌, length, get_or, take, set, Option, Some, refl, sym, ◌∙◌, ap, subst, inl, inr, arith, length-set}
 use Rattle.std.proofs.lemmas.Bool.Decides.{eqb_tells}
 use Rattle.std.proofs.lemmas.List.{get_or-set_same, get_or-set_other, get_or_read}
 use Rattle.netlist_core.specs.declared.drivers.Driver.{Driver}
 use Rattle.netlist_core.specs.declared.drivers.Driver.TheVariants.{Nothing, Source, Cell}
 use Rattle.netlist_core.specs.declared.bit.Bit.{Bit}
 use Rattle.netlist_core.specs.Runs.{input_ports, output_port}
-use Rattle.netlist_core.specs.Marking.{driver_at, with_driver, is_driven, lesser, after_net}
+use Rattle.netlist_core.specs.Marking.{Known, driver_at, with_driver, is_driven, lesser, with_room, after_net}
 
 -- a default at the end is not seen
 reads-push : (table : List Driver) (m : ℕ) → driver_at (table ++ Nothing ∷ []) m ≡ driver_at table m
@@ -30,12 +30,24 @@ driven-unless Nothing h = absurd (h refl)
 driven-unless Source h = refl
 driven-unless (Cell c) h = refl
 
--- the first driver of a net, and a further one
-pub first-driver : (d : Driver) (n : ℕ) (table : List Driver) (twice : Option ℕ) → n < length table → driver_at table n ≡ Nothing → record { driver = driver_at (set table n d); twice = twice } ≡ after_net d n (record { driver = driver_at table; twice = twice })
-first-driver d n table twice inside is = rw (set-is table n d inside, is) refl
+-- the first driver of a net, and a further one, where there is room
+marked-first : (d : Driver) (n : ℕ) (known : Known) → known.driver n ≡ Nothing → after_net d n known ≡ record { driver = with_driver known.driver n d; twice = known.twice; nets = max known.nets (n + 1) }
+marked-first d n known is = rw is refl
 
-pub further-driver : (d : Driver) (n : ℕ) (table : List Driver) (twice : Option ℕ) → driver_at table n ≢ Nothing → record { driver = driver_at table; twice = Some (lesser twice n) } ≡ after_net d n (record { driver = driver_at table; twice = twice })
-further-driver d n table twice other = rw (driven-unless (driver_at table n) other) refl
+marked-further : (d : Driver) (n : ℕ) (known : Known) → known.driver n ≢ Nothing → after_net d n known ≡ record { driver = known.driver; twice = Some (lesser known.twice n); nets = max known.nets (n + 1) }
+marked-further d n known other = rw (driven-unless (known.driver n) other) refl
+
+pub first-driver : (d : Driver) (n : ℕ) (table : List Driver) (twice : Option ℕ) (old : Known) → n < length table → driver_at table n ≡ Nothing → record { driver = driver_at table; twice = twice; nets = length table } ≡ with_room n old → record { driver = driver_at (set table n d); twice = twice; nets = length (set table n d) } ≡ after_net d n old
+first-driver d n table twice old inside is room =
+    let same : driver_at table ≡ old.driver = ap (λ (k : Known). k.driver) room in
+    let nothing : old.driver n ≡ Nothing = sym (ap (λ (f : ℕ → Driver). f n) same) ∙ is in
+    rw (set-is table n d inside, length-set table n d) (ap (λ (k : Known). record { driver = with_driver k.driver n d; twice = k.twice; nets = k.nets }) room ∙ sym (marked-first d n old nothing))
+
+pub further-driver : (d : Driver) (n : ℕ) (table : List Driver) (twice : Option ℕ) (old : Known) → driver_at table n ≢ Nothing → record { driver = driver_at table; twice = twice; nets = length table } ≡ with_room n old → record { driver = driver_at table; twice = Some (lesser twice n); nets = length table } ≡ after_net d n old
+further-driver d n table twice old other room =
+    let same : driver_at table ≡ old.driver = ap (λ (k : Known). k.driver) room in
+    let driven : old.driver n ≢ Nothing = subst (λ (f : ℕ → Driver). f n ≢ Nothing) same other in
+    ap (λ (k : Known). record { driver = k.driver; twice = Some (lesser k.twice n); nets = k.nets }) room ∙ sym (marked-further d n old driven)
 
 -- what indexing the table gives
 pub read-nothing : (table : List Driver) (n : ℕ) (x : Driver) → x ≡ get_or table n x → x ≡ Nothing → driver_at table n ≡ Nothing

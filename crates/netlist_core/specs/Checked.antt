@@ -119,7 +119,7 @@ IsRefused netlist Memory = Unit {0}
 
 -- What a netlist that passes has.
 
--- the parts, the order of the cells, and a number above all nets
+-- the parts, the order of the cells, and the number past the greatest net that is driven
 pub record Plan : Type 0 where
   pub raw : RawNetlist
   pub order : List ℕ
@@ -131,3 +131,4 @@ pub record IsSound (plan : Plan) : Type 0 where
   pub loops : Never (IsOnLoop plan.raw)
   pub order : IsOrder plan.raw plan.order
   pub below : (n : ℕ) → 1 ≤ drivers plan.raw n → n < plan.nets
+  pub last : (n : ℕ) → n + 1 ≡ plan.nets → 1 ≤ drivers plan.raw n

@@ -1,10 +1,10 @@
 //! What drives each net.
 //!
 //! `table` has for each net the first bit that drives it, of inputs, registers and cells in this order, and `twice`
-//! is the least net that has another. A net past the table's end is driven by nothing.
+//! is the least net that has another. A net past the table's end is driven by nothing, and the last net in it is driven.
 ghost use Rattle.std.specs.Prelude.{◌≡◌, ◌+◌, ◌<◌, ◌≤◌, OnOk, IfOk, length, vec_len};
 ghost use Rattle.netlist_core.specs.Runs.{bits_at, d_bits, input_ports, output_port};
-ghost use Rattle.netlist_core.specs.Marking.{Known, known_of, driver_at, is_driven, lesser, after_net, after_bits, after_ports, after_registers, after_cells, all_known, undriven_net, undriven_bits, undriven_at, undriven_cells, all_undriven};
+ghost use Rattle.netlist_core.specs.Marking.{Known, known_of, driver_at, is_driven, lesser, with_room, after_net, after_bits, after_ports, after_registers, after_cells, all_known, undriven_net, undriven_bits, undriven_at, undriven_cells, all_undriven};
 
 use crate::bit::{Bit, BitList};
 use crate::cell::{Cell, inputs, output};
@@ -57,7 +57,8 @@ impl Drivers {
 
     /// The table.
     pub(crate) fn table(&self) -> &[Driver]
-        ensures { driver_at result.now ≡ (known_of self.now).driver }
+        ensures drivers { driver_at result.now ≡ (known_of self.now).driver }
+        ensures nets { length result.now ≡ (known_of self.now).nets }
     {
         self.table.as_slice()
     }
@@ -72,7 +73,7 @@ impl Drivers {
     /// Makes the table so long that it has this net.
     fn make_room(&mut self, net: usize) -> Result<(), AllocError>
         ensures room { OnOk result (net < length self.new.table.items) }
-        ensures known { OnOk result (known_of self.new ≡ known_of self.old) }
+        ensures known { OnOk result (known_of self.new ≡ with_room net (known_of self.old)) }
     {
         while self.table.len() <= net {
             self.table.push(Driver::Nothing)?;
