@@ -29,6 +29,7 @@ const_answer (constant.Unknown span) = Unknown span
 const_answer (constant.NotConstant span) = NotConstant span
 const_answer (constant.DivideByZero span) = DivideByZero span
 const_answer (constant.TooWide span) = TooWide span
+const_answer (constant.SystemFunction span) = Unsupported span feature.SystemFunction
 
 -- what is wrong in an expression, or not supported in it
 abbrev pub fault_answer : Span → Cause → ElabError

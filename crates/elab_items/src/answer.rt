@@ -62,6 +62,7 @@ fn const_answer(error: ConstError) -> ElabError
         ConstError::NotConstant(span) => ElabError::NotConstant(span),
         ConstError::DivideByZero(span) => ElabError::DivideByZero(span),
         ConstError::TooWide(span) => ElabError::TooWide(span),
+        ConstError::SystemFunction(span) => ElabError::Unsupported(span, Feature::SystemFunction),
     }
 }
 

@@ -59,6 +59,7 @@ pub(crate) fn of_const(error: ConstError) -> Refusal
         ConstError::NotConstant(span) => wrong(Cause::NotConstant, span),
         ConstError::DivideByZero(span) => wrong(Cause::DivideByZero, span),
         ConstError::TooWide(span) => wrong(Cause::TooWide, span),
+        ConstError::SystemFunction(span) => wrong(Cause::SystemFunction, span),
     }
 }
 

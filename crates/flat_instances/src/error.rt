@@ -53,6 +53,7 @@ fn const_place(error: ConstError) -> Span
         ConstError::NotConstant(span) => span,
         ConstError::DivideByZero(span) => span,
         ConstError::TooWide(span) => span,
+        ConstError::SystemFunction(span) => span,
     }
 }
 

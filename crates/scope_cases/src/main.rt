@@ -39,6 +39,7 @@ fn put_const_error(page: &mut Page, error: ConstError) {
         ConstError::NotConstant(place) => put_at(page, "NotConstant", place),
         ConstError::DivideByZero(place) => put_at(page, "DivideByZero", place),
         ConstError::TooWide(place) => put_at(page, "TooWide", place),
+        ConstError::SystemFunction(place) => put_at(page, "SystemFunction", place),
     }
 }
 

@@ -23,6 +23,7 @@ pub fn of_const(error: ConstError) -> BenchFault
         ConstError::NotConstant(span) => wrong(Cause::NotConstant, span),
         ConstError::DivideByZero(span) => wrong(Cause::DivideByZero, span),
         ConstError::TooWide(span) => wrong(Cause::TooWide, span),
+        ConstError::SystemFunction(span) => wrong(Cause::SystemFunction, span),
     }
 }
 

@@ -45,7 +45,7 @@ least_at cause spans = least (map (fault cause) spans)
 
 abbrev pub const_error_of : Cause → Span → ConstError
 const_error_of c.Unknown span = k.Unknown span
-const_error_of c.SystemFunction span = k.Unknown span
+const_error_of c.SystemFunction span = k.SystemFunction span
 const_error_of c.DivideByZero span = k.DivideByZero span
 const_error_of c.TooWide span = k.TooWide span
 const_error_of c.RangeForm span = k.TooWide span

@@ -42,6 +42,8 @@ pub enum ConstError {
     NotConstant(Span),
     DivideByZero(Span),
     TooWide(Span),
+    /// A system function that has no meaning here.
+    SystemFunction(Span),
 }
 
 impl Cause {
@@ -83,7 +85,8 @@ impl Fault {
         ensures { result ≡ const_error self }
     {
         match self.cause {
-            Cause::Unknown | Cause::SystemFunction => ConstError::Unknown(self.span),
+            Cause::Unknown => ConstError::Unknown(self.span),
+            Cause::SystemFunction => ConstError::SystemFunction(self.span),
             Cause::DivideByZero => ConstError::DivideByZero(self.span),
             Cause::TooWide | Cause::RangeForm => ConstError::TooWide(self.span),
             Cause::NotConstant | Cause::DivideOrPower | Cause::IndexedBase => {
