@@ -12,8 +12,8 @@ use Rattle.vlog_meaning.specs.declared.scope.Decl.{Decl}
 use Rattle.vlog_meaning.specs.declared.scope.Decl.TheVariants.{Signal, Constant}
 use Rattle.vlog_meaning.specs.Integers.{natural}
 use Rattle.vlog_meaning.specs.Operators.{IsSized}
-use Rattle.vlog_meaning.specs.Scopes.{Names, nothing, decl_low, decl_shape}
-use Rattle.vlog_meaning.specs.Senses.{sense, own, constant_integer, part_width, name_bits, part_bits, is_among, is_empty, IsWhole}
+use Rattle.vlog_meaning.specs.Scopes.{Names, decl_low, decl_shape}
+use Rattle.vlog_meaning.specs.Senses.{sense, constant_integer, part_width, name_bits, part_bits, is_among, is_empty, IsWhole}
 use Rattle.vlog_effects.specs.LeftSides.{Select, Whole, Bit, Range, Indexed, Part, Vector, vector_of, select_base, select_width, bit_at, bits_from, places, parts_of, part_vector, concatenated}
 use Rattle.vlog_effects.specs.Latches.{stands_in, is_fixed, part_covers, parts_cover}
 use Rattle.vlog_effects.proofs.Folds.{parts-name, parts-bit, parts-range, parts-indexed, parts-concatenation}
@@ -132,13 +132,13 @@ module _ (names : Names) (left : LeftSide) (n i : ℕ) (old new : Bool) where
   pub cover_name : (k : Identifier) → left ≡ lv.Name k → new ≡ (old || name_bits (names k.name) n i) → new ≡ (old || parts_cover names (parts_of left) n i)
   cover_name k is e = let p : Part = record { name = k; select = Whole } in one_part p (name_bits (names k.name) n i) (ap parts_of is ∙ parts-name k) (whole_covers names p (names k.name) n i refl) e
 
-  pub cover_bit : (k : Identifier) (at : Span) (index : Expr) (place : ℤ) → left ≡ lv.BitSelect k at index → is_empty (sense names index).signals ≡ true → place ≡ pos (own nothing (sense names index)) → new ≡ (old || part_bits (names k.name) (place -ℤ pos (decl_low (names k.name))) 1 n i) → new ≡ (old || parts_cover names (parts_of left) n i)
+  pub cover_bit : (k : Identifier) (at : Span) (index : Expr) (place : ℤ) → left ≡ lv.BitSelect k at index → is_empty (sense names index).signals ≡ true → place ≡ constant_integer (sense names index) → new ≡ (old || part_bits (names k.name) (place -ℤ pos (decl_low (names k.name))) 1 n i) → new ≡ (old || parts_cover names (parts_of left) n i)
   cover_bit k at index place is fixed at_place e = let p : Part = record { name = k; select = Bit at index } in one_part p (part_bits (names k.name) (place -ℤ pos (decl_low (names k.name))) 1 n i) (ap parts_of is ∙ parts-bit k at index) (fixed_covers names p (names k.name) place 1 n i fixed (λ v. sym at_place) (λ v. refl)) e
 
   pub cover_part : (k : Identifier) (at : Span) (msb lsb : Expr) (place : ℤ) (size : ℕ) → left ≡ lv.PartSelect k at msb lsb → place ≡ constant_integer (sense names lsb) → size ≡ part_width (constant_integer (sense names msb)) (constant_integer (sense names lsb)) → new ≡ (old || part_bits (names k.name) (place -ℤ pos (decl_low (names k.name))) size n i) → new ≡ (old || parts_cover names (parts_of left) n i)
   cover_part k at msb lsb place size is at_place sized e = let p : Part = record { name = k; select = Range at msb lsb } in one_part p (part_bits (names k.name) (place -ℤ pos (decl_low (names k.name))) size n i) (ap parts_of is ∙ parts-range k at msb lsb) (fixed_covers names p (names k.name) place size n i refl (λ v. sym at_place) (λ v. sym sized)) e
 
-  pub cover_indexed : (k : Identifier) (at : Span) (base count : Expr) (place : ℤ) (size : ℕ) → left ≡ lv.IndexedPartSelect k at base count → is_empty (sense names base).signals ≡ true → place ≡ pos (own nothing (sense names base)) → size ≡ natural (constant_integer (sense names count)) → new ≡ (old || part_bits (names k.name) (place -ℤ pos (decl_low (names k.name))) size n i) → new ≡ (old || parts_cover names (parts_of left) n i)
+  pub cover_indexed : (k : Identifier) (at : Span) (base count : Expr) (place : ℤ) (size : ℕ) → left ≡ lv.IndexedPartSelect k at base count → is_empty (sense names base).signals ≡ true → place ≡ constant_integer (sense names base) → size ≡ natural (constant_integer (sense names count)) → new ≡ (old || part_bits (names k.name) (place -ℤ pos (decl_low (names k.name))) size n i) → new ≡ (old || parts_cover names (parts_of left) n i)
   cover_indexed k at base count place size is fixed at_place sized e = let p : Part = record { name = k; select = Indexed at base count } in one_part p (part_bits (names k.name) (place -ℤ pos (decl_low (names k.name))) size n i) (ap parts_of is ∙ parts-indexed k at base count) (fixed_covers names p (names k.name) place size n i fixed (λ v. sym at_place) (λ v. sym sized)) e
 
   pub cover_bit_none : (k : Identifier) (at : Span) (index : Expr) → left ≡ lv.BitSelect k at index → is_empty (sense names index).signals ≡ false → new ≡ old → new ≡ (old || parts_cover names (parts_of left) n i)

@@ -9,9 +9,9 @@ use Rattle.vlog_syntax.specs.declared.operator.BinaryOperator.{BinaryOperator}
 use Rattle.vlog_syntax.specs.declared.expr.Expr.{Expr}
 use Rattle.vlog_syntax.specs.declared.expr.Expr.TheVariants as v
 use Rattle.vlog_meaning.specs.declared.scope.Decl.{Decl}
-use Rattle.vlog_meaning.specs.Scopes.{Names, nothing, decl_low}
+use Rattle.vlog_meaning.specs.Scopes.{Names, decl_low}
 use Rattle.vlog_meaning.specs.Integers.{natural}
-use Rattle.vlog_meaning.specs.Senses.{Sense, sense, senses, own, constant_integer, part_width, name_bits, part_bits, select_bits, all_reads, is_empty}
+use Rattle.vlog_meaning.specs.Senses.{Sense, sense, senses, constant_integer, part_width, name_bits, part_bits, select_bits, all_reads, is_empty}
 use Rattle.vlog_meaning.proofs.Steps as step
 
 or_end : (b : Bool) → (b || false) ≡ b
@@ -80,7 +80,7 @@ pub more_reads : (names : Names) (es : List Expr) (k : ℕ) (x : Expr) (n i : �
 more_reads names es k x n i old before after is h e f = f ∙ ap (λ (b : Bool). b || (sense names x).reads n i) e ∙ or_both old (all_reads (senses names (take k es)) n i) ((sense names x).reads n i) ∙ ap (λ (b : Bool). old || b) (sym (reads_take names es k x n i is h))
 
 -- a select at a constant place, and at another
-pub select_constant : (d : Option Decl) (x : Sense) (size n i : ℕ) (place : ℤ) (old new : Bool) → is_empty x.signals ≡ true → place ≡ pos (own nothing x) → new ≡ (old || part_bits d (place -ℤ pos (decl_low d)) size n i) → new ≡ (old || select_bits d x size n i)
+pub select_constant : (d : Option Decl) (x : Sense) (size n i : ℕ) (place : ℤ) (old new : Bool) → is_empty x.signals ≡ true → place ≡ constant_integer x → new ≡ (old || part_bits d (place -ℤ pos (decl_low d)) size n i) → new ≡ (old || select_bits d x size n i)
 select_constant d x size n i place old new is at_place e = rw is (e ∙ ap (λ (p : ℤ). old || part_bits d (p -ℤ pos (decl_low d)) size n i) at_place)
 
 pub select_other : (d : Option Decl) (x : Sense) (size n i : ℕ) (old mid new : Bool) → is_empty x.signals ≡ false → mid ≡ (old || name_bits d n i) → new ≡ (mid || x.reads n i) → new ≡ (old || select_bits d x size n i)

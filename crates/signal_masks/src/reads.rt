@@ -3,8 +3,8 @@
 ghost use Rattle.std.specs.Prelude.{◌≡◌, ◌≤◌, ◌^◌, ℕ, ◌&&◌, ◌||◌, pos, ◌-ℤ◌, nat_eq, nat_lt, IsTrue, OnOk};
 ghost use Rattle.vlog_meaning.specs.Integers.{bound_integer};
 ghost use Rattle.vlog_meaning.specs.Operators.{IsSized};
-ghost use Rattle.vlog_meaning.specs.Scopes.{names_of, nothing, decl_shape, decl_low};
-ghost use Rattle.vlog_meaning.specs.Senses.{sense, senses, own, constant_integer, name_bits, part_bits, select_bits, all_reads, is_empty, IsWhole, AreWhole};
+ghost use Rattle.vlog_meaning.specs.Scopes.{names_of, decl_shape, decl_low};
+ghost use Rattle.vlog_meaning.specs.Senses.{sense, senses, constant_integer, name_bits, part_bits, select_bits, all_reads, is_empty, IsWhole, AreWhole};
 ghost use Rattle.signal_masks.specs.Masks.{bits_in};
 
 use crate::mask::{between, part};
@@ -21,18 +21,6 @@ pub(crate) fn integer_of(expr: &Expr, scope: &Scope) -> Bound
 {
     let shape = shape_of(expr, scope);
     Bound::of(shape, value_of(expr, scope, &[], shape))
-}
-
-/// The place that a constant index is.
-pub(crate) fn index_of(expr: &Expr, scope: &Scope) -> Bound
-    requires { IsWhole (names_of scope.now) expr.now }
-    ensures value { bound_integer result ≡ pos (own nothing (sense (names_of scope.now) expr.now)) }
-    ensures small { IsTrue result.is_negative → result.magnitude ≤ 2 ^ 127 }
-{
-    Bound {
-        is_negative: false,
-        magnitude: value_of(expr, scope, &[], shape_of(expr, scope)),
-    }
 }
 
 /// Whether an expression reads no signal.
@@ -99,7 +87,7 @@ fn select_reads(
     ensures { OnOk result ((n i : ℕ) → bits_in masks.new n i ≡ (bits_in masks.old n i || select_bits (names_of scope.now name.now.name) (sense (names_of scope.now) index.now) size n i)) }
 {
     if is_constant(index, scope) {
-        part_bits(name, index_of(index, scope), size, scope, masks)?;
+        part_bits(name, integer_of(index, scope), size, scope, masks)?;
     } else {
         name_bits(name, scope, masks)?;
         reads_of(index, scope, masks)?;

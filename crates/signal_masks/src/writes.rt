@@ -9,7 +9,7 @@ ghost use Rattle.signal_masks.specs.Masks.{bits_in};
 ghost use Rattle.signal_masks.specs.Parts.{AreFit};
 
 use crate::masks::Masks;
-use crate::reads::{index_of, integer_of, is_constant, name_bits, part_bits};
+use crate::reads::{integer_of, is_constant, name_bits, part_bits};
 use std::alloc::AllocError;
 use vlog_meaning::{Bound, Scope};
 use vlog_syntax::{Expr, LeftSide};
@@ -66,7 +66,7 @@ pub fn covered_by(left: &LeftSide, scope: &Scope, masks: &mut Masks) -> Result<(
         LeftSide::BitSelect(name, _, index) => {
             let index = index.get();
             if is_constant(index, scope) {
-                part_bits(name, index_of(index, scope), 1, scope, masks)?;
+                part_bits(name, integer_of(index, scope), 1, scope, masks)?;
             }
         }
         LeftSide::PartSelect(name, _, msb, lsb) => {
@@ -78,7 +78,7 @@ pub fn covered_by(left: &LeftSide, scope: &Scope, masks: &mut Masks) -> Result<(
             let base = base.get();
             if is_constant(base, scope) {
                 let size = count_of(count.get(), scope);
-                part_bits(name, index_of(base, scope), size, scope, masks)?;
+                part_bits(name, integer_of(base, scope), size, scope, masks)?;
             }
         }
         LeftSide::Concatenation(_, parts) => covered_by_all(parts.as_slice(), scope, masks)?,

@@ -11,7 +11,7 @@ use Rattle.vlog_meaning.specs.declared.scope.Decl.{Decl}
 use Rattle.vlog_meaning.specs.declared.scope.Decl.TheVariants.{Signal, Constant}
 use Rattle.vlog_meaning.specs.Scopes.{Names}
 use Rattle.vlog_meaning.specs.Integers.{natural}
-use Rattle.vlog_meaning.specs.Senses.{sense, own}
+use Rattle.vlog_meaning.specs.Senses.{sense, index_of}
 use Rattle.vlog_effects.specs.Expressions.{bound_of}
 
 -- what of a name is written
@@ -59,12 +59,12 @@ select_width names v (Bit at i) = 1
 select_width names v (Range at msb lsb) = natural (bound_of names msb -ℤ bound_of names lsb +ℤ pos 1)
 select_width names v (Indexed at base count) = natural (bound_of names count)
 
--- the declared number of the lowest bit that it writes; an index stands for itself, and is read as unsigned
+-- the declared number of the lowest bit that it writes; an index stands for itself, and is below 0 where it is signed and negative
 abbrev pub select_base : Names → (ℕ → ℕ) → Vector → Select → ℤ
 select_base names store v Whole = pos v.low
-select_base names store v (Bit at i) = pos (own store (sense names i))
+select_base names store v (Bit at i) = index_of store (sense names i)
 select_base names store v (Range at msb lsb) = bound_of names lsb
-select_base names store v (Indexed at base count) = pos (own store (sense names base))
+select_base names store v (Indexed at base count) = index_of store (sense names base)
 
 -- the bit of a vector with this declared number; there is none outside the range
 abbrev pub bit_at : Vector → ℤ → Option ℕ

@@ -19,8 +19,8 @@ use Rattle.vlog_meaning.specs.declared.shapes.Shape.{Shape}
 use Rattle.vlog_meaning.specs.Functions.{function_of}
 use Rattle.vlog_meaning.specs.Integers.{window, natural}
 use Rattle.vlog_meaning.specs.Operators.{sizing, left_context, right_context, operand_context}
-use Rattle.vlog_meaning.specs.Scopes.{Names, Store, nothing, decl_low, decl_value, store_of, word_bits, FitsWidth, FitsWord, IsWithin, AreWithin}
-use Rattle.vlog_meaning.specs.Senses.{Bits, Sense, sense, senses, step, own, either, all_reads, name_bits, part_bits, select_bits, is_among, constant_integer, joined, call_value}
+use Rattle.vlog_meaning.specs.Scopes.{Names, Store, decl_low, decl_value, store_of, word_bits, FitsWidth, FitsWord, IsWithin, AreWithin}
+use Rattle.vlog_meaning.specs.Senses.{Bits, Sense, sense, senses, step, index_of, either, all_reads, name_bits, part_bits, select_bits, is_among, constant_integer, joined, call_value}
 use Rattle.vlog_meaning.specs.Laws.{Agree, RestsOnReads, WordsAreWithin}
 use Rattle.vlog_meaning.proofs.Settled.{settled}
 use Rattle.vlog_meaning.proofs.Windows.{window_same}
@@ -64,12 +64,12 @@ part_same None from size s t within within_too agree = refl
 
 module _ (names : Names) (s t : Store) (within : AreWithin names s) (within_too : AreWithin names t) where
   -- a select, whose place is constant or not
-  select_same : (d : Option Decl) (x : Expr) (size : ℕ) → IsWithin s d → IsWithin t d → Rests names x → Agree (select_bits d (sense names x) size) s t → window (pos (own s (sense names x)) -ℤ pos (decl_low d)) size (decl_value s d) ≡ window (pos (own t (sense names x)) -ℤ pos (decl_low d)) size (decl_value t d)
+  select_same : (d : Option Decl) (x : Expr) (size : ℕ) → IsWithin s d → IsWithin t d → Rests names x → Agree (select_bits d (sense names x) size) s t → window (index_of s (sense names x) -ℤ pos (decl_low d)) size (decl_value s d) ≡ window (index_of t (sense names x) -ℤ pos (decl_low d)) size (decl_value t d)
   select_same d x size w w_too rests agree = go (sense names x).signals refl
     where
-      go : (signals : List Span) → (sense names x).signals ≡ signals → window (pos (own s (sense names x)) -ℤ pos (decl_low d)) size (decl_value s d) ≡ window (pos (own t (sense names x)) -ℤ pos (decl_low d)) size (decl_value t d)
+      go : (signals : List Span) → (sense names x).signals ≡ signals → window (index_of s (sense names x) -ℤ pos (decl_low d)) size (decl_value s d) ≡ window (index_of t (sense names x) -ℤ pos (decl_low d)) size (decl_value t d)
       go [] is =
-          let bits : Agree (part_bits d (pos (own nothing (sense names x)) -ℤ pos (decl_low d)) size) s t = rw is at agree in
+          let bits : Agree (part_bits d (constant_integer (sense names x) -ℤ pos (decl_low d)) size) s t = rw is at agree in
           rw (settled names x is s (sense names x).shape, settled names x is t (sense names x).shape) (part_same d _ size s t w w_too bits)
       go (y ∷ ys) is =
           let bits : Agree (either (name_bits d) (sense names x).reads) s t = rw is at agree in

@@ -42,9 +42,13 @@ pub record Sense : Type 0 where
 abbrev pub own : Store → Sense → ℕ
 own store a = a.value store a.shape
 
+-- the integer that it is by its sign, as an index
+abbrev pub index_of : Store → Sense → ℤ
+index_of store a = integer a.shape (own store a)
+
 -- the integer that a constant is
 abbrev pub constant_integer : Sense → ℤ
-constant_integer a = integer a.shape (own nothing a)
+constant_integer a = index_of nothing a
 
 abbrev pub fault : Cause → Span → Fault
 fault cause span = record { cause = cause; span = span }
@@ -138,9 +142,9 @@ binary_step op i j store c =
 abbrev pub value_step : Names → Expr-F Sense → Store → Shape → ℕ
 value_step names (e.Number n) store c = taken (record { width = n.value.width; is_signed = n.is_signed }) c n.value.bits
 value_step names (e.Name n) store c = taken (decl_shape (names n.name)) c (decl_value store (names n.name))
-value_step names (e.BitSelect n s i) store c = window (pos (own store i) -ℤ pos (decl_low (names n.name))) 1 (decl_value store (names n.name))
+value_step names (e.BitSelect n s i) store c = window (index_of store i -ℤ pos (decl_low (names n.name))) 1 (decl_value store (names n.name))
 value_step names (e.PartSelect n s msb lsb) store c = window (constant_integer lsb -ℤ pos (decl_low (names n.name))) (part_width (constant_integer msb) (constant_integer lsb)) (decl_value store (names n.name))
-value_step names (e.IndexedPartSelect n s base width) store c = window (pos (own store base) -ℤ pos (decl_low (names n.name))) (natural (constant_integer width)) (decl_value store (names n.name))
+value_step names (e.IndexedPartSelect n s base width) store c = window (index_of store base -ℤ pos (decl_low (names n.name))) (natural (constant_integer width)) (decl_value store (names n.name))
 value_step names (e.Parenthesized s i) store c = i.value store c
 value_step names (e.Unary s op i) store c = unary_value op (operand_context op i.shape c) (i.value store (operand_context op i.shape c))
 value_step names (e.Binary s op i j) store c = binary_step op i j store c
@@ -181,7 +185,7 @@ part_bits decl from size other at = name_bits decl other at && is_among from siz
 abbrev pub select_bits : Option Decl → Sense → ℕ → Bits
 select_bits decl place size =
     if is_empty place.signals
-    then part_bits decl (pos (own nothing place) -ℤ pos (decl_low decl)) size
+    then part_bits decl (constant_integer place -ℤ pos (decl_low decl)) size
     else either (name_bits decl) place.reads
 
 abbrev pub reads_step : Names → Expr-F Sense → Bits

@@ -30,9 +30,11 @@ pub use faults::{constant_fault, fault_in};
 pub use function::{Function, function_of};
 pub use integer::{clog2, extend, repeated, shift_left, shift_right, truncate};
 pub use laws::{names_declared_again, values_rest_on_reads};
-pub use operator::{Sizing, binary_value, operand_context, sizing_of, unary_value};
+pub use operator::{
+    Sizing, binary_value, is_reduction, operand_context, sizing_of, unary_value,
+};
 pub use scope::{Decl, Scope, ScopeError};
 pub use shapes::Shape;
 pub use signals::signal_in;
-pub use values::{shape_of, value_of};
+pub use values::{index_of, shape_of, value_of};
 pub use zeros::zero_in;

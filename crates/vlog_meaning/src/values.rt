@@ -5,7 +5,7 @@ ghost use Rattle.std.specs.Prelude.{◌≡◌, ◌≤◌, ◌<◌, ◌^◌, [], 
 ghost use Rattle.vlog_meaning.specs.Integers.{integer, natural, window, bound_integer};
 ghost use Rattle.vlog_meaning.specs.Operators.{IsSized};
 ghost use Rattle.vlog_meaning.specs.Scopes.{Names, names_of, store_of, FitsSignals, decl_shape, decl_value};
-ghost use Rattle.vlog_meaning.specs.Senses.{Sense, sense, senses, own, constant_integer, IsWhole, AreWhole, IsWholeCall, IsContext, total_width, joined, repeated, call_shape, call_value, part_width};
+ghost use Rattle.vlog_meaning.specs.Senses.{Sense, sense, senses, own, index_of, constant_integer, IsWhole, AreWhole, IsWholeCall, IsContext, total_width, joined, repeated, call_shape, call_value, part_width};
 
 use crate::bound::{Bound, count, part_width, window};
 use crate::function::{Function, function_of};
@@ -143,6 +143,17 @@ pub fn own_value(expr: &Expr, scope: &Scope, store: &[Word]) -> u128
     value_of(expr, scope, store, shape_of(expr, scope))
 }
 
+/// The integer that an expression is by its sign, as an index.
+#[cycle(value)]
+pub fn index_of(expr: &Expr, scope: &Scope, store: &[Word]) -> Bound
+    requires whole { IsWhole (names_of scope.now) expr.now }
+    requires stored { FitsSignals (names_of scope.now) store.now }
+    ensures value { bound_integer result ≡ index_of (store_of store.now) (sense (names_of scope.now) expr.now) }
+    ensures small { IsTrue result.is_negative → result.magnitude ≤ 2 ^ 127 }
+{
+    Bound::of(shape_of(expr, scope), own_value(expr, scope, store))
+}
+
 /// The integer that a constant is.
 #[cycle(value)]
 pub fn bound_of(expr: &Expr, scope: &Scope) -> Bound
@@ -202,16 +213,9 @@ pub fn value_of(expr: &Expr, scope: &Scope, store: &[Word], context: Shape) -> u
         }
         Expr::Parenthesized(_, inner) => value_of(inner.get(), scope, store, context),
         Expr::BitSelect(name, _, index) => {
-            let place = Bound {
-                is_negative: false,
-                magnitude: own_value(index.get(), scope, store),
-            };
-            window(
-                name_value(scope, store, name),
-                place,
-                scope.low_of(name.name.as_str()),
-                1,
-            )
+            let place = index_of(index.get(), scope, store);
+            let whole = name_value(scope, store, name);
+            window(whole, place, scope.low_of(name.name.as_str()), 1)
         }
         Expr::PartSelect(name, _, msb, lsb) => {
             let msb = bound_of(msb.get(), scope);
@@ -226,16 +230,9 @@ pub fn value_of(expr: &Expr, scope: &Scope, store: &[Word], context: Shape) -> u
         }
         Expr::IndexedPartSelect(name, _, base, width) => {
             let width = count_of(width.get(), scope) as u8;
-            let place = Bound {
-                is_negative: false,
-                magnitude: own_value(base.get(), scope, store),
-            };
-            window(
-                name_value(scope, store, name),
-                place,
-                scope.low_of(name.name.as_str()),
-                width,
-            )
+            let place = index_of(base.get(), scope, store);
+            let whole = name_value(scope, store, name);
+            window(whole, place, scope.low_of(name.name.as_str()), width)
         }
         Expr::Unary(_, op, operand) => {
             let at = operand_context(*op, shape_of(operand.get(), scope), context);

@@ -99,14 +99,14 @@ reads_of-returns-in_ok-reads_of_all-in-MultipleConcatenation t c = λ n i. reads
 pub reads_of-returns-in_ok-reads_of_all-in-SystemFunctionCall : goal.reads_of-returns-in_ok-reads_of_all-in-SystemFunctionCall
 reads_of-returns-in_ok-reads_of_all-in-SystemFunctionCall t c = λ n i. reads_call (names_of c.args.scope.now) c.args.expr.now n i c.in-SystemFunctionCall.field-0 c.in-SystemFunctionCall.arguments _ _ c.in-SystemFunctionCall.is ((rw c.as_slice-in-SystemFunctionCall.ensures at c.in_ok-reads_of_all-in-SystemFunctionCall.ensures) n i)
 
-pub select_reads-index_of-requires : goal.select_reads-index_of-requires
-select_reads-index_of-requires t c = c.requires.whole
+pub select_reads-integer_of-requires : goal.select_reads-integer_of-requires
+select_reads-integer_of-requires t c = c.requires.whole
 
 pub select_reads-part_bits-requires-clause-sized : goal.select_reads-part_bits-requires-clause-sized
 select_reads-part_bits-requires-clause-sized t c = c.requires.sized
 
 pub select_reads-part_bits-requires-clause-small : goal.select_reads-part_bits-requires-clause-small
-select_reads-part_bits-requires-clause-small t c = c.index_of.ensures.small
+select_reads-part_bits-requires-clause-small t c = c.integer_of.ensures.small
 
 pub select_reads-name_bits-requires : goal.select_reads-name_bits-requires
 select_reads-name_bits-requires t c = c.requires.sized
@@ -115,7 +115,7 @@ pub select_reads-reads_of-requires : goal.select_reads-reads_of-requires
 select_reads-reads_of-requires t c = (search (rules, the_lemmas), c.requires.whole)
 
 pub select_reads-returns-in_ok-part_bits : goal.select_reads-returns-in_ok-part_bits
-select_reads-returns-in_ok-part_bits t c = λ n i. select_constant (names_of c.args.scope.now c.args.name.now.name) (sense (names_of c.args.scope.now) c.args.index.now) c.args.size n i _ _ _ (sym c.is_constant.ensures ∙ c.if-is_constant.true) c.index_of.ensures.value (c.in_ok-part_bits.ensures n i)
+select_reads-returns-in_ok-part_bits t c = λ n i. select_constant (names_of c.args.scope.now c.args.name.now.name) (sense (names_of c.args.scope.now) c.args.index.now) c.args.size n i _ _ _ (sym c.is_constant.ensures ∙ c.if-is_constant.true) c.integer_of.ensures.value (c.in_ok-part_bits.ensures n i)
 
 pub select_reads-returns-in_ok-reads_of : goal.select_reads-returns-in_ok-reads_of
 select_reads-returns-in_ok-reads_of t c = λ n i. select_other (names_of c.args.scope.now c.args.name.now.name) (sense (names_of c.args.scope.now) c.args.index.now) c.args.size n i _ _ _ (sym c.is_constant.ensures ∙ c.if-is_constant.false) (c.in_ok-name_bits.ensures n i) (c.in_ok-reads_of.ensures n i)

@@ -22,8 +22,14 @@ value_of-bound_of-lsb-requires t c = (search (rules, the_lemmas), rw c.get-in-Pa
 pub value_of-count_of-width-requires : goal.value_of-count_of-width-requires
 value_of-count_of-width-requires t c = (search (rules, the_lemmas), rw c.get-in-IndexedPartSelect.ensures (whole_indexed (names_of c.args.scope.now) c.args.expr.now c.in-IndexedPartSelect.name c.in-IndexedPartSelect.field-1 c.in-IndexedPartSelect.base c.in-IndexedPartSelect.width c.in-IndexedPartSelect.is c.requires.whole).width)
 
-pub value_of-own_value-requires-in-IndexedPartSelect : goal.value_of-own_value-requires-in-IndexedPartSelect
-value_of-own_value-requires-in-IndexedPartSelect t c = (search (rules, the_lemmas), (rw c.get-in-IndexedPartSelect-2.ensures (whole_indexed (names_of c.args.scope.now) c.args.expr.now c.in-IndexedPartSelect.name c.in-IndexedPartSelect.field-1 c.in-IndexedPartSelect.base c.in-IndexedPartSelect.width c.in-IndexedPartSelect.is c.requires.whole).base, c.requires.stored))
+pub index_of-shape_of-requires : goal.index_of-shape_of-requires
+index_of-shape_of-requires t c = (search (rules, the_lemmas), c.requires.whole)
+
+pub index_of-own_value-requires : goal.index_of-own_value-requires
+index_of-own_value-requires t c = (search (rules, the_lemmas), (c.requires.whole, c.requires.stored))
+
+pub value_of-index_of-place-requires-in-IndexedPartSelect : goal.value_of-index_of-place-requires-in-IndexedPartSelect
+value_of-index_of-place-requires-in-IndexedPartSelect t c = (search (rules, the_lemmas), (rw c.get-in-IndexedPartSelect-2.ensures (whole_indexed (names_of c.args.scope.now) c.args.expr.now c.in-IndexedPartSelect.name c.in-IndexedPartSelect.field-1 c.in-IndexedPartSelect.base c.in-IndexedPartSelect.width c.in-IndexedPartSelect.is c.requires.whole).base, c.requires.stored))
 
 pub value_of-shape_of-left_shape-requires-in-Binary : goal.value_of-shape_of-left_shape-requires-in-Binary
 value_of-shape_of-left_shape-requires-in-Binary t c = (search (rules, the_lemmas), rw c.get-in-Binary.ensures (whole_pair (names_of c.args.scope.now) c.args.expr.now c.in-Binary.field-0 c.in-Binary.op c.in-Binary.left c.in-Binary.right c.in-Binary.is c.requires.whole).0)
@@ -40,8 +46,8 @@ value_of-value_of-right-requires t c = (search (rules, the_lemmas), (rw c.get-in
 pub value_of-returns-in-Binary-clause-fits : goal.value_of-returns-in-Binary-clause-fits
 value_of-returns-in-Binary-clause-fits t c = pair_result (names_of c.args.scope.now) c.args.expr.now c.in-Binary.field-0 c.in-Binary.op c.in-Binary.left c.in-Binary.right c.args.context c.shape_of-left_shape.result c.shape_of-right_shape.result c.sizing_of-sizing.result c.in-Binary.is c.requires.context c.sizing_of-sizing.ensures (c.shape_of-left_shape.ensures.shape ∙ ap (λ (x : Expr). (sense (names_of c.args.scope.now) x).shape) c.get-in-Binary.ensures) (c.shape_of-right_shape.ensures.shape ∙ ap (λ (x : Expr). (sense (names_of c.args.scope.now) x).shape) c.get-in-Binary-2.ensures) c.shape_of-left_shape.ensures.sized c.shape_of-right_shape.ensures.sized c.left_context-left_at.result c.right_context-right_at.result c.value_of-left.result c.value_of-right.result c.binary_value.result c.left_context-left_at.ensures c.right_context-right_at.ensures c.value_of-left.ensures.fits c.value_of-right.ensures.fits c.binary_value.ensures
 
-pub value_of-own_value-requires-in-Conditional : goal.value_of-own_value-requires-in-Conditional
-value_of-own_value-requires-in-Conditional t c = (search (rules, the_lemmas), (rw c.get-in-Conditional.ensures (whole_choice (names_of c.args.scope.now) c.args.expr.now c.in-Conditional.field-0 c.in-Conditional.condition c.in-Conditional.yes c.in-Conditional.no c.in-Conditional.is c.requires.whole).0, c.requires.stored))
+pub value_of-own_value-requires : goal.value_of-own_value-requires
+value_of-own_value-requires t c = (search (rules, the_lemmas), (rw c.get-in-Conditional.ensures (whole_choice (names_of c.args.scope.now) c.args.expr.now c.in-Conditional.field-0 c.in-Conditional.condition c.in-Conditional.yes c.in-Conditional.no c.in-Conditional.is c.requires.whole).0, c.requires.stored))
 
 pub value_of-value_of-requires-then-own_value-eq0 : goal.value_of-value_of-requires-then-own_value-eq0
 value_of-value_of-requires-then-own_value-eq0 t c = (search (rules, the_lemmas), (rw c.get-then-own_value-eq0.ensures (whole_choice (names_of c.args.scope.now) c.args.expr.now c.in-Conditional.field-0 c.in-Conditional.condition c.in-Conditional.yes c.in-Conditional.no c.in-Conditional.is c.requires.whole).2, (c.requires.stored, rw c.get-then-own_value-eq0.ensures (no_at (names_of c.args.scope.now) c.args.expr.now c.in-Conditional.field-0 c.in-Conditional.condition c.in-Conditional.yes c.in-Conditional.no c.args.context c.in-Conditional.is c.requires.context))))
@@ -62,7 +68,7 @@ pub value_of-joined-requires-in-MultipleConcatenation : goal.value_of-joined-req
 value_of-joined-requires-in-MultipleConcatenation t c = (search (rules, the_lemmas), (rw c.as_slice-in-MultipleConcatenation-2.ensures (whole_times (names_of c.args.scope.now) c.args.expr.now c.in-MultipleConcatenation.field-0 c.in-MultipleConcatenation.times c.in-MultipleConcatenation.parts c.in-MultipleConcatenation.is c.requires.whole).parts, (rw c.as_slice-in-MultipleConcatenation-2.ensures (whole_times (names_of c.args.scope.now) c.args.expr.now c.in-MultipleConcatenation.field-0 c.in-MultipleConcatenation.times c.in-MultipleConcatenation.parts c.in-MultipleConcatenation.is c.requires.whole).short, c.requires.stored)))
 
 pub value_of-call_value-requires : goal.value_of-call_value-requires
-value_of-call_value-requires t c = (search (rules, the_lemmas), (rw (c.function_of.ensures, c.as_str.ensures, c.as_slice-in-SystemFunctionCall.ensures) (whole_call (names_of c.args.scope.now) c.args.expr.now c.in-SystemFunctionCall.name c.in-SystemFunctionCall.arguments c.in-SystemFunctionCall.is c.requires.whole), (c.requires.stored, rw (c.function_of.ensures, c.as_str.ensures, c.as_slice-in-SystemFunctionCall.ensures) (subst (λ (y : Sense). IsContext y.shape c.args.context) (ap (sense (names_of c.args.scope.now)) c.in-SystemFunctionCall.is ∙ step.sense_system_function_call (names_of c.args.scope.now) c.in-SystemFunctionCall.name c.in-SystemFunctionCall.arguments) c.requires.context))))
+value_of-call_value-requires t c = (search (rules, the_lemmas), (rw (c.function_of.ensures, c.as_str-in-SystemFunctionCall.ensures, c.as_slice-in-SystemFunctionCall.ensures) (whole_call (names_of c.args.scope.now) c.args.expr.now c.in-SystemFunctionCall.name c.in-SystemFunctionCall.arguments c.in-SystemFunctionCall.is c.requires.whole), (c.requires.stored, rw (c.function_of.ensures, c.as_str-in-SystemFunctionCall.ensures, c.as_slice-in-SystemFunctionCall.ensures) (subst (λ (y : Sense). IsContext y.shape c.args.context) (ap (sense (names_of c.args.scope.now)) c.in-SystemFunctionCall.is ∙ step.sense_system_function_call (names_of c.args.scope.now) c.in-SystemFunctionCall.name c.in-SystemFunctionCall.arguments) c.requires.context))))
 
 pub value_of-returns-in-BitSelect-clause-fits : goal.value_of-returns-in-BitSelect-clause-fits
 value_of-returns-in-BitSelect-clause-fits t c = fits_own (names_of c.args.scope.now) c.args.expr.now _ c.args.context c.window.result (ap (sense (names_of c.args.scope.now)) c.in-BitSelect.is ∙ step.sense_bit_select (names_of c.args.scope.now) c.in-BitSelect.name c.in-BitSelect.field-1 c.in-BitSelect.index) c.requires.context (rw c.window.ensures (window_fits _ 1 _))

@@ -24,6 +24,9 @@ decreases-call_value l = 4 * goal.size-call_value l + 3
 abbrev pub decreases-own_value : goal.decreases-own_value
 decreases-own_value l = 4 * goal.size-own_value l + 1
 
+abbrev pub decreases-index_of : goal.decreases-index_of
+decreases-index_of l = 4 * goal.size-index_of l + 2
+
 abbrev pub decreases-bound_of : goal.decreases-bound_of
 decreases-bound_of l = 4 * goal.size-bound_of l + 2
 
