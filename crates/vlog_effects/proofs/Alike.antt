@@ -1,5 +1,5 @@
 -- Two runs of a process that have some bits in common keep the bits that it covers in common.
-use Rattle.std.proofs.Common.{◌≡◌, ℕ, ◌+◌, ◌<◌, ◌^◌, max, pos, Bool, true, false, not, ◌&&◌, ◌||◌, List, [], ◌∷◌, ◌++◌, take, drop, length, Option, Some, None, nat_eq, get_or, refl, sym, ◌∙◌, ap, subst, arith}
+use Rattle.std.proofs.Common.{◌≡◌, ℕ, ◌+◌, ◌<◌, ◌^◌, max, Bool, true, false, not, ◌&&◌, ◌||◌, List, [], ◌∷◌, ◌++◌, take, drop, length, Option, Some, None, nat_eq, get_or, refl, sym, ◌∙◌, ap, subst, arith}
 use Rattle.std.specs.Prelude.{if◌then◌else◌}
 use Rattle.std.proofs.lemmas.List.{length-drop, length-take-le}
 use Rattle.std.proofs.Math.Bool.{or-false}
@@ -7,6 +7,7 @@ use Rattle.mcy_base.specs.declared.span.Span.{Span}
 use Rattle.vlog_syntax.specs.declared.expr.Expr.{Expr}
 use Rattle.vlog_meaning.specs.declared.scope.Decl.{Decl}
 use Rattle.vlog_meaning.specs.declared.scope.Decl.TheVariants.{Signal, Constant}
+use Rattle.vlog_meaning.specs.Integers.{integer}
 use Rattle.vlog_meaning.specs.Scopes.{Names, Store, IsWithin}
 use Rattle.vlog_meaning.specs.Senses.{Bits, no_bits, either, sense, is_empty, own}
 use Rattle.vlog_meaning.proofs.Settled.{settled}
@@ -65,16 +66,16 @@ own-constant names e a b f = value-constant names e a b (width_of names e) (is_s
 
 fixed-places : (names : Names) (v : Vector) (s : Select) (a b : Store) → is_fixed names s ≡ true → places names a v s ≡ places names b v s
 fixed-places names v Whole a b e = refl
-fixed-places names v (Bit at i) a b e = ap (λ (t : ℕ). bits_from v (pos t) 1) (own-constant names i a b e)
+fixed-places names v (Bit at i) a b e = ap (λ (t : ℕ). bits_from v (integer (sense names i).shape t) 1) (own-constant names i a b e)
 fixed-places names v (Range at msb lsb) a b e = refl
-fixed-places names v (Indexed at base count) a b e = ap (λ (t : ℕ). bits_from v (pos t) (select_width names v (Indexed at base count))) (own-constant names base a b e)
+fixed-places names v (Indexed at base count) a b e = ap (λ (t : ℕ). bits_from v (integer (sense names base).shape t) (select_width names v (Indexed at base count))) (own-constant names base a b e)
 
 -- the places are the same in both, where the index reads nothing that is not assigned
 places-same : (size : ℕ → ℕ) (names : Names) (v : Vector) (sel : Select) (b : Bits) (s u : State) → AreSized size names → ((n i : ℕ) → (index_reads names sel n i && not (b n i)) ≡ false) → Alike size b s u → places names (numbers s.now) v sel ≡ places names (numbers u.now) v sel
 places-same size names v Whole b s u k m al = refl
-places-same size names v (Bit at x) b s u k m al = ap (λ (t : ℕ). bits_from v (pos t) 1) (own-same size names x b s u k m al)
+places-same size names v (Bit at x) b s u k m al = ap (λ (t : ℕ). bits_from v (integer (sense names x).shape t) 1) (own-same size names x b s u k m al)
 places-same size names v (Range at msb lsb) b s u k m al = refl
-places-same size names v (Indexed at base count) b s u k m al = ap (λ (t : ℕ). bits_from v (pos t) (select_width names v (Indexed at base count))) (own-same size names base b s u k m al)
+places-same size names v (Indexed at base count) b s u k m al = ap (λ (t : ℕ). bits_from v (integer (sense names base).shape t) (select_width names v (Indexed at base count))) (own-same size names base b s u k m al)
 
 part-same : (size : ℕ → ℕ) (names : Names) (p : Part) (v : Option Vector) (bits : List Bool) (b : Bits) (s u : State) → AreSized size names → ((n i : ℕ) → (index_reads names p.select n i && not (b n i)) ≡ false) → Alike size b s u → part_updates names s.now p v bits ≡ part_updates names u.now p v bits
 part-same size names p None bits b s u k m al = refl

@@ -59,13 +59,13 @@ sized-refused size (x ∷ more) = sized-refused size more
 
 -- Loops.
 
-sized-with : (size : ℕ → ℕ) (b : Bool) (value : Word) (is_signed : Bool) (d : Option Decl) → IsSized size d → IsSized size (if b then Some (Constant value low is_signed) else d)
-sized-with size true value is_signed d k = tt
-sized-with size false value is_signed d k = k
+sized-with : (size : ℕ → ℕ) (b : Bool) (value : Word) (low : ℕ) (is_signed : Bool) (d : Option Decl) → IsSized size d → IsSized size (if b then Some (Constant value low is_signed) else d)
+sized-with size true value low is_signed d k = tt
+sized-with size false value low is_signed d k = k
 
 sized-word : (size : ℕ → ℕ) (loop : Loop) (names : Names) (o : Option Word) → AreSized size names → AreSized size (with_word loop names o)
 sized-word size loop names None k = k
-sized-word size loop names (Some w) k = λ other. sized-with size (bytes_eq loop.name.name other) w loop.is_signed (names other) (k other)
+sized-word size loop names (Some w) k = λ other. sized-with size (bytes_eq loop.name.name other) w 0 loop.is_signed (names other) (k other)
 
 sized-tested : (size : ℕ → ℕ) (o : Option ℕ) (flaws : List Flaw) (turn : Steps) → Sized size turn → Sized size (tested o flaws turn)
 sized-tested size None flaws turn k = sized-refused size flaws
