@@ -87,6 +87,57 @@ always @* casez (a) 2'b1?: y = 0; 2'b??: y = 1; 2'b00: y = q; endcase
 always @* case (a) y: y = 0; default: y = 1; endcase
 > Latch 1 signal 2
 end
+# a selector that exceeds its own width at the greater size of its case, and one that cannot
+reg a 2 0
+reg b 1 0
+reg y 1 0
+always @* case (~a) 0: y = 0; 1: y = 1; 2: y = b; 3: y = 0; endcase
+> Latch 1 signal 2
+always @* case (~a) 2'd0: y = 0; 2'd1: y = 1; 2'd2: y = b; 2'd3: y = 0; endcase
+> accepted
+always @* case (a + 2'd1) 0: y = 0; 1: y = 1; 2: y = b; 3: y = 0; endcase
+> Latch 1 signal 2
+always @* case (a + 2'd1) 2'd0: y = 0; 2'd1: y = 1; 2'd2: y = b; 2'd3: y = 0; endcase
+> accepted
+always @* case (a + 2'd1) 3'd0: y = 0; 3'd1: y = 1; 3'd2: y = b; 3'd3: y = 0; 3'd4: y = 1; 3'd5: y = 0; 3'd6: y = 1; 3'd7: y = 0; endcase
+> accepted
+always @* case ((a)) 0: y = 0; 1: y = 1; 2: y = b; 3: y = 0; endcase
+> accepted
+always @* case (a & {b, b}) 0: y = 0; 1: y = 1; 2: y = b; 3: y = 0; endcase
+> accepted
+always @* case (a ^ {2{b}}) 0: y = 0; 1: y = 1; 2: y = b; 3: y = 0; endcase
+> accepted
+always @* case (a | 2'd1) 0: y = 0; 1: y = 1; 2: y = b; 3: y = 0; endcase
+> accepted
+always @* case (a ~^ 2'd1) 0: y = 0; 1: y = 1; 2: y = b; 3: y = 0; endcase
+> Latch 1 signal 2
+always @* case (a & 3) 0: y = 0; 1: y = 1; 2: y = b; 3: y = 0; endcase
+> Latch 1 signal 2
+always @* case (b ? a : 2'd1) 0: y = 0; 1: y = 1; 2: y = b; 3: y = 0; endcase
+> accepted
+always @* case (~b ? a : 2'd1) 0: y = 0; 1: y = 1; 2: y = b; 3: y = 0; endcase
+> accepted
+always @* case (b ? a : ~a) 0: y = 0; 1: y = 1; 2: y = b; 3: y = 0; endcase
+> Latch 1 signal 2
+always @* case (a[b]) 0: y = 0; 1: y = 1; endcase
+> accepted
+always @* case (a == 2'd1) 0: y = 0; 1: y = 1; endcase
+> accepted
+always @* case (a && b) 0: y = 0; 1: y = 1; endcase
+> accepted
+always @* case (&a) 0: y = 0; 1: y = 1; endcase
+> accepted
+always @* case (!a) 0: y = 0; 1: y = 1; endcase
+> accepted
+always @* case (~b) 0: y = 0; 1: y = 1; endcase
+> Latch 1 signal 2
+always @* case ($unsigned(a)) 0: y = 0; 1: y = 1; 2: y = b; 3: y = 0; endcase
+> Latch 1 signal 2
+always @* case ($signed(a)) 0: y = 0; 1: y = 1; 2: y = b; 3: y = 0; endcase
+> Latch 1 signal 2
+always @* case ($signed(a)) 2'd0: y = 0; 2'd1: y = 1; 2'd2: y = b; 2'd3: y = 0; endcase
+> accepted
+end
 # a loop assigns each bit, or one bit less
 reg a 4 0
 reg y 4 0

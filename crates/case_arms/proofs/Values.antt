@@ -1,5 +1,6 @@
 -- The values that labels name, one label more at a time.
 use Rattle.std.proofs.Common.{◌≡◌, zero, suc, ℕ, ◌<◌, ◌≤◌, ◌^◌, Bool, true, false, ◌&&◌, ◌||◌, nat_eq, nat_le, map, List, [], ◌∷◌, ◌++◌, refl, sym, ap, ◌∙◌, arith, length, get_or, take}
+use Rattle.std.specs.Prelude.{not, if◌then◌else◌}
 use Rattle.std.specs.List.{flat_map, list_any}
 use Rattle.std.proofs.lemmas.Bool.Decides.{nat_tests}
 use Rattle.std.proofs.lemmas.List.Folds.{list_any-append}
@@ -7,12 +8,12 @@ use Rattle.vlog_syntax.specs.declared.expr.Expr.{Expr}
 use Rattle.vlog_syntax.specs.declared.stmt.CaseItem.{CaseItem}
 use Rattle.vlog_syntax.specs.declared.stmt.CaseKind.{CaseKind}
 use Rattle.vlog_meaning.specs.declared.shapes.Shape.{Shape}
-use Rattle.vlog_meaning.specs.Integers.{extended}
 use Rattle.vlog_meaning.specs.Scopes.{Names, nothing}
 use Rattle.vlog_meaning.specs.Senses.{sense}
-use Rattle.vlog_effects.specs.Expressions.{width_of, value, is_constant}
+use Rattle.vlog_effects.specs.Expressions.{width_of, is_signed_of, value, is_constant}
 use Rattle.vlog_effects.specs.Laws.{item_steps}
-use Rattle.vlog_effects.specs.Steps.{Selection, dont_care, is_named, all_named, names_all, greatest, all_signed, labels_of, selection_of}
+use Rattle.vlog_effects.specs.Steps.{Selection, dont_care, is_named, all_named, selector_bits, names_all, greatest, all_signed, labels_of, selection_of}
+use Rattle.vlog_effects.specs.Selectors.{keeps_width}
 use Rattle.elab_proc.specs.Refusals.{labels_in, common_size}
 use Rattle.elab_proc.proofs.StepLemmas.{labels_same}
 use Rattle.case_arms.specs.Naming.{IsOf, has, has_all}
@@ -65,22 +66,36 @@ pub named_item : (c : Selection) (v : ℕ) (before ls all : List Expr) (old now 
 named_item c v before ls all old now after is e f = f ∙ ap (λ (b : Bool). b || is_named c v ls) e ∙ sym (or_again old (is_named c v before) (is_named c v ls)) ∙ ap (λ (b : Bool). old || b) (sym (named_both c v before ls) ∙ ap (is_named c v) (sym is))
 
 -- all values below a bound
-pub all_same : (c : Selection) (values : List ℕ) (labels : List Expr) (own size : ℕ) (sign : Bool) (n : ℕ) → c.width ≡ size → c.is_signed ≡ sign → ((v : ℕ) → has values v ≡ is_named c v labels) → has_all values (record { width = own; is_signed = sign }) size n ≡ all_named c own n labels
-all_same c values labels own size sign zero w s e = refl
-all_same c values labels own size sign (suc n) w s e =
-    let here : extended (record { width = own; is_signed = sign }) size n ≡ extended (record { width = own; is_signed = c.is_signed }) c.width n = ap (λ (m : ℕ). extended (record { width = own; is_signed = sign }) m n) (sym w) ∙ ap (λ (b : Bool). extended (record { width = own; is_signed = b }) c.width n) (sym s) in
-    ap (λ (b : Bool). has values (extended (record { width = own; is_signed = sign }) size n) && b) (all_same c values labels own size sign n w s e) ∙
-    ap (λ (b : Bool). b && all_named c own n labels) (e (extended (record { width = own; is_signed = sign }) size n) ∙ ap (λ (v : ℕ). is_named c v labels) here)
+all_same : (c : Selection) (values : List ℕ) (labels : List Expr) (n : ℕ) → ((v : ℕ) → has values v ≡ is_named c v labels) → has_all values n ≡ all_named c n labels
+all_same c values labels zero e = refl
+all_same c values labels (suc n) e = ap (λ (b : Bool). has values n && b) (all_same c values labels n e) ∙ ap (λ (b : Bool). b && all_named c n labels) (e n)
 
--- whether the labels of a case name every value
-pub names_are : (names : Names) (kind : CaseKind) (selector : Expr) (is : List CaseItem) (own size : Shape) (values none : List ℕ) (r : Bool) → own ≡ (sense names selector).shape → own.width ≤ 8 → size ≡ common_size names (selector ∷ flat_map labels_in is) → none ≡ [] → ((c : Selection) → IsOf c names kind size → (v : ℕ) → has values v ≡ (has none v || is_named c v (flat_map labels_in is))) → r ≡ has_all values (record { width = own.width; is_signed = size.is_signed }) size.width (2 ^ own.width) → r ≡ names_all (selection_of names kind selector (map item_steps is))
-names_are names kind selector is own size values none r own_is few size_is empty each r_is =
-    let c : Selection = selection_of names kind selector (map item_steps is) in
-    let labels : labels_of (map item_steps is) ≡ flat_map labels_in is = labels_same false [] is in
-    let w : c.width ≡ size.width = ap (λ (l : List Expr). greatest names (selector ∷ l)) labels ∙ sym (ap (λ (s : Shape). s.width) size_is) in
-    let s : c.is_signed ≡ size.is_signed = ap (λ (l : List Expr). all_signed names (selector ∷ l)) labels ∙ sym (ap (λ (t : Shape). t.is_signed) size_is) in
-    let of : IsOf c names kind size = record { names_are = refl; kind_is = refl; width_is = w; sign_is = s } in
-    let width : own.width ≡ width_of names selector = ap (λ (t : Shape). t.width) own_is in
-    let test : nat_le own.width 8 ≡ true = grind (arith, nat_tests) in
-    r_is ∙ all_same c values c.labels own.width size.width size.is_signed (2 ^ own.width) w s (λ v. each c of v ∙ ap (λ (l : List ℕ). has l v || is_named c v (flat_map labels_in is)) empty ∙ ap (is_named c v) (sym labels)) ∙
-    ap (λ (n : ℕ). all_named c n (2 ^ n) c.labels) width ∙ ap (λ (b : Bool). b && all_named c (width_of names selector) (2 ^ width_of names selector) c.labels) (sym (ap (λ (n : ℕ). nat_le n 8) (sym width) ∙ test))
+module _ (names : Names) (kind : CaseKind) (selector : Expr) (is : List CaseItem) (own size : Shape) (bits : ℕ) (own_is : own ≡ (sense names selector).shape) (size_is : size ≡ common_size names (selector ∷ flat_map labels_in is)) (bits_are : bits ≡ (if keeps_width selector && not own.is_signed then own.width else size.width)) where
+  c : Selection
+  c = selection_of names kind selector (map item_steps is)
+
+  labels : labels_of (map item_steps is) ≡ flat_map labels_in is
+  labels = labels_same false [] is
+
+  width : c.width ≡ size.width
+  width = ap (λ (l : List Expr). greatest names (selector ∷ l)) labels ∙ sym (ap (λ (s : Shape). s.width) size_is)
+
+  sign : c.is_signed ≡ size.is_signed
+  sign = ap (λ (l : List Expr). all_signed names (selector ∷ l)) labels ∙ sym (ap (λ (t : Shape). t.is_signed) size_is)
+
+  bits_of_selector : bits ≡ selector_bits c
+  bits_of_selector = bits_are ∙ ap (λ (t : Shape). if keeps_width selector && not t.is_signed then t.width else size.width) own_is ∙ ap (λ (n : ℕ). if keeps_width selector && not (is_signed_of names selector) then width_of names selector else n) (sym width)
+
+  -- a selector that can have more than 8 bits
+  pub names_many : 8 < bits → false ≡ names_all c
+  names_many many =
+      let test : nat_le bits 8 ≡ false = grind (arith, nat_tests) in
+      ap (λ (b : Bool). b && all_named c (2 ^ selector_bits c) c.labels) (sym test ∙ ap (λ (n : ℕ). nat_le n 8) bits_of_selector)
+
+  -- whether the labels of a case name every value
+  pub names_are : (values none : List ℕ) (r : Bool) → bits ≤ 8 → none ≡ [] → ((c : Selection) → IsOf c names kind size → (v : ℕ) → has values v ≡ (has none v || is_named c v (flat_map labels_in is))) → r ≡ has_all values (2 ^ bits) → r ≡ names_all c
+  names_are values none r few empty each r_is =
+      let of : IsOf c names kind size = record { names_are = refl; kind_is = refl; width_is = width; sign_is = sign } in
+      let test : nat_le bits 8 ≡ true = grind (arith, nat_tests) in
+      r_is ∙ all_same c values c.labels (2 ^ bits) (λ v. each c of v ∙ ap (λ (l : List ℕ). has l v || is_named c v (flat_map labels_in is)) empty ∙ ap (is_named c v) (sym labels)) ∙
+      ap (λ (b : Bool). b && all_named c (2 ^ bits) c.labels) (sym test) ∙ ap (λ (n : ℕ). nat_le n 8 && all_named c (2 ^ n) c.labels) bits_of_selector

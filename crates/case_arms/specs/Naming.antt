@@ -3,7 +3,6 @@ use Rattle.std.specs.Prelude.{◌≡◌, ℕ, zero, suc, Bool, true, ◌&&◌, n
 use Rattle.std.specs.List.{list_any}
 use Rattle.vlog_syntax.specs.declared.stmt.CaseKind.{CaseKind}
 use Rattle.vlog_meaning.specs.declared.shapes.Shape.{Shape}
-use Rattle.vlog_meaning.specs.Integers.{extended}
 use Rattle.vlog_meaning.specs.Scopes.{Names}
 use Rattle.vlog_effects.specs.Steps.{Selection}
 
@@ -17,7 +16,7 @@ pub record IsOf (c : Selection) (names : Names) (kind : CaseKind) (size : Shape)
 abbrev pub has : List ℕ → ℕ → Bool
 has values v = list_any (λ x. nat_eq x v) values
 
--- each number of a shape below a bound, at a width, is among the values
-abbrev pub has_all : List ℕ → Shape → ℕ → ℕ → Bool
-has_all values shape width zero = true
-has_all values shape width (suc n) = has values (extended shape width n) && has_all values shape width n
+-- each number below a bound is among the values
+abbrev pub has_all : List ℕ → ℕ → Bool
+has_all values zero = true
+has_all values (suc n) = has values n && has_all values n

@@ -123,7 +123,8 @@ fn up_to_free(kind: CaseKind, width: u8, items: &[CaseItem], ends: Chosen) -> Ch
 }
 
 /// The arms of a case whose selector and labels have shapes (IEEE 1364-2005, 9.5): an item that matches whatever the selector is
-/// ends them; where there is no default and the labels name every value of a selector of at most 8 bits, the last item is the default.
+/// ends them; where there is no default and the labels name every value that the selector can have, of at most 8 bits, the last item is the
+/// default.
 pub fn arms_in(
     alloc: Global,
     kind: CaseKind,

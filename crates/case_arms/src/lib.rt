@@ -3,6 +3,7 @@
 
 mod chosen;
 mod named;
+mod selector;
 
 pub use chosen::{Chosen, arms_in};
 pub use named::names_all;

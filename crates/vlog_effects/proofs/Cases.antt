@@ -1,24 +1,26 @@
 -- Where labels name each value of a selector, one of them matches.
-use Rattle.std.proofs.Common.{◌≡◌, ℕ, zero, suc, ◌<◌, ◌^◌, Bool, true, false, ◌&&◌, ◌||◌, List, [], ◌∷◌, ◌++◌, Option, Some, None, nat_eq, nat_le, refl, sym, ◌∙◌, ap, subst, inl, inr, arith}
-use Rattle.std.specs.Prelude.{if◌then◌else◌}
+use Rattle.std.proofs.Common.{◌≡◌, ℕ, zero, suc, ◌<◌, ◌≤◌, ◌^◌, max, Bool, true, false, ◌&&◌, ◌||◌, List, [], ◌∷◌, ◌++◌, Option, Some, None, nat_eq, nat_le, refl, sym, ◌∙◌, ap, subst, inl, inr, arith}
+use Rattle.std.specs.Prelude.{if◌then◌else◌, not}
 use Rattle.std.proofs.lemmas.Bool.Decides.{eqb_tells}
 use Rattle.std.proofs.lemmas.Bool.{eqb-true}
 use Rattle.mcy_base.specs.declared.span.Span.{Span}
 use Rattle.vlog_syntax.specs.declared.expr.Expr.{Expr}
-use Rattle.vlog_syntax.specs.declared.expr.Expr.TheOpen as o
+use Rattle.vlog_syntax.specs.declared.stmt.CaseKind.{CaseKind}
 use Rattle.vlog_meaning.specs.declared.scope.Decl.{Decl}
 use Rattle.vlog_meaning.specs.declared.scope.Decl.TheVariants.{Signal, Constant}
-use Rattle.vlog_meaning.specs.Integers.{extended}
-use Rattle.vlog_meaning.specs.Scopes.{nothing, decl_shape, decl_value}
-use Rattle.vlog_meaning.specs.Senses.{Sense, sense, step as sense_step}
-use Rattle.vlog_meaning.proofs.Steps.{sense_name}
-use Rattle.vlog_effects.specs.Expressions.{width_of, value, is_constant, bits_of, number}
-use Rattle.vlog_effects.specs.Steps.{Selection, Steps, Arms, Otherwise, Arm, Item, dont_care, always, arms_of, is_named, all_named, names_all, front, last_body, labels_of}
-use Rattle.vlog_effects.specs.Effects.{Values, State, numbers, agree, bit_same, sized_bits, matches, effect, arm_effect, HasWidth}
-use Rattle.vlog_effects.specs.Laws.{LastItemServes, NamesKeepTheirWidth}
+use Rattle.vlog_meaning.specs.declared.shapes.Shape.{Shape}
+use Rattle.vlog_meaning.specs.Scopes.{Names, nothing, IsWithin}
+use Rattle.vlog_meaning.specs.Senses.{IsWhole, is_empty}
+use Rattle.vlog_effects.specs.Expressions.{width_of, is_signed_of, value, is_constant, bits_of, number}
+use Rattle.vlog_effects.specs.Selectors.{keeps_width}
+use Rattle.vlog_effects.specs.Steps.{Selection, Steps, Arms, Otherwise, Arm, InNames, Item, dont_care, greatest, all_signed, always, arms_of, default_of, labelled, is_named, all_named, selector_bits, names_all, front, last_body, chosen_arms, labels_of, selection_of}
+use Rattle.vlog_effects.specs.Effects.{Values, State, numbers, agree, bit_same, sized_bits, matches, effect, arm_effect, HasWidth, HaveWidths}
+use Rattle.vlog_effects.specs.Laws.{LastItemServes}
 use Rattle.vlog_effects.proofs.Bools.{and-left, and-right, and-same, or-again}
 use Rattle.vlog_effects.proofs.Numbers.{number-small}
 use Rattle.vlog_effects.proofs.Alike.{value-constant}
+use Rattle.vlog_effects.proofs.Fits.{fits}
+use Rattle.vlog_effects.proofs.Keeping.{keeps}
 
 or-true : (a b : Bool) → b ≡ true → (a || b) ≡ true
 or-true true b e = refl
@@ -57,11 +59,11 @@ named-matches c store v (x ∷ xs) e f = go (is_constant c.names x && (nat_eq (d
   go false g h rest = or-true _ _ (rest h)
 
 -- each value below a bound is named
-each-named : (c : Selection) (width bound : ℕ) (labels : List Expr) (n : ℕ) → all_named c width bound labels ≡ true → n < bound → is_named c (extended (record { width = width; is_signed = c.is_signed }) c.width n) labels ≡ true
-each-named c width zero labels n e h = absurd (omega arith)
-each-named c width (suc bound) labels n e h = elim (eqb_tells n bound) [
-  | inl k ↦ ap (λ (m : ℕ). is_named c (extended (record { width = width; is_signed = c.is_signed }) c.width m) labels) k.1 ∙ and-left (is_named c (extended (record { width = width; is_signed = c.is_signed }) c.width bound) labels) _ e
-  | inr k ↦ each-named c width bound labels n (and-right (is_named c (extended (record { width = width; is_signed = c.is_signed }) c.width bound) labels) _ e) (let d = k.1 in omega arith)
+each-named : (c : Selection) (bound : ℕ) (labels : List Expr) (n : ℕ) → all_named c bound labels ≡ true → n < bound → is_named c n labels ≡ true
+each-named c zero labels n e h = absurd (omega arith)
+each-named c (suc bound) labels n e h = elim (eqb_tells n bound) [
+  | inl k ↦ ap (λ (m : ℕ). is_named c m labels) k.1 ∙ and-left (is_named c bound labels) _ e
+  | inr k ↦ each-named c bound labels n (and-right (is_named c bound labels) _ e) (let d = k.1 in omega arith)
 ]
 
 arm-of : (c : Selection) (a : Bool) (at : Span) (labels : List Expr) (body : Steps) (others : Arms) (s : State) → arm_effect c (if a then Otherwise body else Arm at labels body others) s ≡ (if a then effect body s else (if matches c s.now labels then effect body s else arm_effect c others s))
@@ -89,25 +91,68 @@ last-serves c (i ∷ j ∷ more) s e =
     one-of-more (always c i.labels) (matches c s.now i.labels) (matches c s.now (labels_of (j ∷ more))) (effect (i.body c.names) s) _ _ (sym (matches-both c s.now i.labels (labels_of (j ∷ more))) ∙ e) (λ f. last-serves c (j ∷ more) s f) ∙
     sym (arm-of c (always c i.labels) i.place i.labels (i.body c.names) (arms_of c (j ∷ more) None) s)
 
-pub last-item-serves : LastItemServes
-last-item-serves c items s labels named keeps = go (names_all c) refl where
-  all : all_named c (width_of c.names c.selector) (2 ^ width_of c.names c.selector) c.labels ≡ true
-  all = and-right (nat_le (width_of c.names c.selector) 8) _ named
+-- Items with labels have all labels.
 
-  hit : matches c s.now (labels_of items) ≡ true
-  hit = ap (λ (xs : List Expr). matches c s.now xs) (sym labels) ∙ named-matches c s.now _ c.labels keeps.2 (each-named c (width_of c.names c.selector) (2 ^ width_of c.names c.selector) c.labels keeps.0 all keeps.1)
+empty-is : (xs : List Expr) → is_empty xs ≡ true → xs ≡ []
+empty-is [] e = refl
+empty-is (x ∷ xs) e = cc
 
-  go : (b : Bool) → names_all c ≡ b → arm_effect c (if b then arms_of c (front items) (last_body items) else arms_of c items None) s ≡ arm_effect c (arms_of c items None) s
-  go true e = last-serves c items s hit
+labels-one : (b : Bool) (i : Item) (more : List Item) → is_empty i.labels ≡ b → labels_of (labelled more) ≡ labels_of more → labels_of (if b then labelled more else i ∷ labelled more) ≡ i.labels ++ labels_of more
+labels-one true i more e rest = rest ∙ ap (λ (xs : List Expr). xs ++ labels_of more) (sym (empty-is i.labels e))
+labels-one false i more e rest = ap (λ (xs : List Expr). i.labels ++ xs) rest
+
+labels-labelled : (items : List Item) → labels_of (labelled items) ≡ labels_of items
+labels-labelled [] = refl
+labels-labelled (i ∷ more) = labels-one (is_empty i.labels) i more refl (labels-labelled more)
+
+-- What a selector can be.
+
+within-decl : (store : Values) (d : Option Decl) → HasWidth store d → IsWithin (numbers store) d
+within-decl store (Some (Signal width low is_signed n)) k = subst (λ (w : ℕ). number (store n) < 2 ^ w) k (number-small (store n))
+within-decl store (Some (Constant word low is_signed)) k = tt
+within-decl store None k = tt
+
+both-true : (a b : Bool) → (a && not b) ≡ true → (a ≡ true) × (b ≡ false)
+both-true true true e = cc
+both-true true false e = (refl, refl)
+both-true false b e = cc
+
+-- the selector has no more than these bits
+selector-fits : (names : Names) (kind : CaseKind) (selector : Expr) (items : List Item) (store : Values) → IsWhole names selector → HaveWidths names store → value names (numbers store) (selection_of names kind selector items).width (selection_of names kind selector items).is_signed selector < 2 ^ selector_bits (selection_of names kind selector items)
+selector-fits names kind selector items store whole widths = go (keeps_width selector && not (is_signed_of names selector)) refl where
+  c : Selection
+  c = selection_of names kind selector items
+
+  size : Shape
+  size = record { width = c.width; is_signed = c.is_signed }
+
+  wide : width_of names selector ≤ c.width
+  wide = let w : c.width ≡ max (width_of names selector) (greatest names (labels_of items)) = refl in omega arith
+
+  go : (b : Bool) → (keeps_width selector && not (is_signed_of names selector)) ≡ b → value names (numbers store) c.width c.is_signed selector < 2 ^ (if b then width_of names selector else c.width)
+  go true e =
+      let form = both-true (keeps_width selector) (is_signed_of names selector) e in
+      keeps names (numbers store) (λ name. within-decl store (names name) (widths name)) selector form.0 whole size (ap (λ (b : Bool). b && all_signed names (labels_of items)) form.1) wide
+  go false e = (fits names (numbers store) selector whole).1 size wide
+
+-- The arms that are chosen, and those of the items.
+serves : (names : Names) (kind : CaseKind) (selector : Expr) (items : List Item) (s : State) → IsWhole names selector → HaveWidths names s.now → (default : Option InNames) → arm_effect (selection_of names kind selector items) (chosen_arms (selection_of names kind selector items) (labelled items) default) s ≡ arm_effect (selection_of names kind selector items) (arms_of (selection_of names kind selector items) (labelled items) default) s
+serves names kind selector items s whole widths (Some body) = refl
+serves names kind selector items s whole widths None = go (names_all c) refl where
+  c : Selection
+  c = selection_of names kind selector items
+
+  v : ℕ
+  v = value names (numbers s.now) c.width c.is_signed selector
+
+  hit : names_all c ≡ true → matches c s.now (labels_of (labelled items)) ≡ true
+  hit e =
+      let all : all_named c (2 ^ selector_bits c) c.labels ≡ true = and-right (nat_le (selector_bits c) 8) _ e in
+      ap (λ (xs : List Expr). matches c s.now xs) (labels-labelled items) ∙ named-matches c s.now v c.labels refl (each-named c (2 ^ selector_bits c) c.labels v all (selector-fits names kind selector items s.now whole widths))
+
+  go : (b : Bool) → names_all c ≡ b → arm_effect c (if b then arms_of c (front (labelled items)) (last_body (labelled items)) else arms_of c (labelled items) None) s ≡ arm_effect c (arms_of c (labelled items) None) s
+  go true e = last-serves c (labelled items) s (hit e)
   go false e = refl
 
-decl-small : (store : Values) (d : Option Decl) → HasWidth store d → decl_value (numbers store) d < 2 ^ (decl_shape d).width
-decl-small store (Some (Signal width low is_signed n)) k = subst (λ (w : ℕ). number (store n) < 2 ^ w) k (number-small (store n))
-decl-small store (Some (Constant word low is_signed)) k = word.fits
-decl-small store None k = omega arith
-
-pub names-keep-their-width : NamesKeepTheirWidth
-names-keep-their-width c n store e k =
-    let P : Sense → Type 0 = λ (a : Sense). (m : ℕ) × (m < 2 ^ a.shape.width) × (a.value (numbers store) (record { width = c.width; is_signed = c.is_signed }) ≡ extended (record { width = a.shape.width; is_signed = c.is_signed }) c.width m) in
-    let known : sense c.names c.selector ≡ sense_step c.names (o.Name n) = ap (sense c.names) e ∙ sense_name c.names n in
-    subst P (sym known) (decl_value (numbers store) (c.names n.name), decl-small store (c.names n.name) (k n.name), refl)
+pub last-item-serves : LastItemServes
+last-item-serves names kind selector items s whole widths = serves names kind selector items s whole widths (default_of items)

@@ -1,8 +1,10 @@
--- Left sides, items of cases, and the bits of labels that are no matter, by their variants.
-use Rattle.std.proofs.Common.{◌≡◌, ℕ, List, [], ◌∷◌, map, sym, ◌∙◌, ap, rules}
+-- Left sides, items of cases, the bits of labels that are no matter, and selectors that keep their width, by their variants.
+use Rattle.std.proofs.Common.{◌≡◌, ℕ, Bool, true, ◌&&◌, ◌||◌, List, [], ◌∷◌, map, sym, ◌∙◌, ap, rules}
 use Rattle.mcy_base.specs.declared.span.Span.{Span}
 use Rattle.vlog_syntax.specs.declared.identifier.Identifier.{Identifier}
 use Rattle.vlog_syntax.specs.declared.identifier.Number.{Number}
+use Rattle.vlog_syntax.specs.declared.operator.UnaryOperator.{UnaryOperator}
+use Rattle.vlog_syntax.specs.declared.operator.BinaryOperator.{BinaryOperator}
 use Rattle.vlog_syntax.specs.declared.expr.Expr.{Expr}
 use Rattle.vlog_syntax.specs.declared.expr.Expr.TheVariants as ev
 use Rattle.vlog_syntax.specs.declared.expr.Expr.TheOpen as e
@@ -17,6 +19,8 @@ use Rattle.vlog_syntax.specs.declared.stmt.CaseItem.{CaseItem, roll-CaseItem}
 use Rattle.vlog_syntax.specs.declared.stmt.Stmt.{Stmt}
 use Rattle.vlog_syntax.specs.declared.stmt.Stmt.TheOpen.{CaseItem-F}
 use Rattle.vlog_syntax.specs.declared.stmt.Stmt.TheFolds.{fold-roll-CaseItem}
+use Rattle.vlog_meaning.specs.Operators.{sizing, is_reduction}
+use Rattle.vlog_effects.specs.Selectors.{is_test, is_bitwise, keeps_step, keeps_width}
 use Rattle.vlog_effects.specs.LeftSides.{Whole, Bit, Range, Indexed, Part, concatenated, parts_step, parts_of}
 use Rattle.vlog_effects.specs.Steps.{InNames, Item, ignored, ignored_step, dont_care, step_of, item_of, steps_of}
 use Rattle.vlog_effects.specs.Laws.{item_steps}
@@ -38,6 +42,18 @@ parts-concatenation at parts = ap parts_of (sym (lv.rolls-Concatenation at parts
 
 pub dont_care-number : (kind : CaseKind) (n : Number) → dont_care kind (ev.Number n) ≡ ignored kind n
 dont_care-number kind n = ap (dont_care kind) (sym (ev.rolls-Number n)) ∙ fold-roll-Expr ℕ (ignored_step kind) (e.Number n)
+
+pub keeps-name : (n : Identifier) → keeps_width (ev.Name n) ≡ true
+keeps-name n = ap keeps_width (sym (ev.rolls-Name n)) ∙ fold-roll-Expr Bool keeps_step (e.Name n)
+
+pub keeps-part : (n : Identifier) (at : Span) (msb lsb : Expr) → keeps_width (ev.PartSelect n at msb lsb) ≡ true
+keeps-part n at msb lsb = ap keeps_width (sym (ev.rolls-PartSelect n at msb lsb)) ∙ fold-roll-Expr Bool keeps_step (e.PartSelect n at msb lsb)
+
+pub keeps-unary : (at : Span) (op : UnaryOperator) (i : Expr) → keeps_width (ev.Unary at op i) ≡ is_reduction op
+keeps-unary at op i = ap keeps_width (sym (ev.rolls-Unary at op i)) ∙ fold-roll-Expr Bool keeps_step (e.Unary at op i)
+
+pub keeps-binary : (at : Span) (op : BinaryOperator) (i j : Expr) → keeps_width (ev.Binary at op i j) ≡ (is_test (sizing op) || is_bitwise op && (keeps_width i && keeps_width j))
+keeps-binary at op i j = ap keeps_width (sym (ev.rolls-Binary at op i j)) ∙ fold-roll-Expr Bool keeps_step (e.Binary at op i j)
 
 pub out-name : (n : Identifier) → out-LeftSide (lv.Name n) ≡ l.Name n
 out-name n = ap out-LeftSide (sym (lv.rolls-Name n)) ∙ search (rules, the_lemmas)

@@ -12,4 +12,6 @@ pub mod Sizes
 pub mod Pointwise
 pub mod Alike
 pub mod Unlatched
+pub mod Fits
+pub mod Keeping
 pub mod Cases

@@ -4,7 +4,8 @@ use Rattle.mcy_base.specs.declared.span.Span.{Span}
 use Rattle.mcy_base.specs.declared.word.Word.{Word}
 use Rattle.vlog_syntax.specs.declared.identifier.Identifier.{Identifier}
 use Rattle.vlog_syntax.specs.declared.operator.BinaryOperator.{BinaryOperator}
-use Rattle.vlog_syntax.specs.declared.operator.BinaryOperator.TheVariants.{Add, Subtract, Less}
+use Rattle.vlog_syntax.specs.declared.operator.BinaryOperator.TheVariants.{Add, Subtract, Less, BitwiseAnd}
+use Rattle.vlog_syntax.specs.declared.operator.UnaryOperator.TheVariants.{BitwiseNot}
 use Rattle.vlog_syntax.specs.declared.expr.Expr.{Expr}
 use Rattle.vlog_syntax.specs.declared.expr.Expr.TheVariants as e
 use Rattle.vlog_syntax.specs.declared.left_side.LeftSide.{LeftSide}
@@ -260,3 +261,11 @@ LastItemIsDefault = latch (selected Plain (read i) (numbered 0 (set y (read a)) 
 -- and without the item of 2 it does not
 abbrev pub OneValueIsMissing : Type 0
 OneValueIsMissing = latch (selected Plain (read i) (numbered 0 (set y (read a)) ∷ numbered 1 (set y (read b)) ∷ numbered 3 (set y (read a)) ∷ [])) ≡ Some 5
+
+-- `case (~i) 0: y = a; 1: y = b; 2: y = b; 3: y = a; endcase`: brought to 32 bits, `~i` is none of them
+abbrev pub InvertedIsGreater : Type 0
+InvertedIsGreater = latch (selected Plain (e.Unary (place 1) BitwiseNot (read i)) (numbered 0 (set y (read a)) ∷ numbered 1 (set y (read b)) ∷ numbered 2 (set y (read b)) ∷ numbered 3 (set y (read a)) ∷ [])) ≡ Some 5
+
+-- `case (i & a[2:1]) 0: y = a; 1: y = b; 2: y = b; 3: y = a; endcase`
+abbrev pub BitwiseKeepsItsWidth : Type 0
+BitwiseKeepsItsWidth = latch (selected Plain (binary BitwiseAnd (read i) (e.PartSelect (named a 1) (place 1) (decimal 2) (decimal 1))) (numbered 0 (set y (read a)) ∷ numbered 1 (set y (read b)) ∷ numbered 2 (set y (read b)) ∷ numbered 3 (set y (read a)) ∷ [])) ≡ None

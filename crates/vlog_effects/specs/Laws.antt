@@ -1,12 +1,11 @@
 -- Laws of statements: the steps of each kind of statement and of a loop's turns, what they do (IEEE 1364-2005, 9.2 to 9.6),
 -- and what a process without a latch leaves.
-use Rattle.std.specs.Prelude.{◌≡◌, ◌<◌, ◌≤◌, ℕ, zero, suc, ◌%◌, ◌^◌, true, false, List, [], ◌∷◌, Option, Some, None, map, if◌then◌else◌}
+use Rattle.std.specs.Prelude.{◌≡◌, ◌≤◌, ℕ, zero, suc, ◌%◌, ◌^◌, true, false, List, [], ◌∷◌, Option, Some, None, map, if◌then◌else◌}
 use Rattle.std.specs.Option.{option_map}
 use Rattle.std.specs.Str.{bytes_eq}
 use Rattle.mcy_base.specs.declared.span.Span.{Span}
 use Rattle.vlog_syntax.specs.declared.identifier.Identifier.{Identifier}
 use Rattle.vlog_syntax.specs.declared.expr.Expr.{Expr}
-use Rattle.vlog_syntax.specs.declared.expr.Expr.TheVariants.{Name}
 use Rattle.vlog_syntax.specs.declared.left_side.LeftSide.{out-LeftSide}
 use Rattle.vlog_syntax.specs.declared.stmt.Assignment.{Assignment}
 use Rattle.vlog_syntax.specs.declared.stmt.CaseKind.{CaseKind}
@@ -16,11 +15,11 @@ use Rattle.vlog_syntax.specs.declared.stmt.Stmt.TheVariants.{SeqBlock, Condition
 use Rattle.vlog_syntax.specs.declared.stmt.Stmt.TheFolds.{fold-CaseItem}
 use Rattle.vlog_meaning.specs.declared.scope.Decl.{Decl}
 use Rattle.vlog_meaning.specs.declared.scope.Decl.TheVariants.{Constant}
-use Rattle.vlog_meaning.specs.Integers.{extended}
-use Rattle.vlog_meaning.specs.Scopes.{Names, Store}
-use Rattle.vlog_effects.specs.Expressions.{width_of, value, constant_of}
-use Rattle.vlog_effects.specs.Steps.{Steps, Choose, Done, InNames, Item, Loop, in_turn, step_of, item_of, steps_of, else_steps, case_steps, loop_steps, name_alone, followed, turn_names, step_flaws, turns, assigning, Selection, arms_of, chosen_arms, labels_of, names_all}
-use Rattle.vlog_effects.specs.Effects.{Values, State, numbers, holds, assigned, effect, arm_effect, left_by, IsBlocking, HaveWidths}
+use Rattle.vlog_meaning.specs.Scopes.{Names}
+use Rattle.vlog_meaning.specs.Senses.{IsWhole}
+use Rattle.vlog_effects.specs.Expressions.{constant_of}
+use Rattle.vlog_effects.specs.Steps.{Steps, Choose, Done, InNames, Item, Loop, in_turn, step_of, item_of, steps_of, else_steps, case_steps, loop_steps, name_alone, followed, turn_names, step_flaws, turns, assigning, arms_of, labelled, default_of, selection_of}
+use Rattle.vlog_effects.specs.Effects.{Values, State, holds, assigned, effect, arm_effect, left_by, IsBlocking, HaveWidths}
 use Rattle.vlog_effects.specs.Latches.{targets, is_assigned, latch_of}
 
 -- an item of a case
@@ -82,17 +81,10 @@ ConditionalsRun = (at : Span) (c : Expr) (first : Stmt) (second : Option Stmt) (
 abbrev pub AssignmentsRun : Type 0
 AssignmentsRun = (a : Assignment) (names : Names) (s : State) → (effect (steps_of (BlockingAssignment a) names) s ≡ assigned (assigning true a names) s) × (effect (steps_of (NonblockingAssignment a) names) s ≡ assigned (assigning false a names) s)
 
--- the selector has a value of its own width, brought to the size of the case
-abbrev pub KeepsItsWidth : Selection → Store → Type 0
-KeepsItsWidth c store = (n : ℕ) × (n < 2 ^ width_of c.names c.selector) × (value c.names store c.width c.is_signed c.selector ≡ extended (record { width = width_of c.names c.selector; is_signed = c.is_signed }) c.width n)
-
--- Where the labels of a case name each value of such a selector, that its last item is the default changes nothing.
+-- That the last item of a case is the default, where there is none and the labels name each value of the selector, changes
+-- nothing: a case does what its items and its own default do.
 abbrev pub LastItemServes : Type 0
-LastItemServes = (c : Selection) (items : List Item) (s : State) → c.labels ≡ labels_of items → names_all c ≡ true → KeepsItsWidth c (numbers s.now) → arm_effect c (chosen_arms c items None) s ≡ arm_effect c (arms_of c items None) s
-
--- A name is such a selector.
-abbrev pub NamesKeepTheirWidth : Type 0
-NamesKeepTheirWidth = (c : Selection) (n : Identifier) (store : Values) → c.selector ≡ Name n → HaveWidths c.names store → KeepsItsWidth c (numbers store)
+LastItemServes = (names : Names) (kind : CaseKind) (selector : Expr) (items : List Item) (s : State) → IsWhole names selector → HaveWidths names s.now → effect (case_steps kind selector items names) s ≡ arm_effect (selection_of names kind selector items) (arms_of (selection_of names kind selector items) (labelled items) (default_of items)) s
 
 -- A process changes only signals that it assigns.
 abbrev pub ChangesOnlyTargets : Type 0

@@ -1,4 +1,5 @@
 pub mod Expressions
+pub mod Selectors
 pub mod Steps
 pub mod LeftSides
 pub mod Effects

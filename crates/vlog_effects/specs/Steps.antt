@@ -1,6 +1,6 @@
 -- The statements of a process in the order in which they run: each loop is replaced by its turns, in which its variable
 -- is a constant, and each case has its arms (IEEE 1364-2005, 9.4 to 9.6).
-use Rattle.std.specs.Prelude.{◌≡◌, ℕ, zero, suc, ◌-◌, ◌%◌, ◌^◌, max, Bool, true, false, ◌&&◌, ◌||◌, List, [], ◌∷◌, ◌++◌, map, Option, Some, None, nat_eq, nat_lt, nat_le, bit_or, if◌then◌else◌}
+use Rattle.std.specs.Prelude.{◌≡◌, ℕ, zero, suc, ◌-◌, ◌%◌, ◌^◌, max, Bool, true, false, not, ◌&&◌, ◌||◌, List, [], ◌∷◌, ◌++◌, map, Option, Some, None, nat_eq, nat_lt, nat_le, bit_or, if◌then◌else◌}
 use Rattle.std.specs.Str.{bytes_eq}
 use Rattle.std.proofs.Common.{refl}
 use Rattle.std.proofs.lemmas.Bool.{leb-true, ltb-true}
@@ -30,9 +30,9 @@ use Rattle.vlog_meaning.specs.declared.scope.Decl.TheVariants.{Signal, Constant}
 use Rattle.vlog_meaning.specs.declared.fault.ConstError.{ConstError}
 use Rattle.vlog_meaning.specs.declared.fault.ConstError.TheVariants.{Unknown, NotConstant}
 use Rattle.vlog_meaning.specs.Scopes.{Names, nothing, with_name}
-use Rattle.vlog_meaning.specs.Integers.{extended}
 use Rattle.vlog_meaning.specs.Senses.{is_empty}
 use Rattle.vlog_effects.specs.Expressions.{width_of, is_signed_of, value, is_constant, constant_of, constant_faults}
+use Rattle.vlog_effects.specs.Selectors.{keeps_width}
 
 -- an assignment in the names that it sees
 pub record Assigning : Type 0 where
@@ -240,13 +240,17 @@ abbrev pub is_named : Selection → ℕ → List Expr → Bool
 is_named c v [] = false
 is_named c v (x ∷ more) = (is_constant c.names x && (nat_eq (dont_care c.kind x) 0 && nat_eq (value c.names nothing c.width c.is_signed x) v)) || is_named c v more
 
-abbrev pub all_named : Selection → ℕ → ℕ → List Expr → Bool
-all_named c width zero labels = true
-all_named c width (suc n) labels = is_named c (extended (record { width = width; is_signed = c.is_signed }) c.width n) labels && all_named c width n labels
+abbrev pub all_named : Selection → ℕ → List Expr → Bool
+all_named c zero labels = true
+all_named c (suc n) labels = is_named c n labels && all_named c n labels
 
--- each value of a selector of at most 8 bits is named
+-- the bits that the selector can have at the size of the case: its own where it is unsigned and keeps them, else all
+abbrev pub selector_bits : Selection → ℕ
+selector_bits c = if keeps_width c.selector && not (is_signed_of c.names c.selector) then width_of c.names c.selector else c.width
+
+-- each value that the selector can have is named, where it has at most 8 bits
 abbrev pub names_all : Selection → Bool
-names_all c = let w = width_of c.names c.selector in nat_le w 8 && all_named c w (2 ^ w) c.labels
+names_all c = let w = selector_bits c in nat_le w 8 && all_named c (2 ^ w) c.labels
 
 -- all items but the last, and the body of the last
 abbrev pub front : List Item → List Item
@@ -259,7 +263,7 @@ last_body [] = None
 last_body (i ∷ []) = Some i.body
 last_body (i ∷ j ∷ more) = last_body (j ∷ more)
 
--- Where there is no default and the labels name each value, the last item is the default.
+-- Where there is no default and the labels name each value of the selector, the last item is the default.
 abbrev pub chosen_arms : Selection → List Item → Option InNames → Arms
 chosen_arms c items (Some body) = arms_of c items (Some body)
 chosen_arms c items None = if names_all c then arms_of c (front items) (last_body items) else arms_of c items None

@@ -1,5 +1,5 @@
 //! Effects and latches of small statements, as they were worked out by hand.
-ghost use Rattle.vlog_effects.specs.Examples.{AllPathsAssign, BitsPastTheEndAreDropped, BlockingIsSeen, DontCareMatches, FirstValueServes, IndexIsReadBefore, LastItemIsDefault, LastScheduledStays, LeastPlaceCounts, LeftPartGetsHighBits, LeftPartStays, LoopReverses, NonblockingIsNotSeen, NonblockingSwaps, OneBitIsMissing, OneValueIsMissing, OtherBitsDiffer, PartIsWritten, PathLeavesY, ReadBeforeAssigned, VariableIndexCoversNothing};
+ghost use Rattle.vlog_effects.specs.Examples.{AllPathsAssign, BitsPastTheEndAreDropped, BitwiseKeepsItsWidth, BlockingIsSeen, DontCareMatches, FirstValueServes, IndexIsReadBefore, InvertedIsGreater, LastItemIsDefault, LastScheduledStays, LeastPlaceCounts, LeftPartGetsHighBits, LeftPartStays, LoopReverses, NonblockingIsNotSeen, NonblockingSwaps, OneBitIsMissing, OneValueIsMissing, OtherBitsDiffer, PartIsWritten, PathLeavesY, ReadBeforeAssigned, VariableIndexCoversNothing};
 
 /// What assignments of both kinds leave, also to concatenations and selects.
 pub fn assignments_of_examples()
@@ -32,4 +32,6 @@ pub fn latches_of_examples()
     ensures least_place { LeastPlaceCounts }
     ensures all_values { LastItemIsDefault }
     ensures one_value { OneValueIsMissing }
+    ensures inverted { InvertedIsGreater }
+    ensures bitwise { BitwiseKeepsItsWidth }
 {}

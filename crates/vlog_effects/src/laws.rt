@@ -1,5 +1,5 @@
 //! Laws of statements and processes.
-ghost use Rattle.vlog_effects.specs.Laws.{AssignmentsRun, BlocksRun, BlocksStep, CasesStep, ChangesOnlyTargets, ConditionalsRun, ConditionalsStep, EffectsFollow, LastItemServes, LeavesOne, LoopsStep, NamesKeepTheirWidth, OthersStay, TurnsEnd, TurnsGoOn, VariableIsConstant};
+ghost use Rattle.vlog_effects.specs.Laws.{AssignmentsRun, BlocksRun, BlocksStep, CasesStep, ChangesOnlyTargets, ConditionalsRun, ConditionalsStep, EffectsFollow, LastItemServes, LeavesOne, LoopsStep, OthersStay, TurnsEnd, TurnsGoOn, VariableIsConstant};
 
 /// What the steps of a block, of an `if`, of a `case` and of a `for` are, from those of their parts.
 pub fn statements_step()
@@ -26,11 +26,10 @@ pub fn statements_run()
     ensures assignments { AssignmentsRun }
 {}
 
-/// That the last item of a case is the default, where the labels name each value of a selector that keeps its width, changes
-/// nothing; and a name keeps its width.
+/// That the last item of a case is the default, where there is none and the labels name each value of the selector, changes
+/// nothing, whatever the signals are.
 pub fn last_item_serves()
-    ensures serves { LastItemServes }
-    ensures names { NamesKeepTheirWidth }
+    ensures { LastItemServes }
 {}
 
 /// A process changes only signals that it assigns. Where none of its variables would be a latch, a combinational process

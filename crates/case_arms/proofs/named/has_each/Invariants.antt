@@ -3,4 +3,4 @@ use Rattle.case_arms.specs.Naming.{has_all}
 use Rattle.case_arms.proofs.named.has_each.Given as goal
 
 abbrev pub invariant-loop-number : goal.invariant-loop-number
-invariant-loop-number l = l.found ≡ has_all l.values l.fn.shape l.fn.width l.number
+invariant-loop-number l = l.found ≡ has_all l.values l.number

@@ -4,11 +4,11 @@ use Rattle.vlog_meaning.specs.Scopes.{names_of}
 use Rattle.vlog_meaning.proofs.Blanks.{left_nil, right_nil}
 use Rattle.elab_proc.specs.Refusals.{wrong, labels_in}
 use Rattle.elab_proc.proofs.CaseLemmas.{common_within, labels_within}
-use Rattle.case_arms.proofs.Values.{names_are}
+use Rattle.case_arms.proofs.Values.{names_are, names_many}
 use Rattle.case_arms.proofs.named.names_all.Goals as goal
 
-pub shape_of-own-requires : goal.shape_of-own-requires
-shape_of-own-requires c = left_nil _ _ (left_nil (wrong (names_of c.args.scope.now) c.args.selector.now) (flat_map (wrong (names_of c.args.scope.now)) (flat_map labels_in c.args.items.now)) c.requires)
+pub shape_of-requires : goal.shape_of-requires
+shape_of-requires c = left_nil _ _ (left_nil (wrong (names_of c.args.scope.now) c.args.selector.now) (flat_map (wrong (names_of c.args.scope.now)) (flat_map labels_in c.args.items.now)) c.requires)
 
 pub add_all_named-requires-clause-whole : goal.add_all_named-requires-clause-whole
 add_all_named-requires-clause-whole c = right_nil (wrong (names_of c.args.scope.now) c.args.selector.now) (flat_map (wrong (names_of c.args.scope.now)) (flat_map labels_in c.args.items.now)) c.requires
@@ -17,6 +17,3 @@ pub add_all_named-requires-clause-within : goal.add_all_named-requires-clause-wi
 add_all_named-requires-clause-within c =
     let names = names_of c.args.scope.now in
     labels_within names c.case_size-size.result c.args.items.now (common_within names c.case_size-size.result (c.args.selector.now ∷ flat_map labels_in c.args.items.now) c.case_size-size.ensures.size c.case_size-size.ensures.sized).1
-
-pub returns : goal.returns
-returns c = names_are (names_of c.args.scope.now) c.args.kind c.args.selector.now c.args.items.now c.shape_of-own.result c.case_size-size.result _ c.new-values.result.items c.has_each.result c.shape_of-own.ensures.shape (omega arith) c.case_size-size.ensures.size (search rules) c.in_ok-add_all_named.ensures (rw c.as_slice.ensures.value at c.has_each.ensures)
