@@ -797,6 +797,58 @@ module top(input a);
 endmodule
 elaborate top
 > TooMany NetBits
+# as many scopes as the limit: instances, turns of loops, and a block that a condition chose
+module leaf; endmodule
+module half;
+  genvar g;
+  for (g = 0; g < 4095; g = g + 1) begin : many
+    leaf a(), b(), c(), d(), e(), f(), h();
+  end
+endmodule
+module top;
+  half a(), b();
+  genvar g;
+  for (g = 0; g < 13; g = g + 1) begin : more
+  end
+  if (1) begin : last
+  end
+endmodule
+elaborate top
+# the block is one too many
+module leaf; endmodule
+module half;
+  genvar g;
+  for (g = 0; g < 4095; g = g + 1) begin : many
+    leaf a(), b(), c(), d(), e(), f(), h();
+  end
+endmodule
+module top;
+  half a(), b();
+  genvar g;
+  for (g = 0; g < 14; g = g + 1) begin : more
+  end
+  if (1) begin : last
+    assign nothing = 0;
+  end
+  assign behind = 0;
+endmodule
+elaborate top
+> TooMany Scopes
+# an instance is; what is refused before it counts
+module leaf; endmodule
+module half;
+  genvar g;
+  for (g = 0; g < 4095; g = g + 1) begin : many
+    leaf a(), b(), c(), d(), e(), f(), h();
+  end
+endmodule
+module top;
+  wire before = nothing;
+  half a(), b();
+  half c();
+endmodule
+elaborate top
+> Unknown 9:17
 '''
 
 

@@ -1,6 +1,6 @@
 -- Which answer each refusal is.
 use Rattle.std.specs.Prelude.{ℕ, List, [], Option, None, Some, slice_get}
-use Rattle.mcy_base.specs.declared.kind.Kind.TheVariants.{LoopTurns}
+use Rattle.mcy_base.specs.declared.kind.Kind.TheVariants.{LoopTurns, Scopes}
 use Rattle.mcy_base.specs.declared.span.Span.{Span}
 use Rattle.vlog_syntax.specs.declared.feature.Feature.TheVariants as feature
 use Rattle.vlog_meaning.specs.declared.fault.Cause.{Cause}
@@ -73,6 +73,7 @@ item_answer (item.NotConstant span) = NotConstant span
 item_answer (item.Constant error) = const_answer error
 item_answer (item.Delay span) = Unsupported span feature.Delay
 item_answer item.LoopTurns = TooMany LoopTurns
+item_answer item.Scopes = TooMany Scopes
 
 -- the name of a signal after flattening
 abbrev pub name_in : Option Signal → List ℕ

@@ -133,6 +133,7 @@ pub fn item_answer(error: ItemError) -> ElabError
         ItemError::Constant(error) => const_answer(error),
         ItemError::Delay(span) => ElabError::Unsupported(span, Feature::Delay),
         ItemError::LoopTurns => ElabError::TooMany(Kind::LoopTurns),
+        ItemError::Scopes => ElabError::TooMany(Kind::Scopes),
     }
 }
 

@@ -42,6 +42,8 @@ pub enum ItemError {
     Delay(Span),
     /// A loop has more turns than it may.
     LoopTurns,
+    /// The design has more scopes than it may.
+    Scopes,
 }
 
 /// The place of an expression's fault.

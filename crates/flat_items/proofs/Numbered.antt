@@ -1,5 +1,5 @@
 -- Look-ups in the map of the numbers of modules.
-use Rattle.std.proofs.Common.{◌≡◌, ℕ, ◌+◌, ◌<◌, List, [], ◌∷◌, map, length, drop, get_or, refl, sym, ap, ◌∙◌, subst, cond}
+use Rattle.std.proofs.Common.{◌≡◌, Bool, ℕ, ◌+◌, ◌<◌, List, [], ◌∷◌, map, length, drop, get_or, refl, sym, ap, ◌∙◌, subst, cond}
 use Rattle.std.proofs.Math.Path.{fun_ext}
 use Rattle.std.specs.Map.{lookup}
 use Rattle.std.specs.BTreeMap.{BTreeMap, UpdatesBy, is_at}
@@ -42,5 +42,5 @@ one_more modules k n name d old new next less first before changed other =
     ∙ ap (λ (l : List Module). module_from n l other) (sym (drop_more modules n d less))
 
 -- Where names have their numbers, an instance has the module that it names.
-pub placed_by : (modules : List Module) (numbers : List (List ℕ × ℕ)) (name : Identifier) (within around : List ℕ) (found : Result ℕ ItemError) → AreNumbered modules numbers → found ≡ placed_in name (number_of numbers name.name) within → within ≡ around → found ≡ placed_in name (module_at modules name.name) around
-placed_by modules numbers name within around found numbered is same = is ∙ ap (λ (o : Option ℕ). placed_in name o within) (numbered name.name) ∙ ap (placed_in name (module_at modules name.name)) same
+pub placed_by : (modules : List Module) (numbers : List (List ℕ × ℕ)) (name : Identifier) (told full : Bool) (within around : List ℕ) (found : Result ℕ ItemError) → AreNumbered modules numbers → found ≡ placed_in told name (number_of numbers name.name) within → told ≡ full → within ≡ around → found ≡ placed_in full name (module_at modules name.name) around
+placed_by modules numbers name told full within around found numbered is room same = is ∙ ap (λ (o : Option ℕ). placed_in told name o within) (numbered name.name) ∙ ap (λ (b : Bool). placed_in b name (module_at modules name.name) within) room ∙ ap (placed_in full name (module_at modules name.name)) same

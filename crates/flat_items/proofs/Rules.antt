@@ -1,5 +1,5 @@
 -- What each part is replaced by, from what the code has in hand.
-use Rattle.std.proofs.Common.{◌≡◌, ℕ, zero, suc, map, true≢false, true, false, List, [], ◌∷◌, ◌++◌, length, Option, None, Some, slice_get, Result, Ok, Err, sym, ap, ◌∙◌, subst}
+use Rattle.std.proofs.Common.{◌≡◌, ℕ, zero, suc, map, true≢false, Bool, true, false, List, [], ◌∷◌, ◌++◌, length, Option, None, Some, slice_get, Result, Ok, Err, sym, ap, ◌∙◌, subst}
 use Rattle.std.specs.Option.{option_map, is_some}
 use Rattle.mcy_base.specs.declared.span.Span.{Span}
 use Rattle.vlog_syntax.specs.declared.expr.Expr.{Expr}
@@ -18,17 +18,18 @@ use Rattle.flat_scopes.specs.declared.opening.Head.{Head}
 use Rattle.flat_scopes.specs.Openings.{Opened, unopened}
 use Rattle.flat_scopes.specs.Opens.{Opens}
 use Rattle.flat_instances.specs.declared.error.ItemError.{ItemError}
+use Rattle.flat_instances.specs.declared.error.ItemError.TheVariants.{Scopes}
 use Rattle.flat_instances.specs.declared.item.FlatItem.{FlatItem}
 use Rattle.flat_instances.specs.declared.item.FlatItem.TheVariants as f
 use Rattle.flat_items.specs.declared.task.Task.{Task}
 use Rattle.flat_items.specs.declared.task.Task.TheVariants as t
 use Rattle.flat_items.specs.declared.task.Turn.{Turn}
 use Rattle.flat_items.specs.declared.turn.Outcome.TheVariants.{Goes, Ends, Refused}
-use Rattle.flat_items.specs.Flattened.{Flat, block_head, block_items, add_all, entered, tasks_of, step_items, step_tasks, module_at, placed_in, condition_in, integer_in, chosen_tasks, label_of, IsBlockName, OpensBlock, Sees, genvar_fault, turn_start}
+use Rattle.flat_items.specs.Flattened.{Flat, block_head, block_items, add_all, entered, is_full, tasks_of, step_items, step_tasks, module_at, placed_in, condition_in, integer_in, chosen_tasks, label_of, IsBlockName, OpensBlock, Sees, genvar_fault, turn_start}
 use Rattle.flat_instances.specs.Instances.{inner_prefix, no_names, OpensInstance}
 use Rattle.flat_instances.specs.declared.place.Place.{Place as Kept}
 use Rattle.flat_instances.specs.Places.{Place, place_of}
-use Rattle.flat_items.specs.Replacing.{Replaces, Flattens, replaces, PlacesInstance, step, refused, not_placed, placed, condition, arm_null, arm_condition, arm_block, bad_genvar, bad_start, loop, turn_ended, bad_turn, turn, no_construct, is_block_form, is_construct_form, first_turn, outcome, TurnsOnce, turn_name, next_turn}
+use Rattle.flat_items.specs.Replacing.{Replaces, Flattens, replaces, PlacesInstance, step, refused, not_placed, placed, condition, arm_null, arm_condition, arm_full, arm_block, bad_genvar, bad_start, loop, turn_ended, bad_turn, turn, no_construct, is_block_form, is_construct_form, first_turn, outcome, TurnsOnce, turn_name, next_turn}
 
 -- whatever the modules are
 abbrev pub Fits : Task → Flat → List Task → Flat → Type 0
@@ -83,6 +84,9 @@ module _ (flat : Flat) (k n : ℕ) (tasks : List Task) (item : Item) where
       let all : tasks ≡ t.Generates k n (i.IfGenerate at c first second) ∷ [] = e ∙ ap (λ (y : Item). t.Generates k n y ∷ []) (xi ∙ is) in
       subst (λ (y : Item). Replaces ms (t.Arm k n y) flat tasks flat) (sym is) (subst (λ (y : List Task). Replaces ms (t.Arm k n (i.IfGenerate at c first second)) flat y flat) (sym all) (arm_condition k n at c first second flat))
 
+  pub block_refused : is_block_form (out-Item item) ≡ true → is_full flat ≡ true → tasks ≡ t.Refuses Scopes ∷ [] → Fits (t.Arm k n item) flat tasks flat
+  block_refused form full e ms = subst (λ (x : List Task). Replaces ms (t.Arm k n item) flat x flat) (sym e) (arm_full k n item flat form full)
+
 -- the same with the signals taken away meanwhile
 abbrev pub emptied : Flat → Flat
 emptied flat = record flat { signals = [] }
@@ -91,24 +95,25 @@ same_block : (flat : Flat) (k : ℕ) (place : Place) (name : List ℕ) (start : 
 same_block flat k place name start item tasks next b = record { child = b.child; opens = b.opens; listed = b.listed; enters = b.enters }
 
 pub block_opens : (flat mid next : Flat) (k n : ℕ) (item : Item) (place : Place) (name : List ℕ) (tasks : List Task) (child : Opened) (names : Names) (signals : List Signal)
-    → is_block_form (out-Item item) ≡ true → signals ≡ flat.signals → mid ≡ emptied flat → slice_get mid.places k ≡ Some place → IsBlockName place.own n (label_of item) name
+    → is_block_form (out-Item item) ≡ true → is_full flat ≡ false → signals ≡ flat.signals → mid ≡ emptied flat → slice_get mid.places k ≡ Some place → IsBlockName place.own n (label_of item) name
     → names ≡ place.names → child ≡ unopened names signals → ((p : Place) → slice_get mid.places k ≡ Some p → OpensBlock k p name child item mid tasks next)
     → Fits (t.Arm k n item) flat tasks next
-block_opens flat mid next k n item place name tasks child names signals form s m got named ns c opens ms =
+block_opens flat mid next k n item place name tasks child names signals form room s m got named ns c opens ms =
     let got_flat : slice_get flat.places k ≡ Some place = subst (λ (x : Flat). slice_get x.places k ≡ Some place) m got in
     let start : child ≡ unopened place.names flat.signals = c ∙ ap (λ (x : Names). unopened x signals) ns ∙ ap (λ (x : List Signal). unopened place.names x) s in
     let here : OpensBlock k place name child item (emptied flat) tasks next = subst (λ (x : Flat). OpensBlock k place name child item x tasks next) m (opens place got) in
     let from : OpensBlock k place name (unopened place.names flat.signals) item (emptied flat) tasks next = subst (λ (x : Opened). OpensBlock k place name x item (emptied flat) tasks next) start here in
-    arm_block k n item flat next place name tasks form got_flat named (same_block flat k place name (unopened place.names flat.signals) item tasks next from)
+    arm_block k n item flat next place name tasks form room got_flat named (same_block flat k place name (unopened place.names flat.signals) item tasks next from)
 
 -- Turns.
 
 same_turn : (flat : Flat) (k : ℕ) (place : Place) (x : Turn) (start : Opened) (tasks : List Task) (next : Flat) → TurnsOnce k place x start (emptied flat) tasks next → TurnsOnce k place x start flat tasks next
 same_turn flat k place x start tasks next b = record { what = b.what; sees = b.sees; inner = b.inner; opens = same_block flat k place _ start x.body b.inner next b.opens; all = b.all }
 
-module _ (flat mid next : Flat) (k : ℕ) (x : Turn) (place : Place) (tasks : List Task) (child : Opened) (signals : List Signal) (c : Expr) (value : Result ℕ ItemError) where
+module _ (flat mid next : Flat) (k : ℕ) (x : Turn) (place : Place) (tasks : List Task) (child : Opened) (signals : List Signal) (c : Expr) (full : Bool) (value : Result ℕ ItemError) where
   -- what is known where the outcome is
   pub record Tested : Type 0 where
+    pub full_is : full ≡ is_full flat
     pub signals_are : signals ≡ flat.signals
     pub taken : mid ≡ emptied flat
     pub got : slice_get mid.places k ≡ Some place
@@ -126,23 +131,26 @@ module _ (flat mid next : Flat) (k : ℕ) (x : Turn) (place : Place) (tasks : Li
   test_is : Tested → value ≡ condition_in (turn_start place flat.signals x).names x.head.condition
   test_is h = h.value_is ∙ ap (λ (y : Opened). condition_in y.names c) (start_is h) ∙ ap (λ (y : Expr). condition_in (turn_start place flat.signals x).names y) h.condition_is
 
-  pub turn_goes : Tested → outcome value x.count ≡ Goes → ((p : Place) → slice_get mid.places k ≡ Some p → TurnsOnce k p x child mid tasks next) → Fits (t.Turn k x) flat tasks next
+  outcome_is : Tested → outcome (is_full flat) (condition_in (turn_start place flat.signals x).names x.head.condition) x.count ≡ outcome full value x.count
+  outcome_is h = sym (ap (λ (y : Result ℕ ItemError). outcome full y x.count) (test_is h) ∙ ap (λ (y : Bool). outcome y (condition_in (turn_start place flat.signals x).names x.head.condition) x.count) h.full_is)
+
+  pub turn_goes : Tested → outcome full value x.count ≡ Goes → ((p : Place) → slice_get mid.places k ≡ Some p → TurnsOnce k p x child mid tasks next) → Fits (t.Turn k x) flat tasks next
   turn_goes h o once ms =
       let here : TurnsOnce k place x child (emptied flat) tasks next = subst (λ (y : Flat). TurnsOnce k place x child y tasks next) h.taken (once place h.got) in
       let from : TurnsOnce k place x (turn_start place flat.signals x) (emptied flat) tasks next = subst (λ (y : Opened). TurnsOnce k place x y (emptied flat) tasks next) (start_is h) here in
-      turn k x flat next place tasks (there h) (sym (ap (λ (y : Result ℕ ItemError). outcome y x.count) (test_is h)) ∙ o) (same_turn flat k place x (turn_start place flat.signals x) tasks next from)
+      turn k x flat next place tasks (there h) (outcome_is h ∙ o) (same_turn flat k place x (turn_start place flat.signals x) tasks next from)
 
   -- the signals are given back
   given_back : Tested → next ≡ record mid { signals = child.signals } → next ≡ flat
   given_back h back = back ∙ ap (λ (y : Flat). record y { signals = child.signals }) h.taken ∙ ap (λ (y : Opened). record flat { signals = y.signals }) (start_is h)
 
-  pub turn_ends : Tested → outcome value x.count ≡ Ends → next ≡ record mid { signals = child.signals } → tasks ≡ [] → Fits (t.Turn k x) flat tasks next
+  pub turn_ends : Tested → outcome full value x.count ≡ Ends → next ≡ record mid { signals = child.signals } → tasks ≡ [] → Fits (t.Turn k x) flat tasks next
   turn_ends h o back e ms =
-      subst (λ (y : Flat). Replaces ms (t.Turn k x) flat tasks y) (sym (given_back h back)) (subst (λ (y : List Task). Replaces ms (t.Turn k x) flat y flat) (sym e) (turn_ended k x flat place (there h) (sym (ap (λ (y : Result ℕ ItemError). outcome y x.count) (test_is h)) ∙ o)))
+      subst (λ (y : Flat). Replaces ms (t.Turn k x) flat tasks y) (sym (given_back h back)) (subst (λ (y : List Task). Replaces ms (t.Turn k x) flat y flat) (sym e) (turn_ended k x flat place (there h) (outcome_is h ∙ o)))
 
-  pub turn_refused : (error : ItemError) → Tested → outcome value x.count ≡ Refused error → next ≡ record mid { signals = child.signals } → tasks ≡ t.Refuses error ∷ [] → Fits (t.Turn k x) flat tasks next
+  pub turn_refused : (error : ItemError) → Tested → outcome full value x.count ≡ Refused error → next ≡ record mid { signals = child.signals } → tasks ≡ t.Refuses error ∷ [] → Fits (t.Turn k x) flat tasks next
   turn_refused error h o back e ms =
-      subst (λ (y : Flat). Replaces ms (t.Turn k x) flat tasks y) (sym (given_back h back)) (subst (λ (y : List Task). Replaces ms (t.Turn k x) flat y flat) (sym e) (bad_turn k x flat place error (there h) (sym (ap (λ (y : Result ℕ ItemError). outcome y x.count) (test_is h)) ∙ o)))
+      subst (λ (y : Flat). Replaces ms (t.Turn k x) flat tasks y) (sym (given_back h back)) (subst (λ (y : List Task). Replaces ms (t.Turn k x) flat y flat) (sym e) (bad_turn k x flat place error (there h) (outcome_is h ∙ o)))
 
 -- Instances.
 
@@ -168,7 +176,7 @@ instance_places ms n k values instance flat mid mid2 next tasks place m child it
     let here : PlacesInstance ms n k place values instance flat tasks next = record { m = m; numbered = numbered; child = child; items = items; opens = opened; listed = listed; enters = enters } in
     subst (λ (x : Place). PlacesInstance ms n k x values instance flat tasks next) (same_place (slice_get flat.places k) place p got_flat found) here
 
-module _ (ms : List Module) (flat : Flat) (k : ℕ) (name : Identifier) (values : ParameterValues) (instance : Instance) (tasks : List Task) (place : Place) (found : Result ℕ ItemError) (got : slice_get flat.places k ≡ Some place) (is : found ≡ placed_in name (module_at ms name.name) place.within) where
+module _ (ms : List Module) (flat : Flat) (k : ℕ) (name : Identifier) (values : ParameterValues) (instance : Instance) (tasks : List Task) (place : Place) (found : Result ℕ ItemError) (got : slice_get flat.places k ≡ Some place) (is : found ≡ placed_in (is_full flat) name (module_at ms name.name) place.within) where
   pub instance_refused : (error : ItemError) → found ≡ Err error → tasks ≡ t.Refuses error ∷ [] → Replaces ms (t.Instance k name values instance) flat tasks flat
   instance_refused error f e = subst (λ (y : List Task). Replaces ms (t.Instance k name values instance) flat y flat) (sym e) (not_placed k name values instance flat place error got (sym is ∙ f))
 

@@ -1,6 +1,6 @@
 -- What a design is flattened to (IEEE 1364-2005, 12.1 and 12.4). Each part of it is replaced by what it stands for, the first part
 -- first: an instance by the items of its module, a condition by what it chooses, a loop by its turns.
-use Rattle.std.specs.Prelude.{◌≡◌, ℕ, ◌+◌, ◌^◌, ◌%◌, ◌==◌, Bool, true, false, ◌||◌, List, [], ◌∷◌, ◌++◌, length, map, codes, decimal, IsSome, Option, None, Some, slice_get, Result, Ok, Err, if◌then◌else◌}
+use Rattle.std.specs.Prelude.{◌≡◌, ℕ, ◌+◌, ◌^◌, ◌%◌, ◌==◌, nat_lt, Bool, true, false, ◌||◌, List, [], ◌∷◌, ◌++◌, length, map, codes, decimal, IsSome, Option, None, Some, slice_get, Result, Ok, Err, if◌then◌else◌}
 use Rattle.std.specs.Str.{bytes_eq}
 use Rattle.mcy_base.specs.declared.span.Span.{Span}
 use Rattle.vlog_syntax.specs.declared.expr.Expr.{Expr}
@@ -54,6 +54,15 @@ entered flat prefix around within child =
       places = flat.places ++ record { prefix = prefix; names = child.names; own = child.own; around = around; within = within } ∷ [];
     }
 
+-- Within its top a design has at most 65,536 scopes: instances, blocks that conditions chose, and turns of loops. It is full where there
+-- is no room for another one. The top is a place too.
+
+abbrev pub max_scopes : ℕ
+max_scopes = 65536
+
+abbrev pub is_full : Flat → Bool
+is_full flat = nat_lt max_scopes (length flat.places)
+
 abbrev pub tasks_of : (place : ℕ) → List Step → List Task
 tasks_of k steps = map (t.Step k) steps
 
@@ -102,10 +111,10 @@ abbrev pub is_within : ℕ → List ℕ → Bool
 is_within n [] = false
 is_within n (m ∷ more) = (m == n) || is_within n more
 
--- the module of an instance, or why it has none: there is no such module, or it stands in itself
-abbrev pub placed_in : Identifier → Option ℕ → (within : List ℕ) → Result ℕ ItemError
-placed_in name None within = Err (e.Unknown name.span)
-placed_in name (Some n) within = if is_within n within then Err (e.Recursive name.span) else Ok n
+-- the module of an instance, or why it is not placed: there is no such module, it stands in itself, or the design is full
+abbrev pub placed_in : (full : Bool) → Identifier → Option ℕ → (within : List ℕ) → Result ℕ ItemError
+placed_in full name None within = Err (e.Unknown name.span)
+placed_in full name (Some n) within = if is_within n within then Err (e.Recursive name.span) else (if full then Err e.Scopes else Ok n)
 
 -- Constants of generate constructs: conditions stand for themselves, a loop's start and step have the 32 bits of its variable.
 

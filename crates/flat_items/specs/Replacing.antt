@@ -27,7 +27,7 @@ use Rattle.flat_items.specs.declared.task.Task.TheVariants as t
 use Rattle.flat_items.specs.declared.task.Turn.{Turn}
 use Rattle.flat_items.specs.declared.turn.Outcome.{Outcome}
 use Rattle.flat_items.specs.declared.turn.Outcome.TheVariants.{Goes, Ends, Refused}
-use Rattle.flat_items.specs.Flattened.{Flat, add_all, entered, tasks_of, step_items, step_tasks, module_at, placed_in, condition_in, integer_in, chosen_tasks, label_of, IsBlockName, OpensBlock, Sees, genvar_fault, turn_start}
+use Rattle.flat_items.specs.Flattened.{Flat, add_all, entered, is_full, tasks_of, step_items, step_tasks, module_at, placed_in, condition_in, integer_in, chosen_tasks, label_of, IsBlockName, OpensBlock, Sees, genvar_fault, turn_start}
 use Rattle.flat_instances.specs.Instances.{inner_prefix, no_names, OpensInstance}
 use Rattle.flat_instances.specs.Places.{Place}
 use Rattle.flat_scopes.specs.Wires.{ports_of}
@@ -51,14 +51,15 @@ index_text value = if nat_le (2 ^ 31) value then codes "-" ++ decimal (2 ^ 32 - 
 abbrev pub turn_name : List ℕ → ℕ → List ℕ
 turn_name name value = name ++ codes "[" ++ index_text value ++ codes "]"
 
--- A loop ends where its condition is false, and is refused where the condition is, or where there were 4,096 turns.
+-- A loop ends where its condition is false, and is refused where the condition is, where there were 4,096 turns, or where the design is
+-- full.
 
-abbrev pub outcome_of : (value count : ℕ) → Outcome
-outcome_of value count = if value == 0 then Ends else (if nat_le 4096 count then Refused e.LoopTurns else Goes)
+abbrev pub turn_outcome : (full : Bool) → (count : ℕ) → Outcome
+turn_outcome full count = if nat_le 4096 count then Refused e.LoopTurns else (if full then Refused e.Scopes else Goes)
 
-abbrev pub outcome : Result ℕ ItemError → (count : ℕ) → Outcome
-outcome (Err error) count = Refused error
-outcome (Ok value) count = outcome_of value count
+abbrev pub outcome : (full : Bool) → Result ℕ ItemError → (count : ℕ) → Outcome
+outcome full (Err error) count = Refused error
+outcome full (Ok value) count = if value == 0 then Ends else turn_outcome full count
 
 -- The next turn, with the value that the step gives the variable. A step of another name is refused.
 
@@ -100,10 +101,10 @@ pub data Replaces (modules : List Module) : Task → Flat → List Task → Flat
   refused : (error : ItemError) (flat : Flat) → Replaces modules (t.Refuses error) flat [] (add_all flat (f.Refuses error ∷ []))
   -- instances
   not_placed : (k : ℕ) (name : Identifier) (values : ParameterValues) (instance : Instance) (flat : Flat) (place : Place) (error : ItemError)
-      → slice_get flat.places k ≡ Some place → placed_in name (module_at modules name.name) place.within ≡ Err error
+      → slice_get flat.places k ≡ Some place → placed_in (is_full flat) name (module_at modules name.name) place.within ≡ Err error
       → Replaces modules (t.Instance k name values instance) flat (t.Refuses error ∷ []) flat
   placed : (k : ℕ) (name : Identifier) (values : ParameterValues) (instance : Instance) (flat next : Flat) (place : Place) (n : ℕ) (tasks : List Task)
-      → slice_get flat.places k ≡ Some place → placed_in name (module_at modules name.name) place.within ≡ Ok n
+      → slice_get flat.places k ≡ Some place → placed_in (is_full flat) name (module_at modules name.name) place.within ≡ Ok n
       → PlacesInstance modules n k place values instance flat tasks next
       → Replaces modules (t.Instance k name values instance) flat tasks next
   -- conditions
@@ -114,8 +115,10 @@ pub data Replaces (modules : List Module) : Task → Flat → List Task → Flat
   -- a condition that a condition chooses belongs to the same construct
   arm_condition : (k n : ℕ) (at : Span) (c : Expr) (first : Item) (second : Option Item) (flat : Flat)
       → Replaces modules (t.Arm k n (i.IfGenerate at c first second)) flat (t.Generates k n (i.IfGenerate at c first second) ∷ []) flat
+  -- a block that a condition chooses has its scope, unless the design is full
+  arm_full : (k n : ℕ) (item : Item) (flat : Flat) → is_block_form (out-Item item) ≡ true → is_full flat ≡ true → Replaces modules (t.Arm k n item) flat (t.Refuses e.Scopes ∷ []) flat
   arm_block : (k n : ℕ) (item : Item) (flat next : Flat) (place : Place) (name : List ℕ) (tasks : List Task)
-      → is_block_form (out-Item item) ≡ true → slice_get flat.places k ≡ Some place → IsBlockName place.own n (label_of item) name
+      → is_block_form (out-Item item) ≡ true → is_full flat ≡ false → slice_get flat.places k ≡ Some place → IsBlockName place.own n (label_of item) name
       → OpensBlock k place name (unopened place.names flat.signals) item flat tasks next
       → Replaces modules (t.Arm k n item) flat tasks next
   -- loops
@@ -130,13 +133,13 @@ pub data Replaces (modules : List Module) : Task → Flat → List Task → Flat
       → IsBlockName place.own n (label_of body) name
       → Replaces modules (t.Generates k n (i.LoopGenerate head body)) flat (t.Turn k (first_turn name head body value) ∷ []) flat
   turn_ended : (k : ℕ) (x : Turn) (flat : Flat) (place : Place)
-      → slice_get flat.places k ≡ Some place → outcome (condition_in (turn_start place flat.signals x).names x.head.condition) x.count ≡ Ends
+      → slice_get flat.places k ≡ Some place → outcome (is_full flat) (condition_in (turn_start place flat.signals x).names x.head.condition) x.count ≡ Ends
       → Replaces modules (t.Turn k x) flat [] flat
   bad_turn : (k : ℕ) (x : Turn) (flat : Flat) (place : Place) (error : ItemError)
-      → slice_get flat.places k ≡ Some place → outcome (condition_in (turn_start place flat.signals x).names x.head.condition) x.count ≡ Refused error
+      → slice_get flat.places k ≡ Some place → outcome (is_full flat) (condition_in (turn_start place flat.signals x).names x.head.condition) x.count ≡ Refused error
       → Replaces modules (t.Turn k x) flat (t.Refuses error ∷ []) flat
   turn : (k : ℕ) (x : Turn) (flat next : Flat) (place : Place) (tasks : List Task)
-      → slice_get flat.places k ≡ Some place → outcome (condition_in (turn_start place flat.signals x).names x.head.condition) x.count ≡ Goes
+      → slice_get flat.places k ≡ Some place → outcome (is_full flat) (condition_in (turn_start place flat.signals x).names x.head.condition) x.count ≡ Goes
       → TurnsOnce k place x (turn_start place flat.signals x) flat tasks next
       → Replaces modules (t.Turn k x) flat tasks next
   -- nothing else is a construct

@@ -1,9 +1,9 @@
 //! Generate blocks (IEEE 1364-2005, 12.4.3): each is a scope of its own over the one around.
-ghost use Rattle.std.specs.Prelude.{◌≡◌, [], List, Some, slice_get, true, IfOk};
+ghost use Rattle.std.specs.Prelude.{◌≡◌, [], List, Some, slice_get, true, false, IfOk};
 ghost use Rattle.vlog_syntax.specs.declared.item.Item.{out-Item};
 ghost use Rattle.vlog_syntax.specs.declared.module.Module.{Module as Tree};
 ghost use Rattle.flat_scopes.specs.Views.{opened_of};
-ghost use Rattle.flat_items.specs.Flattened.{block_head, block_items, OpensBlock};
+ghost use Rattle.flat_items.specs.Flattened.{block_head, block_items, is_full, OpensBlock};
 ghost use Rattle.flat_instances.specs.Places.{Place as Spot};
 ghost use Rattle.flat_items.specs.Replacing.{Replaces, is_block_form};
 ghost use Rattle.flat_items.specs.Views.{flat_of};
@@ -13,7 +13,7 @@ use crate::flat::Flat;
 use crate::generate::one;
 use crate::names::block_name;
 use crate::task::Task;
-use flat_instances::inner_prefix;
+use flat_instances::{ItemError, inner_prefix};
 use flat_scopes::{Head, Lent, NameList, Opening, Signal};
 use mcy_base::Text;
 use std::alloc::{AllocError, Global};
@@ -82,13 +82,14 @@ impl<'a> Flat<'a> {
     }
 
     /// Opens the block that a condition chose.
-    fn arm_block(
+    fn chosen_block(
         &mut self,
         place: u32,
         number: u32,
         item: &'a Item,
     ) -> Result<Vec<Task<'a>>, AllocError>
-        requires { is_block_form (out-Item item.now) ≡ true }
+        requires form { is_block_form (out-Item item.now) ≡ true }
+        requires room { is_full (flat_of self.old) ≡ false }
         ensures { IfOk result (λ tasks. (ms : List Tree) → Replaces ms (Chosen place number item.now) (flat_of self.old) tasks.items (flat_of self.new)) }
     {
         let signals = self.take_signals();
@@ -99,6 +100,23 @@ impl<'a> Flat<'a> {
         let child = Opening::new(self.alloc, around.scope.copy()?, signals);
         let tasks = self.open_block(place, name.as_str(), child, item)?;
         Ok(tasks)
+    }
+
+    /// Opens the block that a condition chose, where there is room for its scope.
+    #[tactic(auto, using(crate::proofs::Rules::block_refused))]
+    fn arm_block(
+        &mut self,
+        place: u32,
+        number: u32,
+        item: &'a Item,
+    ) -> Result<Vec<Task<'a>>, AllocError>
+        requires { is_block_form (out-Item item.now) ≡ true }
+        ensures { IfOk result (λ tasks. (ms : List Tree) → Replaces ms (Chosen place number item.now) (flat_of self.old) tasks.items (flat_of self.new)) }
+    {
+        if self.is_full() {
+            return one(self.alloc, Task::Refuses(ItemError::Scopes));
+        }
+        self.chosen_block(place, number, item)
     }
 
     /// What is left of what a condition chose.

@@ -2,7 +2,7 @@
 ghost use Rattle.std.specs.Prelude.{◌≡◌, ◌∷◌, [], map, length, slice_get, Some, IfOk, IfSome};
 ghost use Rattle.vlog_meaning.specs.Scopes.{names_of};
 ghost use Rattle.flat_scopes.specs.Views.{opened_of};
-ghost use Rattle.flat_items.specs.Flattened.{add_all, entered as with_place, tasks_of, plain_items, plain_tasks, assigned_items, step_items, step_tasks, Sees};
+ghost use Rattle.flat_items.specs.Flattened.{add_all, entered as with_place, is_full, tasks_of, plain_items, plain_tasks, assigned_items, step_items, step_tasks, Sees};
 ghost use Rattle.flat_instances.specs.Places.{place_of};
 ghost use Rattle.flat_items.specs.Views.{flat_of};
 ghost use Rattle.flat_items.specs.declared.task.Task.TheVariants.{Instance as Placed};
@@ -13,6 +13,9 @@ use flat_scopes::{Lent, Opening, Parts, Signal, Step, What};
 use mcy_base::Text;
 use std::alloc::{AllocError, Global};
 use vlog_syntax::{Assignment, Identifier, Instance, ParameterValues, PlainItem};
+
+/// The most scopes of a design within its top.
+const MAX_SCOPES: usize = 65536;
 
 /// A design that is being flattened.
 #[derive(Drop)]
@@ -116,6 +119,13 @@ impl<'a> Flat<'a> {
     {
         self.items.push(item)?;
         Ok(())
+    }
+
+    /// Whether there is no room for another scope.
+    pub(crate) fn is_full(&self) -> bool
+        ensures { result ≡ is_full (flat_of self.now) }
+    {
+        self.places.len() > MAX_SCOPES
     }
 
     /// The number of the next scope.

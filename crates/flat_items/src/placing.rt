@@ -46,19 +46,22 @@ fn is_within(number: usize, within: &[usize]) -> bool
     false
 }
 
-/// The number of the module of this name, for an instance in these modules, or why it has none.
+/// The number of the module of this name, for an instance in these modules of a design that is full or not, or why it is not placed.
 fn placed_in(
+    full: bool,
     numbers: &ModuleNumbers,
     name: &Identifier,
     within: &[usize],
 ) -> Result<usize, ItemError>
-    ensures { result ≡ placed_in name.now (number_of numbers.now name.now.name) within.now }
+    ensures { result ≡ placed_in full name.now (number_of numbers.now name.now.name) within.now }
 {
     match numbers.get(name.name.as_str()) {
         None => Err(ItemError::Unknown(name.span)),
         Some(number) => {
             if is_within(number, within) {
                 Err(ItemError::Recursive(name.span))
+            } else if full {
+                Err(ItemError::Scopes)
             } else {
                 Ok(number)
             }
@@ -149,7 +152,8 @@ impl<'a> Flat<'a> {
         let Some(around) = self.place(place) else {
             return Err(AllocError);
         };
-        match placed_in(numbers, name, around.within.as_slice()) {
+        let full = self.is_full();
+        match placed_in(full, numbers, name, around.within.as_slice()) {
             Err(error) => {
                 let tasks = one(self.alloc, Task::Refuses(error))?;
                 Ok(tasks)

@@ -30,9 +30,9 @@ pub enum Outcome {
     Refused(ItemError),
 }
 
-/// What comes of a turn behind so many others, by the value of the condition.
-fn tested(value: Result<u128, ItemError>, count: u32) -> Outcome
-    ensures { result ≡ outcome value count }
+/// What comes of a turn behind so many others, by the value of the condition, in a design that is full or not.
+fn tested(full: bool, value: Result<u128, ItemError>, count: u32) -> Outcome
+    ensures { result ≡ outcome full value count }
 {
     match value {
         Err(error) => Outcome::Refused(error),
@@ -41,6 +41,8 @@ fn tested(value: Result<u128, ItemError>, count: u32) -> Outcome
                 Outcome::Ends
             } else if count >= MAX_TURNS {
                 Outcome::Refused(ItemError::LoopTurns)
+            } else if full {
+                Outcome::Refused(ItemError::Scopes)
             } else {
                 Outcome::Goes
             }
@@ -140,13 +142,14 @@ impl<'a> Flat<'a> {
     pub(crate) fn turn(&mut self, place: u32, turn: Turn<'a>) -> Result<Vec<Task<'a>>, AllocError>
         ensures { IfOk result (λ tasks. (ms : List Tree) → Replaces ms (TurnTask place turn.entry) (flat_of self.old) tasks.items (flat_of self.new)) }
     {
+        let full = self.is_full();
         let signals = self.take_signals();
         let Some(around) = self.place(place) else {
             return Err(AllocError);
         };
         let child = turn_scope(self.alloc, around, signals, &turn)?;
         let value = condition(turn.head.get().condition.get(), child.scope());
-        match tested(value, turn.count) {
+        match tested(full, value, turn.count) {
             Outcome::Goes => self.turn_block(place, turn, child),
             Outcome::Ends => {
                 self.give_back(child);

@@ -18,7 +18,7 @@ use Rattle.flat_items.specs.Flattened.{Flat, entered, tasks_of, step_items, cond
 use Rattle.flat_instances.specs.Instances.{no_names}
 use Rattle.flat_instances.specs.Places.{Place}
 use Rattle.flat_scopes.specs.Wires.{ports_of}
-use Rattle.flat_items.specs.Replacing.{Replaces, Flattens, replaces, flattened, step, refused, not_placed, placed, condition, arm_null, arm_condition, arm_block, bad_genvar, bad_start, loop, turn_ended, bad_turn, turn, no_construct, first_turn, is_number, repeated, top_head, FlattensModule}
+use Rattle.flat_items.specs.Replacing.{Replaces, Flattens, replaces, flattened, step, refused, not_placed, placed, condition, arm_null, arm_condition, arm_full, arm_block, bad_genvar, bad_start, loop, turn_ended, bad_turn, turn, no_construct, first_turn, is_number, repeated, top_head, FlattensModule}
 use Rattle.flat_laws.specs.Laws.{FlattenedAreSound, TopHasPorts}
 use Rattle.flat_laws.specs.Ports.{AreAccepted, ArePorts}
 use Rattle.flat_laws.specs.Sound.{times_declared}
@@ -39,7 +39,8 @@ moved modules task flat tasks next (placed k name values instance old new place 
 moved modules task flat tasks next (condition k n at c first second old place got) h there = chosen_moves k n (condition_in place.names c) first second old h there
 moved modules task flat tasks next (arm_null k n at old) h there = none_moves old h
 moved modules task flat tasks next (arm_condition k n at c first second old) h there = one_moves (t.Generates k n (i.IfGenerate at c first second)) old h there (λ j. refl)
-moved modules task flat tasks next (arm_block k n item old new place name xs form got named d) h there = block_moves k place name (unopened place.names old.signals) item old new xs d h refl refl (inner_kept place old h (h.places k place got))
+moved modules task flat tasks next (arm_full k n item old form full) h there = one_moves (t.Refuses err.Scopes) old h tt (λ j. refl)
+moved modules task flat tasks next (arm_block k n item old new place name xs form room got named d) h there = block_moves k place name (unopened place.names old.signals) item old new xs d h refl refl (inner_kept place old h (h.places k place got))
 moved modules task flat tasks next (bad_genvar k n head body old what error sees fault) h there = one_moves (t.Refuses error) old h tt (λ j. refl)
 moved modules task flat tasks next (bad_start k n head body old what place error sees fault got value) h there = one_moves (t.Refuses error) old h tt (λ j. refl)
 moved modules task flat tasks next (loop k n head body old what place value name sees fault got start named) h there = one_moves (t.Turn k (first_turn name head body value)) old h there (λ j. refl)
@@ -158,7 +159,8 @@ task_accepted modules task flat tasks next (placed k name values instance old ne
 task_accepted modules task flat tasks next (condition k n at c first second old place got) h = tt
 task_accepted modules task flat tasks next (arm_null k n at old) h = tt
 task_accepted modules task flat tasks next (arm_condition k n at c first second old) h = tt
-task_accepted modules task flat tasks next (arm_block k n item old new place name xs form got named d) h = tt
+task_accepted modules task flat tasks next (arm_full k n item old form full) h = tt
+task_accepted modules task flat tasks next (arm_block k n item old new place name xs form room got named d) h = tt
 task_accepted modules task flat tasks next (bad_genvar k n head body old what error sees fault) h = tt
 task_accepted modules task flat tasks next (bad_start k n head body old what place error sees fault got value) h = tt
 task_accepted modules task flat tasks next (loop k n head body old what place value name sees fault got start named) h = tt

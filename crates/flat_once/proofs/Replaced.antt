@@ -1,5 +1,5 @@
 -- What stands in the place of a part is one.
-use Rattle.std.proofs.Common.{◌≡◌, ℕ, true≢false, true, false, List, [], ◌∷◌, Option, None, Some, Result, Ok, Err, refl, sym, ◌∙◌, subst}
+use Rattle.std.proofs.Common.{◌≡◌, ℕ, true≢false, Bool, true, false, List, [], ◌∷◌, Option, None, Some, Result, Ok, Err, refl, sym, ◌∙◌, subst}
 use Rattle.std.specs.Prelude.{slice_get}
 use Rattle.vlog_syntax.specs.declared.identifier.Identifier.{Identifier}
 use Rattle.vlog_syntax.specs.declared.item.GenerateLoop.{GenerateLoop}
@@ -13,6 +13,7 @@ use Rattle.vlog_syntax.specs.declared.module.Module.{Module}
 use Rattle.flat_scopes.specs.declared.signal.What.{What}
 use Rattle.flat_scopes.specs.Openings.{unopened}
 use Rattle.flat_instances.specs.declared.error.ItemError.{ItemError}
+use Rattle.flat_instances.specs.declared.error.ItemError.TheVariants.{Scopes}
 use Rattle.flat_instances.specs.declared.item.FlatItem.TheVariants as f
 use Rattle.flat_instances.specs.Places.{Place}
 use Rattle.flat_items.specs.declared.task.Task.{Task}
@@ -20,8 +21,8 @@ use Rattle.flat_items.specs.declared.task.Task.TheVariants as t
 use Rattle.flat_items.specs.declared.task.Turn.{Turn}
 use Rattle.flat_items.specs.declared.turn.Outcome.{Outcome}
 use Rattle.flat_items.specs.declared.turn.Outcome.TheVariants.{Goes, Ends, Refused}
-use Rattle.flat_items.specs.Flattened.{Flat, add_all, step_items, step_tasks, module_at, placed_in, condition_in, integer_in, chosen_tasks, label_of, IsBlockName, OpensBlock, Sees, genvar_fault, turn_start}
-use Rattle.flat_items.specs.Replacing.{PlacesInstance, TurnsOnce, Replaces, step, refused, not_placed, placed, condition, arm_null, arm_condition, arm_block, bad_genvar, bad_start, loop, turn_ended, bad_turn, turn, no_construct, first_turn, is_block_form, is_construct_form, outcome}
+use Rattle.flat_items.specs.Flattened.{Flat, add_all, is_full, step_items, step_tasks, module_at, placed_in, condition_in, integer_in, chosen_tasks, label_of, IsBlockName, OpensBlock, Sees, genvar_fault, turn_start}
+use Rattle.flat_items.specs.Replacing.{PlacesInstance, TurnsOnce, Replaces, step, refused, not_placed, placed, condition, arm_null, arm_condition, arm_full, arm_block, bad_genvar, bad_start, loop, turn_ended, bad_turn, turn, no_construct, first_turn, is_block_form, is_construct_form, outcome}
 use Rattle.flat_once.proofs.Forms.{out-loop, out-if, out-null}
 use Rattle.flat_once.proofs.Names.{block_name_once, sees_once}
 use Rattle.flat_once.proofs.Parts.{AreSame, one_there, block_once, places_once, turns_once}
@@ -56,10 +57,14 @@ Constructed k n flat tasks next other = Is [] flat tasks next
 abbrev Blocked : ℕ → ℕ → Item → Flat → List Task → Flat → Place → Type 0
 Blocked k n item flat tasks next place = (name : List ℕ) × IsBlockName place.own n (label_of item) name × OpensBlock k place name (unopened place.names flat.signals) item flat tasks next
 
+abbrev Roomed : ℕ → ℕ → Item → Flat → List Task → Flat → (full : Bool) → Type 0
+Roomed k n item flat tasks next true = Is (t.Refuses Scopes ∷ []) flat tasks next
+Roomed k n item flat tasks next false = InPlace flat k (Blocked k n item flat tasks next)
+
 abbrev Chosen : ℕ → ℕ → Item → Flat → List Task → Flat → Item-F Item → Type 0
 Chosen k n item flat tasks next (o.NullGenerate at) = Is [] flat tasks next
 Chosen k n item flat tasks next (o.IfGenerate at c first second) = Is (t.Generates k n item ∷ []) flat tasks next
-Chosen k n item flat tasks next other = InPlace flat k (Blocked k n item flat tasks next)
+Chosen k n item flat tasks next other = Roomed k n item flat tasks next (is_full flat)
 
 abbrev Turned : ℕ → Turn → Flat → List Task → Flat → Place → Outcome → Type 0
 Turned k x flat tasks next place Ends = Is [] flat tasks next
@@ -68,14 +73,14 @@ Turned k x flat tasks next place Goes = TurnsOnce k place x (turn_start place fl
 
 -- the outcome of a turn in a scope
 abbrev outcome_in : Place → Flat → Turn → Outcome
-outcome_in place flat x = outcome (condition_in (turn_start place flat.signals x).names x.head.condition) x.count
+outcome_in place flat x = outcome (is_full flat) (condition_in (turn_start place flat.signals x).names x.head.condition) x.count
 
-abbrev placing : List Module → Identifier → Place → Result ℕ ItemError
-placing modules name place = placed_in name (module_at modules name.name) place.within
+abbrev placing : List Module → Identifier → Flat → Place → Result ℕ ItemError
+placing modules name flat place = placed_in (is_full flat) name (module_at modules name.name) place.within
 
 abbrev Answer : List Module → Task → Flat → List Task → Flat → Type 0
 Answer modules (t.Step k x) flat tasks next = Is (step_tasks k x) (add_all flat (step_items k x)) tasks next
-Answer modules (t.Instance k name values instance) flat tasks next = InPlace flat k (λ (place : Place). Placed modules k place values instance flat tasks next (placing modules name place))
+Answer modules (t.Instance k name values instance) flat tasks next = InPlace flat k (λ (place : Place). Placed modules k place values instance flat tasks next (placing modules name flat place))
 Answer modules (t.Generates k n item) flat tasks next = Constructed k n flat tasks next (out-Item item)
 Answer modules (t.Arm k n item) flat tasks next = Chosen k n item flat tasks next (out-Item item)
 Answer modules (t.Turn k x) flat tasks next = InPlace flat k (λ (place : Place). Turned k x flat tasks next place (outcome_in place flat x))
@@ -91,7 +96,7 @@ no_form k n flat (o.GenerateRegion at items) h = (refl, refl)
 no_form k n flat (o.GenerateBlock at name items) h = (refl, refl)
 no_form k n flat (o.NullGenerate at) h = (refl, refl)
 
-block_form : (k n : ℕ) (item : Item) (flat next : Flat) (tasks : List Task) (form : Item-F Item) → is_block_form form ≡ true → InPlace flat k (Blocked k n item flat tasks next) → Chosen k n item flat tasks next form
+block_form : (k n : ℕ) (item : Item) (flat next : Flat) (tasks : List Task) (form : Item-F Item) → is_block_form form ≡ true → Roomed k n item flat tasks next (is_full flat) → Chosen k n item flat tasks next form
 block_form k n item flat next tasks (o.NullGenerate at) h d = absurd (true≢false (sym h))
 block_form k n item flat next tasks (o.IfGenerate at c first second) h d = absurd (true≢false (sym h))
 block_form k n item flat next tasks (o.LoopGenerate head body) h d = d
@@ -118,16 +123,17 @@ answers : (modules : List Module) (task : Task) (flat : Flat) (tasks : List Task
 answers modules task flat tasks next (step k x old) = (refl, refl)
 answers modules task flat tasks next (refused error old) = (refl, refl)
 answers modules task flat tasks next (not_placed k name values instance old place error got found) =
-    (place, got, as_found (Placed modules k place values instance old (t.Refuses error ∷ []) old) (placing modules name place) (Err error) found (refl, refl))
+    (place, got, as_found (Placed modules k place values instance old (t.Refuses error ∷ []) old) (placing modules name old place) (Err error) found (refl, refl))
 answers modules task flat tasks next (placed k name values instance old new place n xs got found d) =
-    (place, got, as_found (Placed modules k place values instance old xs new) (placing modules name place) (Ok n) found d)
+    (place, got, as_found (Placed modules k place values instance old xs new) (placing modules name old place) (Ok n) found d)
 answers modules task flat tasks next (condition k n at c first second old place got) =
     as_found (Constructed k n old (chosen_tasks k n (condition_in place.names c) first second) old) (out-Item (i.IfGenerate at c first second)) (o.IfGenerate at c first second) (out-if at c first second) (place, got, (refl, refl))
 answers modules task flat tasks next (arm_null k n at old) = as_found (Chosen k n (i.NullGenerate at) old [] old) (out-Item (i.NullGenerate at)) (o.NullGenerate at) (out-null at) (refl, refl)
 answers modules task flat tasks next (arm_condition k n at c first second old) =
     let item = i.IfGenerate at c first second in
     as_found (Chosen k n item old (t.Generates k n item ∷ []) old) (out-Item item) (o.IfGenerate at c first second) (out-if at c first second) (refl, refl)
-answers modules task flat tasks next (arm_block k n item old new place name xs form got named d) = block_form k n item old new xs (out-Item item) form (place, got, (name, named, d))
+answers modules task flat tasks next (arm_full k n item old form full) = block_form k n item old old (t.Refuses Scopes ∷ []) (out-Item item) form (as_found (Roomed k n item old (t.Refuses Scopes ∷ []) old) (is_full old) true full (refl, refl))
+answers modules task flat tasks next (arm_block k n item old new place name xs form room got named d) = block_form k n item old new xs (out-Item item) form (as_found (Roomed k n item old xs new) (is_full old) false room (place, got, (name, named, d)))
 answers modules task flat tasks next (bad_genvar k n head body old what error sees fault) =
     looped_as k n head body old (t.Refuses error ∷ []) old what sees (as_found (Looped k n head body old (t.Refuses error ∷ []) old) (genvar_fault what head.name.span) (Some error) fault (refl, refl))
 answers modules task flat tasks next (bad_start k n head body old what place error sees fault got start) = started_as k n head body old (t.Refuses error ∷ []) old what place (Err error) sees fault got start (refl, refl)
@@ -187,14 +193,19 @@ blocked_once k n item flat tasks others next after (place, got, (name, named, d)
     let start = unopened place.names flat.signals in
     block_once k place name start item flat tasks others next after d (subst (λ (x : List ℕ). OpensBlock k place x start item flat others after) same there.2)
 
+roomed_once : (k n : ℕ) (item : Item) (flat : Flat) (tasks others : List Task) (next after : Flat) (full : Bool)
+    → Roomed k n item flat tasks next full → Roomed k n item flat others after full → AreSame tasks others next after
+roomed_once k n item flat tasks others next after true a b = is_once (t.Refuses Scopes ∷ []) flat tasks others next after a b
+roomed_once k n item flat tasks others next after false a b = blocked_once k n item flat tasks others next after a b
+
 chosen_once : (k n : ℕ) (item : Item) (flat : Flat) (tasks others : List Task) (next after : Flat) (form : Item-F Item)
     → Chosen k n item flat tasks next form → Chosen k n item flat others after form → AreSame tasks others next after
 chosen_once k n item flat tasks others next after (o.NullGenerate at) a b = is_once [] flat tasks others next after a b
 chosen_once k n item flat tasks others next after (o.IfGenerate at c first second) a b = is_once (t.Generates k n item ∷ []) flat tasks others next after a b
-chosen_once k n item flat tasks others next after (o.LoopGenerate head body) a b = blocked_once k n item flat tasks others next after a b
-chosen_once k n item flat tasks others next after (o.Plain x) a b = blocked_once k n item flat tasks others next after a b
-chosen_once k n item flat tasks others next after (o.GenerateRegion at items) a b = blocked_once k n item flat tasks others next after a b
-chosen_once k n item flat tasks others next after (o.GenerateBlock at name items) a b = blocked_once k n item flat tasks others next after a b
+chosen_once k n item flat tasks others next after (o.LoopGenerate head body) a b = roomed_once k n item flat tasks others next after (is_full flat) a b
+chosen_once k n item flat tasks others next after (o.Plain x) a b = roomed_once k n item flat tasks others next after (is_full flat) a b
+chosen_once k n item flat tasks others next after (o.GenerateRegion at items) a b = roomed_once k n item flat tasks others next after (is_full flat) a b
+chosen_once k n item flat tasks others next after (o.GenerateBlock at name items) a b = roomed_once k n item flat tasks others next after (is_full flat) a b
 
 turned_once : (k : ℕ) (x : Turn) (flat : Flat) (tasks others : List Task) (next after : Flat) (place : Place) (found : Outcome)
     → Turned k x flat tasks next place found → Turned k x flat others after place found → AreSame tasks others next after
@@ -205,8 +216,8 @@ turned_once k x flat tasks others next after place Goes a b = turns_once k place
 answer_once : (modules : List Module) (task : Task) (flat : Flat) (tasks others : List Task) (next after : Flat) → Answer modules task flat tasks next → Answer modules task flat others after → AreSame tasks others next after
 answer_once modules (t.Step k x) flat tasks others next after a b = is_once (step_tasks k x) (add_all flat (step_items k x)) tasks others next after a b
 answer_once modules (t.Instance k name values instance) flat tasks others next after (place, got, a) b =
-    placed_once modules k place values instance flat tasks others next after (placing modules name place) a
-    (in_place flat k (λ (p : Place). Placed modules k p values instance flat others after (placing modules name p)) place got b)
+    placed_once modules k place values instance flat tasks others next after (placing modules name flat place) a
+    (in_place flat k (λ (p : Place). Placed modules k p values instance flat others after (placing modules name flat p)) place got b)
 answer_once modules (t.Generates k n item) flat tasks others next after a b = constructed_once k n flat tasks others next after (out-Item item) a b
 answer_once modules (t.Arm k n item) flat tasks others next after a b = chosen_once k n item flat tasks others next after (out-Item item) a b
 answer_once modules (t.Turn k x) flat tasks others next after (place, got, a) b =

@@ -58,5 +58,6 @@ pub fn put_error(page: &mut Page, error: ItemError) {
         }
         ItemError::Delay(place) => put_at(page, "Delay", place),
         ItemError::LoopTurns => page.put("LoopTurns"),
+        ItemError::Scopes => page.put("Scopes"),
     }
 }
