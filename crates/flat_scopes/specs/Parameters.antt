@@ -1,5 +1,5 @@
 -- What a parameter is declared as (IEEE 1364-2005, 4.10 and 12.2).
-use Rattle.std.specs.Prelude.{◌≡◌, ◌≤◌, ◌%◌, ◌^◌, Bool, ◌||◌, List}
+use Rattle.std.specs.Prelude.{◌≡◌, ℕ, ◌≤◌, ◌%◌, ◌^◌, Bool, ◌||◌, List}
 use Rattle.mcy_base.specs.declared.word.Word.{Word}
 use Rattle.vlog_meaning.specs.declared.fault.Fault.{Fault}
 use Rattle.vlog_meaning.specs.declared.scope.Decl.{Decl}
