@@ -425,6 +425,12 @@ if has_tool python3 "no random files are tried"; then
     case_is $? "random files have answers of the table: $(cat "$room/lines")"
 fi
 
+# Small sources that ask for very much.
+if has_tool python3 "no small sources that ask for very much are tried"; then
+    python3 "$root/tests/program/small_sources.py" --program "$mcy" >"$room/lines"
+    case_is $? "small sources that ask for very much have their answers soon and in little memory: $(cat "$room/lines")"
+fi
+
 # The script, with a kit that makes programs that are none.
 if has_tool python3 "the script mcy is not tried"; then
     python3 "$root/tests/program/script.py" >"$room/lines" 2>&1

@@ -30,7 +30,7 @@ NAMES = (
     "BadCharacter|OpenComment|OpenString|BadNumber|Unexpected|UnknownMacro|OpenCondition|TooDeep|Twice|Unknown|Recursive|"
     "PortMismatch|NotConstant|DivideByZero|TooWide|Loop|TwoClocks"
 )
-KINDS = "Tokens|LoopTurns|Cells|NetBits|RegisterBits|Sites|Gates|FreeBits"
+KINDS = "Tokens|LoopTurns|Cells|NetBits|RegisterBits|Sites|Gates|FreeBits|Scopes"
 LINES = {
     0: r"",
     1: r"",
