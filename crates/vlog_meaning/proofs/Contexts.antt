@@ -1,5 +1,5 @@
 -- Operands in their contexts, and values that fit them.
-use Rattle.std.proofs.Common.{◌≡◌, ℕ, zero, suc, ◌+◌, ◌-◌, ◌*◌, ◌/◌, ◌%◌, ◌<◌, ◌≤◌, ◌^◌, max, Bool, true, false, ◌&&◌, ℤ, pos, negsuc, neg_ℤ, refl, arith, subst}
+use Rattle.std.proofs.Common.{◌≡◌, ℕ, zero, suc, ◌+◌, ◌-◌, ◌*◌, ◌/◌, ◌%◌, ◌<◌, ◌≤◌, ◌^◌, max, Bool, true, false, ◌&&◌, ℤ, pos, negsuc, neg_ℤ, refl, sym, arith, subst}
 use Rattle.std.specs.Prelude.{if◌then◌else◌}
 use Rattle.std.specs.Int.Bits.{and_lt}
 use Rattle.std.proofs.lemmas.Nat.{xor_lt, or_lt}
@@ -12,7 +12,7 @@ use Rattle.vlog_meaning.specs.declared.shapes.Shape.{Shape}
 use Rattle.vlog_meaning.specs.declared.operator.Sizing.{Sizing}
 use Rattle.vlog_meaning.specs.declared.operator.Sizing.TheVariants.{Common, Left, Compared, Apart}
 use Rattle.vlog_meaning.specs.Integers.{integer, low_bits, parity, window}
-use Rattle.vlog_meaning.specs.Operators.{IsSized, ArePaired, joint, sizing, pair_shape, left_context, right_context, result_width, unary_shape, operand_context, digit, unary_value, binary_value, negative_power}
+use Rattle.vlog_meaning.specs.Operators.{IsSized, ArePaired, bit, is_reduction, joint, sizing, pair_shape, left_context, right_context, result_width, unary_shape, operand_context, digit, unary_value, binary_value, negative_power}
 use Rattle.vlog_meaning.specs.Senses.{IsContext}
 use Rattle.vlog_meaning.proofs.Powers.{power_le}
 
@@ -164,3 +164,24 @@ unary_some ReductionOr i sized = omega arith
 unary_some ReductionNor i sized = omega arith
 unary_some ReductionXor i sized = omega arith
 unary_some ReductionXnor i sized = omega arith
+
+-- an operator before an operand that stands for itself
+own_if : (b : Bool) (i : Shape) → (if b then i else (if b then bit else i)) ≡ i
+own_if true i = refl
+own_if false i = refl
+
+pub operand_own : (op : UnaryOperator) (i : Shape) → operand_context op i (unary_shape op i) ≡ i
+operand_own op i = own_if (is_reduction op) i
+
+sized_if : (b : Bool) (i : Shape) → IsSized i → IsSized (if b then bit else i)
+sized_if true i sized = record { some = omega arith; narrow = omega arith }
+sized_if false i sized = sized
+
+pub unary_sized : (op : UnaryOperator) (i : Shape) → IsSized i → IsSized (unary_shape op i)
+unary_sized op i sized = sized_if (is_reduction op) i sized
+
+pub unary_own_fits : (op : UnaryOperator) (i : Shape) (a : ℕ) → IsSized i → a < 2 ^ i.width → unary_value op i a < 2 ^ (unary_shape op i).width
+unary_own_fits op i a sized h =
+    let P : Shape → Type 0 = λ s. unary_value op s a < 2 ^ (unary_shape op i).width in
+    let Q : Shape → Type 0 = λ s. a < 2 ^ s.width in
+    subst P (operand_own op i) (unary_fits op i (unary_shape op i) a (unary_some op i sized) (subst Q (sym (operand_own op i)) h))

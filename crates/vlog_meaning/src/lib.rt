@@ -4,8 +4,8 @@
 //! `specs/Senses` says by one line for each production and question what an expression says: its shape, its value at a width and
 //! sign, the bits that it reads, the signals in it, what is wrong, and where it divides by 0. `Operators` has the tables of the
 //! operators, `Integers` two's complement, `Answers` which of several faults is answered. `values` computes shapes and values of
-//! expressions in which nothing is wrong; `signals`, `zeros` and `faults` look for the first thing that is; `answers` has the
-//! public calls.
+//! expressions in which nothing is wrong, and `own` both of a node from what its parts are; `signals`, `zeros` and `faults` look
+//! for the first thing that is wrong; `answers` has the public calls.
 #![tactic(auto)]
 
 mod answers;
@@ -17,6 +17,7 @@ mod function;
 mod integer;
 mod laws;
 mod operator;
+mod own;
 mod scope;
 mod shapes;
 mod signals;
@@ -30,9 +31,7 @@ pub use faults::{constant_fault, fault_in};
 pub use function::{Function, function_of};
 pub use integer::{clog2, extend, repeated, shift_left, shift_right, truncate};
 pub use laws::{names_declared_again, values_rest_on_reads};
-pub use operator::{
-    Sizing, binary_value, is_reduction, operand_context, sizing_of, unary_value,
-};
+pub use operator::{Sizing, binary_value, is_reduction, operand_context, sizing_of, unary_value};
 pub use scope::{Decl, Scope, ScopeError};
 pub use shapes::Shape;
 pub use signals::signal_in;

@@ -1,74 +1,23 @@
 //! The shape of an expression, and its value at a width and sign.
 //!
 //! Both are asked of an expression that has a shape: one in which nothing is wrong.
-ghost use Rattle.std.specs.Prelude.{◌≡◌, ◌≤◌, ◌<◌, ◌^◌, [], List, map, IsTrue, false};
-ghost use Rattle.vlog_meaning.specs.Integers.{integer, natural, window, bound_integer};
+ghost use Rattle.std.specs.Prelude.{◌≡◌, ◌≤◌, ◌<◌, ◌^◌, IsTrue};
+ghost use Rattle.vlog_meaning.specs.Integers.{natural, bound_integer};
 ghost use Rattle.vlog_meaning.specs.Operators.{IsSized};
-ghost use Rattle.vlog_meaning.specs.Scopes.{Names, names_of, store_of, FitsSignals, decl_shape, decl_value};
-ghost use Rattle.vlog_meaning.specs.Senses.{Sense, sense, senses, own, index_of, constant_integer, IsWhole, AreWhole, IsWholeCall, IsContext, total_width, joined, repeated, call_shape, call_value, part_width};
+ghost use Rattle.vlog_meaning.specs.Scopes.{names_of, store_of, FitsSignals};
+ghost use Rattle.vlog_meaning.specs.Senses.{sense, senses, own, index_of, constant_integer, IsWhole, AreWhole, IsWholeCall, IsContext, total_width, joined, unsigned, call_shape, call_value};
 
 use crate::bound::{Bound, count, part_width, window};
 use crate::function::{Function, function_of};
-use crate::integer::{clog2, extend, repeated, shift_left};
+use crate::integer::{clog2, extend, shift_left};
 use crate::operator::{
     BIT, binary_value, joint, operand_context, sizing_of, unary_shape, unary_value,
 };
-use crate::scope::{Decl, Scope};
+use crate::own::{Own, indexed_of, name_shape, name_value, part_of, times_of, unary_of, unsigned};
+use crate::scope::Scope;
 use crate::shapes::Shape;
 use mcy_base::Word;
-use vlog_syntax::{Expr, Identifier};
-
-/// An unsigned shape.
-fn unsigned(width: u8) -> Shape
-    ensures { result ≡ record { width = width; is_signed = false } }
-{
-    Shape {
-        width,
-        is_signed: false,
-    }
-}
-
-/// The shape of a name.
-fn name_shape(scope: &Scope, name: &Identifier) -> Shape
-    ensures { result ≡ decl_shape (names_of scope.now name.now.name) }
-{
-    match scope.get(name.name.as_str()) {
-        Some(
-            Decl::Signal {
-                width,
-                is_signed,
-                ..
-            },
-        ) => Shape { width, is_signed },
-        Some(
-            Decl::Constant {
-                value,
-                is_signed,
-                ..
-            },
-        ) => Shape {
-            width: value.width(),
-            is_signed,
-        },
-        None => BIT,
-    }
-}
-
-/// The value of a name.
-fn name_value(scope: &Scope, store: &[Word], name: &Identifier) -> u128
-    requires { FitsSignals (names_of scope.now) store.now }
-    ensures value { result ≡ decl_value (store_of store.now) (names_of scope.now name.now.name) }
-    ensures fits { result < 2 ^ (decl_shape (names_of scope.now name.now.name)).width }
-{
-    match scope.get(name.name.as_str()) {
-        Some(Decl::Signal { number, .. }) => match store.get(number as usize) {
-            Some(word) => word.bits(),
-            None => 0,
-        },
-        Some(Decl::Constant { value, .. }) => value.bits(),
-        None => 0,
-    }
-}
+use vlog_syntax::Expr;
 
 /// The width and sign of an expression.
 #[cycle(value)]
@@ -132,6 +81,43 @@ fn call_shape(function: Option<Function>, arguments: &[Expr], scope: &Scope) -> 
     }
 }
 
+/// The shape and the value of an expression that stands for itself: those of each constant in its selects and counts
+/// are found once.
+#[cycle(value)]
+#[tactic(auto, using(crate::proofs::Contexts::operand_own))]
+pub fn own_of(expr: &Expr, scope: &Scope, store: &[Word]) -> Own
+    requires whole { IsWhole (names_of scope.now) expr.now }
+    requires stored { FitsSignals (names_of scope.now) store.now }
+    ensures shape { result.shape ≡ (sense (names_of scope.now) expr.now).shape }
+    ensures sized { IsSized result.shape }
+    ensures value { result.value ≡ own (store_of store.now) (sense (names_of scope.now) expr.now) }
+    ensures fits { result.value < 2 ^ result.shape.width }
+{
+    match expr {
+        Expr::PartSelect(name, _, msb, lsb) => {
+            let msb = bound_of(msb.get(), scope);
+            part_of(name, msb, bound_of(lsb.get(), scope), scope, store)
+        }
+        Expr::IndexedPartSelect(name, _, base, width) => {
+            let width = count_of(width.get(), scope) as u8;
+            let at = index_of(base.get(), scope, store);
+            indexed_of(name, at, width, scope, store)
+        }
+        Expr::Parenthesized(_, inner) => own_of(inner.get(), scope, store),
+        Expr::Unary(_, op, operand) => unary_of(*op, own_of(operand.get(), scope, store)),
+        Expr::Concatenation(_, parts) => joined(parts.as_slice(), scope, store),
+        Expr::MultipleConcatenation(_, times, parts) => {
+            let times = count_of(times.get(), scope) as u8;
+            times_of(times, joined(parts.as_slice(), scope, store))
+        }
+        _ => {
+            let shape = shape_of(expr, scope);
+            let value = value_of(expr, scope, store, shape);
+            Own { shape, value }
+        }
+    }
+}
+
 /// The value of an expression that stands for itself.
 #[cycle(value)]
 pub fn own_value(expr: &Expr, scope: &Scope, store: &[Word]) -> u128
@@ -140,7 +126,7 @@ pub fn own_value(expr: &Expr, scope: &Scope, store: &[Word]) -> u128
     ensures value { result ≡ own (store_of store.now) (sense (names_of scope.now) expr.now) }
     ensures fits { result < 2 ^ (sense (names_of scope.now) expr.now).shape.width }
 {
-    value_of(expr, scope, store, shape_of(expr, scope))
+    own_of(expr, scope, store).value
 }
 
 /// The integer that an expression is by its sign, as an index.
@@ -151,7 +137,8 @@ pub fn index_of(expr: &Expr, scope: &Scope, store: &[Word]) -> Bound
     ensures value { bound_integer result ≡ index_of (store_of store.now) (sense (names_of scope.now) expr.now) }
     ensures small { IsTrue result.is_negative → result.magnitude ≤ 2 ^ 127 }
 {
-    Bound::of(shape_of(expr, scope), own_value(expr, scope, store))
+    let own = own_of(expr, scope, store);
+    Bound::of(own.shape, own.value)
 }
 
 /// The integer that a constant is.
@@ -161,7 +148,7 @@ pub fn bound_of(expr: &Expr, scope: &Scope) -> Bound
     ensures value { bound_integer result ≡ constant_integer (sense (names_of scope.now) expr.now) }
     ensures small { IsTrue result.is_negative → result.magnitude ≤ 2 ^ 127 }
 {
-    Bound::of(shape_of(expr, scope), own_value(expr, scope, &[]))
+    index_of(expr, scope, &[])
 }
 
 /// The count that a constant is.
@@ -170,7 +157,8 @@ pub fn count_of(expr: &Expr, scope: &Scope) -> u128
     requires { IsWhole (names_of scope.now) expr.now }
     ensures { result ≡ natural (constant_integer (sense (names_of scope.now) expr.now)) }
 {
-    count(shape_of(expr, scope), own_value(expr, scope, &[]))
+    let own = own_of(expr, scope, &[]);
+    count(own.shape, own.value)
 }
 
 /// The sum of the widths.
@@ -255,11 +243,10 @@ pub fn value_of(expr: &Expr, scope: &Scope, store: &[Word], context: Shape) -> u
                 value_of(yes.get(), scope, store, context)
             }
         }
-        Expr::Concatenation(_, parts) => joined(parts.as_slice(), scope, store),
+        Expr::Concatenation(_, parts) => joined(parts.as_slice(), scope, store).value,
         Expr::MultipleConcatenation(_, times, parts) => {
             let times = count_of(times.get(), scope) as u8;
-            let width = total_width(parts.as_slice(), scope);
-            repeated(times, width, joined(parts.as_slice(), scope, store))
+            times_of(times, joined(parts.as_slice(), scope, store)).value
         }
         Expr::SystemFunctionCall(name, arguments) => call_value(
             function_of(name.name.as_str()),
@@ -301,21 +288,27 @@ fn call_value(
     }
 }
 
-/// The value of a concatenation.
+/// The width and the value of a concatenation.
 #[cycle(value)]
-fn joined(parts: &[Expr], scope: &Scope, store: &[Word]) -> u128
+fn joined(parts: &[Expr], scope: &Scope, store: &[Word]) -> Own
     requires whole { AreWhole (names_of scope.now) parts.now }
     requires narrow { total_width (senses (names_of scope.now) parts.now) ≤ 128 }
     requires stored { FitsSignals (names_of scope.now) store.now }
-    ensures value { result ≡ joined (store_of store.now) (senses (names_of scope.now) parts.now) }
-    ensures fits { result < 2 ^ total_width (senses (names_of scope.now) parts.now) }
+    ensures shape { result.shape ≡ unsigned (total_width (senses (names_of scope.now) parts.now)) }
+    ensures value { result.value ≡ joined (store_of store.now) (senses (names_of scope.now) parts.now) }
+    ensures fits { result.value < 2 ^ result.shape.width }
 {
+    let mut width: u8 = 0;
     let mut value = 0;
     for part in parts {
-        let width = shape_of(part, scope).width;
-        value = shift_left(value, u128::from(width), 128) + own_value(part, scope, store);
+        let own = own_of(part, scope, store);
+        width += own.shape.width;
+        value = shift_left(value, u128::from(own.shape.width), 128) + own.value;
     }
-    value
+    Own {
+        shape: unsigned(width),
+        value,
+    }
 }
 
 /// The sum of the widths, however large.

@@ -7,7 +7,7 @@ use Rattle.vlog_meaning.specs.declared.shapes.Shape.{Shape}
 use Rattle.vlog_meaning.proofs.Powers.{power_le}
 use Rattle.vlog_meaning.proofs.Joins.{joined_fits, shifted_whole}
 use Rattle.vlog_meaning.proofs.Contexts.{window_fits}
-use Rattle.vlog_meaning.proofs.Whole.{whole_part, whole_indexed, whole_pair, whole_choice, whole_times, whole_call, element_whole}
+use Rattle.vlog_meaning.proofs.Whole.{whole_part, whole_indexed, whole_pair, whole_choice, whole_join, whole_times, whole_call, element_whole}
 use Rattle.vlog_meaning.proofs.Results.{fits_own, left_at, right_at, pair_result, unary_result, yes_at, no_at, parts_drop, total_take, total_parts, joined_step}
 use Rattle.vlog_syntax.specs.declared.expr.Expr.TheViews.{the_lemmas}
 use Rattle.vlog_meaning.proofs.Steps as step
@@ -21,12 +21,6 @@ value_of-bound_of-lsb-requires t c = (search (rules, the_lemmas), rw c.get-in-Pa
 
 pub value_of-count_of-width-requires : goal.value_of-count_of-width-requires
 value_of-count_of-width-requires t c = (search (rules, the_lemmas), rw c.get-in-IndexedPartSelect.ensures (whole_indexed (names_of c.args.scope.now) c.args.expr.now c.in-IndexedPartSelect.name c.in-IndexedPartSelect.field-1 c.in-IndexedPartSelect.base c.in-IndexedPartSelect.width c.in-IndexedPartSelect.is c.requires.whole).width)
-
-pub index_of-shape_of-requires : goal.index_of-shape_of-requires
-index_of-shape_of-requires t c = (search (rules, the_lemmas), c.requires.whole)
-
-pub index_of-own_value-requires : goal.index_of-own_value-requires
-index_of-own_value-requires t c = (search (rules, the_lemmas), (c.requires.whole, c.requires.stored))
 
 pub value_of-index_of-place-requires-in-IndexedPartSelect : goal.value_of-index_of-place-requires-in-IndexedPartSelect
 value_of-index_of-place-requires-in-IndexedPartSelect t c = (search (rules, the_lemmas), (rw c.get-in-IndexedPartSelect-2.ensures (whole_indexed (names_of c.args.scope.now) c.args.expr.now c.in-IndexedPartSelect.name c.in-IndexedPartSelect.field-1 c.in-IndexedPartSelect.base c.in-IndexedPartSelect.width c.in-IndexedPartSelect.is c.requires.whole).base, c.requires.stored))
@@ -61,11 +55,8 @@ value_of-count_of-times-requires t c = (search (rules, the_lemmas), rw c.get-in-
 pub value_of-overflow_cast-times : goal.value_of-overflow_cast-times
 value_of-overflow_cast-times t c = let f = (whole_times (names_of c.args.scope.now) c.args.expr.now c.in-MultipleConcatenation.field-0 c.in-MultipleConcatenation.times c.in-MultipleConcatenation.parts c.in-MultipleConcatenation.is c.requires.whole).few in let e = c.count_of-times.ensures ∙ ap (λ (x : Expr). natural (constant_integer (sense (names_of c.args.scope.now) x))) c.get-in-MultipleConcatenation.ensures in omega (arith, f, e)
 
-pub value_of-total_width-width-requires : goal.value_of-total_width-width-requires
-value_of-total_width-width-requires t c = (search (rules, the_lemmas), (rw c.as_slice-in-MultipleConcatenation.ensures (whole_times (names_of c.args.scope.now) c.args.expr.now c.in-MultipleConcatenation.field-0 c.in-MultipleConcatenation.times c.in-MultipleConcatenation.parts c.in-MultipleConcatenation.is c.requires.whole).parts, rw c.as_slice-in-MultipleConcatenation.ensures (whole_times (names_of c.args.scope.now) c.args.expr.now c.in-MultipleConcatenation.field-0 c.in-MultipleConcatenation.times c.in-MultipleConcatenation.parts c.in-MultipleConcatenation.is c.requires.whole).short))
-
 pub value_of-joined-requires-in-MultipleConcatenation : goal.value_of-joined-requires-in-MultipleConcatenation
-value_of-joined-requires-in-MultipleConcatenation t c = (search (rules, the_lemmas), (rw c.as_slice-in-MultipleConcatenation-2.ensures (whole_times (names_of c.args.scope.now) c.args.expr.now c.in-MultipleConcatenation.field-0 c.in-MultipleConcatenation.times c.in-MultipleConcatenation.parts c.in-MultipleConcatenation.is c.requires.whole).parts, (rw c.as_slice-in-MultipleConcatenation-2.ensures (whole_times (names_of c.args.scope.now) c.args.expr.now c.in-MultipleConcatenation.field-0 c.in-MultipleConcatenation.times c.in-MultipleConcatenation.parts c.in-MultipleConcatenation.is c.requires.whole).short, c.requires.stored)))
+value_of-joined-requires-in-MultipleConcatenation t c = (search (rules, the_lemmas), (rw c.as_slice-in-MultipleConcatenation.ensures (whole_times (names_of c.args.scope.now) c.args.expr.now c.in-MultipleConcatenation.field-0 c.in-MultipleConcatenation.times c.in-MultipleConcatenation.parts c.in-MultipleConcatenation.is c.requires.whole).parts, (rw c.as_slice-in-MultipleConcatenation.ensures (whole_times (names_of c.args.scope.now) c.args.expr.now c.in-MultipleConcatenation.field-0 c.in-MultipleConcatenation.times c.in-MultipleConcatenation.parts c.in-MultipleConcatenation.is c.requires.whole).short, c.requires.stored)))
 
 pub value_of-call_value-requires : goal.value_of-call_value-requires
 value_of-call_value-requires t c = (search (rules, the_lemmas), (rw (c.function_of.ensures, c.as_str-in-SystemFunctionCall.ensures, c.as_slice-in-SystemFunctionCall.ensures) (whole_call (names_of c.args.scope.now) c.args.expr.now c.in-SystemFunctionCall.name c.in-SystemFunctionCall.arguments c.in-SystemFunctionCall.is c.requires.whole), (c.requires.stored, rw (c.function_of.ensures, c.as_str-in-SystemFunctionCall.ensures, c.as_slice-in-SystemFunctionCall.ensures) (subst (λ (y : Sense). IsContext y.shape c.args.context) (ap (sense (names_of c.args.scope.now)) c.in-SystemFunctionCall.is ∙ step.sense_system_function_call (names_of c.args.scope.now) c.in-SystemFunctionCall.name c.in-SystemFunctionCall.arguments) c.requires.context))))
@@ -83,35 +74,75 @@ pub value_of-returns-in-Unary-clause-fits : goal.value_of-returns-in-Unary-claus
 value_of-returns-in-Unary-clause-fits t c = unary_result (names_of c.args.scope.now) c.args.expr.now c.in-Unary.field-0 c.in-Unary.op c.in-Unary.operand c.args.context c.shape_of.result c.operand_context-at.result c.value_of-in-Unary.result c.unary_value.result c.in-Unary.is c.requires.context (c.shape_of.ensures.shape ∙ ap (λ (x : Expr). (sense (names_of c.args.scope.now) x).shape) c.get-in-Unary.ensures) c.shape_of.ensures.sized c.operand_context-at.ensures c.value_of-in-Unary.ensures.fits c.unary_value.ensures
 
 pub value_of-returns-in-Concatenation-clause-fits : goal.value_of-returns-in-Concatenation-clause-fits
-value_of-returns-in-Concatenation-clause-fits t c = fits_own (names_of c.args.scope.now) c.args.expr.now _ c.args.context c.joined.result (ap (sense (names_of c.args.scope.now)) c.in-Concatenation.is ∙ step.sense_concatenation (names_of c.args.scope.now) c.in-Concatenation.field-0 c.in-Concatenation.parts) c.requires.context (rw (← c.as_slice.ensures) c.joined.ensures.fits)
+value_of-returns-in-Concatenation-clause-fits t c = let w = (ap (λ (s : Shape). s.width) c.joined.ensures.shape ∙ ap (λ (x : List Expr). total_width (senses (names_of c.args.scope.now) x)) c.as_slice.ensures) in let P : ℕ → Type 0 = λ n. c.joined.result.value < 2 ^ n in fits_own (names_of c.args.scope.now) c.args.expr.now _ c.args.context c.joined.result.value (ap (sense (names_of c.args.scope.now)) c.in-Concatenation.is ∙ step.sense_concatenation (names_of c.args.scope.now) c.in-Concatenation.field-0 c.in-Concatenation.parts) c.requires.context (subst P w c.joined.ensures.fits)
 
 pub value_of-returns-in-MultipleConcatenation-clause-fits : goal.value_of-returns-in-MultipleConcatenation-clause-fits
-value_of-returns-in-MultipleConcatenation-clause-fits t c = let n = c.count_of-times.ensures ∙ ap (λ (x : Expr). natural (constant_integer (sense (names_of c.args.scope.now) x))) c.get-in-MultipleConcatenation.ensures in let w = c.total_width-width.ensures ∙ ap (λ (x : List Expr). total_width (senses (names_of c.args.scope.now) x)) c.as_slice-in-MultipleConcatenation.ensures in fits_own (names_of c.args.scope.now) c.args.expr.now _ c.args.context c.repeated.result (ap (sense (names_of c.args.scope.now)) c.in-MultipleConcatenation.is ∙ step.sense_multiple_concatenation (names_of c.args.scope.now) c.in-MultipleConcatenation.field-0 c.in-MultipleConcatenation.times c.in-MultipleConcatenation.parts) c.requires.context (rw (← n, ← w) c.repeated.ensures.fits)
+value_of-returns-in-MultipleConcatenation-clause-fits t c = let n = (c.count_of-times.ensures ∙ ap (λ (x : Expr). natural (constant_integer (sense (names_of c.args.scope.now) x))) c.get-in-MultipleConcatenation.ensures) in let w = (ap (λ (s : Shape). s.width) c.joined-in-MultipleConcatenation.ensures.shape ∙ ap (λ (x : List Expr). total_width (senses (names_of c.args.scope.now) x)) c.as_slice-in-MultipleConcatenation.ensures) in let q = ap (λ (s : Shape). s.width) c.times_of.ensures.shape in let P : ℕ → Type 0 = λ k. c.times_of.result.value < 2 ^ k in fits_own (names_of c.args.scope.now) c.args.expr.now _ c.args.context c.times_of.result.value (ap (sense (names_of c.args.scope.now)) c.in-MultipleConcatenation.is ∙ step.sense_multiple_concatenation (names_of c.args.scope.now) c.in-MultipleConcatenation.field-0 c.in-MultipleConcatenation.times c.in-MultipleConcatenation.parts) c.requires.context (rw (← n, ← w) (subst P q c.times_of.ensures.fits))
 
 pub total_width-shape_of-total-requires-in-loop-part : goal.total_width-shape_of-total-requires-in-loop-part
 total_width-shape_of-total-requires-in-loop-part t c = (search (rules, the_lemmas), (element_whole (names_of c.args.scope.now) c.args.parts.now c.loop-part.part-index c.part-item.result c.part-item.is (omega arith) c.requires.whole))
 
-pub joined-shape_of-width-requires-in-loop-part : goal.joined-shape_of-width-requires-in-loop-part
-joined-shape_of-width-requires-in-loop-part t c = (search (rules, the_lemmas), (element_whole (names_of c.args.scope.now) c.args.parts.now c.loop-part.part-index c.part-item.result c.part-item.is (omega arith) c.requires.whole))
+pub joined-own_of-own-requires : goal.joined-own_of-own-requires
+joined-own_of-own-requires t c = (search (rules, the_lemmas), ((element_whole (names_of c.args.scope.now) c.args.parts.now c.loop-part.part-index c.part-item.result c.part-item.is (omega arith) c.requires.whole), c.requires.stored))
 
-pub joined-own_value-requires : goal.joined-own_value-requires
-joined-own_value-requires t c = (search (rules, the_lemmas), ((element_whole (names_of c.args.scope.now) c.args.parts.now c.loop-part.part-index c.part-item.result c.part-item.is (omega arith) c.requires.whole), c.requires.stored))
+pub joined-overflow_add-width : goal.joined-overflow_add-width
+joined-overflow_add-width t c = let w = c.own_of-own.ensures.shape in let short = c.requires.narrow in let split = total_parts (names_of c.args.scope.now) c.args.parts.now (suc c.loop-part.part-index) in let more = total_take (names_of c.args.scope.now) c.args.parts.now c.loop-part.part-index c.part-item.result c.part-item.is (omega arith) in let is = c.loop-part.invariant.wide in rw w (omega (arith, short, split, more, is))
 
 pub joined-overflow_add-value : goal.joined-overflow_add-value
-joined-overflow_add-value t c = let w = c.shape_of-width.ensures.shape in let short = c.requires.narrow in let split = total_parts (names_of c.args.scope.now) c.args.parts.now (suc c.loop-part.part-index) in let more = total_take (names_of c.args.scope.now) c.args.parts.now c.loop-part.part-index c.part-item.result c.part-item.is (omega arith) in let wide : total_width (senses (names_of c.args.scope.now) (take c.loop-part.part-index c.args.parts.now)) + c.shape_of-width.result.width ≤ 128 = (rw w (omega arith)) in let whole = shifted_whole c.loop-part.value (total_width (senses (names_of c.args.scope.now) (take c.loop-part.part-index c.args.parts.now))) c.shape_of-width.result.width c.loop-part.invariant.fits wide in let fits = joined_fits c.loop-part.value (total_width (senses (names_of c.args.scope.now) (take c.loop-part.part-index c.args.parts.now))) c.shape_of-width.result.width c.own_value.result c.loop-part.invariant.fits (rw w c.own_value.ensures.fits) in let is = rw c.from.ensures at c.shift_left.ensures in let le = power_le (total_width (senses (names_of c.args.scope.now) (take c.loop-part.part-index c.args.parts.now)) + c.shape_of-width.result.width) 128 wide in omega (arith, is, whole, fits, le)
+joined-overflow_add-value t c = let w = c.own_of-own.ensures.shape in let short = c.requires.narrow in let split = total_parts (names_of c.args.scope.now) c.args.parts.now (suc c.loop-part.part-index) in let more = total_take (names_of c.args.scope.now) c.args.parts.now c.loop-part.part-index c.part-item.result c.part-item.is (omega arith) in let wide : total_width (senses (names_of c.args.scope.now) (take c.loop-part.part-index c.args.parts.now)) + c.own_of-own.result.shape.width ≤ 128 = (rw w (omega arith)) in let whole = shifted_whole c.loop-part.value (total_width (senses (names_of c.args.scope.now) (take c.loop-part.part-index c.args.parts.now))) c.own_of-own.result.shape.width c.loop-part.invariant.fits wide in let fits = joined_fits c.loop-part.value (total_width (senses (names_of c.args.scope.now) (take c.loop-part.part-index c.args.parts.now))) c.own_of-own.result.shape.width c.own_of-own.result.value c.loop-part.invariant.fits c.own_of-own.ensures.fits in let is = rw c.from.ensures at c.shift_left.ensures in let le = power_le (total_width (senses (names_of c.args.scope.now) (take c.loop-part.part-index c.args.parts.now)) + c.own_of-own.result.shape.width) 128 wide in omega (arith, is, whole, fits, le)
 
 pub joined-loop-part-preserved : goal.joined-loop-part-preserved
-joined-loop-part-preserved t c = let w = c.shape_of-width.ensures.shape in let short = c.requires.narrow in let split = total_parts (names_of c.args.scope.now) c.args.parts.now (suc c.loop-part.part-index) in let more = total_take (names_of c.args.scope.now) c.args.parts.now c.loop-part.part-index c.part-item.result c.part-item.is (omega arith) in let wide : total_width (senses (names_of c.args.scope.now) (take c.loop-part.part-index c.args.parts.now)) + c.shape_of-width.result.width ≤ 128 = (rw w (omega arith)) in let whole = shifted_whole c.loop-part.value (total_width (senses (names_of c.args.scope.now) (take c.loop-part.part-index c.args.parts.now))) c.shape_of-width.result.width c.loop-part.invariant.fits wide in let fits = joined_fits c.loop-part.value (total_width (senses (names_of c.args.scope.now) (take c.loop-part.part-index c.args.parts.now))) c.shape_of-width.result.width c.own_value.result c.loop-part.invariant.fits (rw w c.own_value.ensures.fits) in let is = rw c.from.ensures at c.shift_left.ensures in let value = is ∙ whole in
+joined-loop-part-preserved t c = let w = c.own_of-own.ensures.shape in let short = c.requires.narrow in let split = total_parts (names_of c.args.scope.now) c.args.parts.now (suc c.loop-part.part-index) in let more = total_take (names_of c.args.scope.now) c.args.parts.now c.loop-part.part-index c.part-item.result c.part-item.is (omega arith) in let wide : total_width (senses (names_of c.args.scope.now) (take c.loop-part.part-index c.args.parts.now)) + c.own_of-own.result.shape.width ≤ 128 = (rw w (omega arith)) in let whole = shifted_whole c.loop-part.value (total_width (senses (names_of c.args.scope.now) (take c.loop-part.part-index c.args.parts.now))) c.own_of-own.result.shape.width c.loop-part.invariant.fits wide in let fits = joined_fits c.loop-part.value (total_width (senses (names_of c.args.scope.now) (take c.loop-part.part-index c.args.parts.now))) c.own_of-own.result.shape.width c.own_of-own.result.value c.loop-part.invariant.fits c.own_of-own.ensures.fits in let is = rw c.from.ensures at c.shift_left.ensures in let value = is ∙ whole in
     let W : ℕ = (sense (names_of c.args.scope.now) c.part-item.result).shape.width in
     let V : ℕ = own (store_of c.args.store.now) (sense (names_of c.args.scope.now) c.part-item.result) in
     let rest : List Expr = drop (suc c.loop-part.part-index) c.args.parts.now in
     let before : ℕ = total_width (senses (names_of c.args.scope.now) (take c.loop-part.part-index c.args.parts.now)) in
     let d = parts_drop (names_of c.args.scope.now) c.args.parts.now c.loop-part.part-index c.part-item.result c.part-item.is (omega arith) in
     let old = rw d at c.loop-part.invariant.same in
-    let new : c.shift_left.result + c.own_value.result ≡ c.loop-part.value * 2 ^ W + V = (rw (value, w, c.own_value.ensures.value) refl) in
+    let new : c.shift_left.result + c.own_of-own.result.value ≡ c.loop-part.value * 2 ^ W + V = (rw (value, w, c.own_of-own.ensures.value) refl) in
     let same : (c.loop-part.value * 2 ^ W + V) * 2 ^ total_width (senses (names_of c.args.scope.now) rest) + joined (store_of c.args.store.now) (senses (names_of c.args.scope.now) rest) ≡ joined (store_of c.args.store.now) (senses (names_of c.args.scope.now) c.args.parts.now) = joined_step c.loop-part.value 0 W V (total_width (senses (names_of c.args.scope.now) rest)) (joined (store_of c.args.store.now) (senses (names_of c.args.scope.now) rest)) ∙ old in
-    let fit : c.loop-part.value * 2 ^ W + V < 2 ^ (before + W) = (rw (w, c.own_value.ensures.value) at fits) in
-    record { same = rw (new, add-one) same; fits = rw (new, add-one, more) fit }
+    let fit : c.loop-part.value * 2 ^ W + V < 2 ^ (before + W) = (rw (w, c.own_of-own.ensures.value) at fits) in
+    let grown : c.loop-part.width + c.own_of-own.result.shape.width ≡ before + W = ap (λ (n : ℕ). n + c.own_of-own.result.shape.width) c.loop-part.invariant.wide ∙ ap (λ (s : Shape). before + s.width) w in
+    record { same = rw (new, add-one) same; fits = rw (new, add-one, more) fit; wide = rw (add-one, more) grown }
+
+pub own_of-bound_of-msb-requires : goal.own_of-bound_of-msb-requires
+own_of-bound_of-msb-requires t c = (search (rules, the_lemmas), rw c.get.ensures (whole_part (names_of c.args.scope.now) c.args.expr.now c.in-PartSelect.name c.in-PartSelect.field-1 c.in-PartSelect.msb c.in-PartSelect.lsb c.in-PartSelect.is c.requires.whole).msb)
+
+pub own_of-bound_of-requires : goal.own_of-bound_of-requires
+own_of-bound_of-requires t c = (search (rules, the_lemmas), rw c.get-in-PartSelect.ensures (whole_part (names_of c.args.scope.now) c.args.expr.now c.in-PartSelect.name c.in-PartSelect.field-1 c.in-PartSelect.msb c.in-PartSelect.lsb c.in-PartSelect.is c.requires.whole).lsb)
+
+pub own_of-part_of-requires : goal.own_of-part_of-requires
+own_of-part_of-requires t c = let e = (ap (λ (x : ℤ). part_width x (bound_integer c.bound_of.result)) (c.bound_of-msb.ensures.value ∙ ap (λ (x : Expr). constant_integer (sense (names_of c.args.scope.now) x)) c.get.ensures) ∙ ap (λ (x : ℤ). part_width (constant_integer (sense (names_of c.args.scope.now) c.in-PartSelect.msb)) x) (c.bound_of.ensures.value ∙ ap (λ (x : Expr). constant_integer (sense (names_of c.args.scope.now) x)) c.get-in-PartSelect.ensures)) in record { some = rw e (whole_part (names_of c.args.scope.now) c.args.expr.now c.in-PartSelect.name c.in-PartSelect.field-1 c.in-PartSelect.msb c.in-PartSelect.lsb c.in-PartSelect.is c.requires.whole).some; narrow = rw e (whole_part (names_of c.args.scope.now) c.args.expr.now c.in-PartSelect.name c.in-PartSelect.field-1 c.in-PartSelect.msb c.in-PartSelect.lsb c.in-PartSelect.is c.requires.whole).narrow; small = c.bound_of.ensures.small; stored = c.requires.stored }
+
+pub own_of-count_of-width-requires : goal.own_of-count_of-width-requires
+own_of-count_of-width-requires t c = (search (rules, the_lemmas), rw c.get-in-IndexedPartSelect.ensures (whole_indexed (names_of c.args.scope.now) c.args.expr.now c.in-IndexedPartSelect.name c.in-IndexedPartSelect.field-1 c.in-IndexedPartSelect.base c.in-IndexedPartSelect.width c.in-IndexedPartSelect.is c.requires.whole).width)
+
+pub own_of-overflow_cast-width : goal.own_of-overflow_cast-width
+own_of-overflow_cast-width t c = let e = c.count_of-width.ensures ∙ ap (λ (x : Expr). natural (constant_integer (sense (names_of c.args.scope.now) x))) c.get-in-IndexedPartSelect.ensures in let f = (whole_indexed (names_of c.args.scope.now) c.args.expr.now c.in-IndexedPartSelect.name c.in-IndexedPartSelect.field-1 c.in-IndexedPartSelect.base c.in-IndexedPartSelect.width c.in-IndexedPartSelect.is c.requires.whole).narrow in omega (arith, e, f)
+
+pub own_of-index_of-at-requires : goal.own_of-index_of-at-requires
+own_of-index_of-at-requires t c = (search (rules, the_lemmas), (rw c.get-in-IndexedPartSelect-2.ensures (whole_indexed (names_of c.args.scope.now) c.args.expr.now c.in-IndexedPartSelect.name c.in-IndexedPartSelect.field-1 c.in-IndexedPartSelect.base c.in-IndexedPartSelect.width c.in-IndexedPartSelect.is c.requires.whole).base, c.requires.stored))
+
+pub own_of-indexed_of-requires : goal.own_of-indexed_of-requires
+own_of-indexed_of-requires t c = let e = c.count_of-width.ensures ∙ ap (λ (x : Expr). natural (constant_integer (sense (names_of c.args.scope.now) x))) c.get-in-IndexedPartSelect.ensures in record { some = rw e (whole_indexed (names_of c.args.scope.now) c.args.expr.now c.in-IndexedPartSelect.name c.in-IndexedPartSelect.field-1 c.in-IndexedPartSelect.base c.in-IndexedPartSelect.width c.in-IndexedPartSelect.is c.requires.whole).some; narrow = rw e (whole_indexed (names_of c.args.scope.now) c.args.expr.now c.in-IndexedPartSelect.name c.in-IndexedPartSelect.field-1 c.in-IndexedPartSelect.base c.in-IndexedPartSelect.width c.in-IndexedPartSelect.is c.requires.whole).narrow; small = c.index_of-at.ensures.small; stored = c.requires.stored }
+
+pub own_of-count_of-times-requires : goal.own_of-count_of-times-requires
+own_of-count_of-times-requires t c = (search (rules, the_lemmas), rw c.get-in-MultipleConcatenation.ensures (whole_times (names_of c.args.scope.now) c.args.expr.now c.in-MultipleConcatenation.field-0 c.in-MultipleConcatenation.times c.in-MultipleConcatenation.parts c.in-MultipleConcatenation.is c.requires.whole).times)
+
+pub own_of-overflow_cast-times : goal.own_of-overflow_cast-times
+own_of-overflow_cast-times t c = let f = (whole_times (names_of c.args.scope.now) c.args.expr.now c.in-MultipleConcatenation.field-0 c.in-MultipleConcatenation.times c.in-MultipleConcatenation.parts c.in-MultipleConcatenation.is c.requires.whole).few in let e = c.count_of-times.ensures ∙ ap (λ (x : Expr). natural (constant_integer (sense (names_of c.args.scope.now) x))) c.get-in-MultipleConcatenation.ensures in omega (arith, f, e)
+
+pub own_of-joined-requires-in-MultipleConcatenation : goal.own_of-joined-requires-in-MultipleConcatenation
+own_of-joined-requires-in-MultipleConcatenation t c = (search (rules, the_lemmas), (rw c.as_slice-in-MultipleConcatenation.ensures (whole_times (names_of c.args.scope.now) c.args.expr.now c.in-MultipleConcatenation.field-0 c.in-MultipleConcatenation.times c.in-MultipleConcatenation.parts c.in-MultipleConcatenation.is c.requires.whole).parts, (rw c.as_slice-in-MultipleConcatenation.ensures (whole_times (names_of c.args.scope.now) c.args.expr.now c.in-MultipleConcatenation.field-0 c.in-MultipleConcatenation.times c.in-MultipleConcatenation.parts c.in-MultipleConcatenation.is c.requires.whole).short, c.requires.stored)))
+
+pub value_of-times_of-requires : goal.value_of-times_of-requires
+value_of-times_of-requires t c = let n = (c.count_of-times.ensures ∙ ap (λ (x : Expr). natural (constant_integer (sense (names_of c.args.scope.now) x))) c.get-in-MultipleConcatenation.ensures) in let w = (ap (λ (s : Shape). s.width) c.joined-in-MultipleConcatenation.ensures.shape ∙ ap (λ (x : List Expr). total_width (senses (names_of c.args.scope.now) x)) c.as_slice-in-MultipleConcatenation.ensures) in record { some = rw (n, w) (whole_times (names_of c.args.scope.now) c.args.expr.now c.in-MultipleConcatenation.field-0 c.in-MultipleConcatenation.times c.in-MultipleConcatenation.parts c.in-MultipleConcatenation.is c.requires.whole).some; narrow = rw (n, w) (whole_times (names_of c.args.scope.now) c.args.expr.now c.in-MultipleConcatenation.field-0 c.in-MultipleConcatenation.times c.in-MultipleConcatenation.parts c.in-MultipleConcatenation.is c.requires.whole).narrow; fits = c.joined-in-MultipleConcatenation.ensures.fits }
+
+pub own_of-times_of-requires : goal.own_of-times_of-requires
+own_of-times_of-requires t c = let n = (c.count_of-times.ensures ∙ ap (λ (x : Expr). natural (constant_integer (sense (names_of c.args.scope.now) x))) c.get-in-MultipleConcatenation.ensures) in let w = (ap (λ (s : Shape). s.width) c.joined-in-MultipleConcatenation.ensures.shape ∙ ap (λ (x : List Expr). total_width (senses (names_of c.args.scope.now) x)) c.as_slice-in-MultipleConcatenation.ensures) in record { some = rw (n, w) (whole_times (names_of c.args.scope.now) c.args.expr.now c.in-MultipleConcatenation.field-0 c.in-MultipleConcatenation.times c.in-MultipleConcatenation.parts c.in-MultipleConcatenation.is c.requires.whole).some; narrow = rw (n, w) (whole_times (names_of c.args.scope.now) c.args.expr.now c.in-MultipleConcatenation.field-0 c.in-MultipleConcatenation.times c.in-MultipleConcatenation.parts c.in-MultipleConcatenation.is c.requires.whole).narrow; fits = c.joined-in-MultipleConcatenation.ensures.fits }
+
+pub own_of-returns-in-Concatenation-clause-sized : goal.own_of-returns-in-Concatenation-clause-sized
+own_of-returns-in-Concatenation-clause-sized t c = let w = (ap (λ (s : Shape). s.width) c.joined.ensures.shape ∙ ap (λ (x : List Expr). total_width (senses (names_of c.args.scope.now) x)) c.as_slice.ensures) in record { some = rw w (whole_join (names_of c.args.scope.now) c.args.expr.now c.in-Concatenation.field-0 c.in-Concatenation.parts c.in-Concatenation.is c.requires.whole).some; narrow = rw w (whole_join (names_of c.args.scope.now) c.args.expr.now c.in-Concatenation.field-0 c.in-Concatenation.parts c.in-Concatenation.is c.requires.whole).narrow }
 
 pub shape_of-bound_of-msb-requires : goal.shape_of-bound_of-msb-requires
 shape_of-bound_of-msb-requires t c = (search (rules, the_lemmas), rw c.get.ensures (whole_part (names_of c.args.scope.now) c.args.expr.now c.in-PartSelect.field-0 c.in-PartSelect.field-1 c.in-PartSelect.msb c.in-PartSelect.lsb c.in-PartSelect.is c.requires).msb)

@@ -21,14 +21,17 @@ decreases-joined l = 4 * goal.size-joined l + 3
 abbrev pub decreases-call_value : goal.decreases-call_value
 decreases-call_value l = 4 * goal.size-call_value l + 3
 
+abbrev pub decreases-own_of : goal.decreases-own_of
+decreases-own_of l = 4 * goal.size-own_of l + 1
+
 abbrev pub decreases-own_value : goal.decreases-own_value
-decreases-own_value l = 4 * goal.size-own_value l + 1
+decreases-own_value l = 4 * goal.size-own_value l + 2
 
 abbrev pub decreases-index_of : goal.decreases-index_of
 decreases-index_of l = 4 * goal.size-index_of l + 2
 
 abbrev pub decreases-bound_of : goal.decreases-bound_of
-decreases-bound_of l = 4 * goal.size-bound_of l + 2
+decreases-bound_of l = 4 * goal.size-bound_of l + 3
 
 abbrev pub decreases-count_of : goal.decreases-count_of
 decreases-count_of l = 4 * goal.size-count_of l + 2
@@ -40,4 +43,5 @@ abbrev pub invariant-joined-loop-part : goal.invariant-joined-loop-part
 invariant-joined-loop-part l = record {
   same : l.value * 2 ^ total_width (senses (names_of l.scope) (drop l.part-index l.parts)) + joined (store_of l.store) (senses (names_of l.scope) (drop l.part-index l.parts)) ≡ joined (store_of l.store) (senses (names_of l.scope) l.parts);
   fits : l.value < 2 ^ total_width (senses (names_of l.scope) (take l.part-index l.parts));
+  wide : l.width ≡ total_width (senses (names_of l.scope) (take l.part-index l.parts));
 }
