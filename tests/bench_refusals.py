@@ -58,7 +58,7 @@ ROWS = [
     ("nothing", bench("d u(.clk(c), .q({w, y[0]}));", GENERATOR.strip()), "clk"),
     ("PortMismatch", bench("d u(.clk(c), .@@z(x));", GENERATOR.strip()), "clk"),
     ("PortMismatch", bench("d u(.clk(c), .a(x), .@@a(x));", GENERATOR.strip()), "clk"),
-    ("PortMismatch", bench("d u(c, x, y, @@x);", GENERATOR.strip()), "clk"),
+    ("PortMismatch", bench("d @@u(c, x, y, x);", GENERATOR.strip()), "clk"),
     ("PortMismatch", bench("d u(.clk(c), .q(@@w + 1));", GENERATOR.strip()), "clk"),
     ("PortMismatch", bench("d u(.clk(c), .q(@@(y)));", GENERATOR.strip()), "clk"),
     ("PortMismatch", bench("d u(.clk(@@x));", GENERATOR.strip()), "clk"),

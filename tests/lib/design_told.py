@@ -425,7 +425,7 @@ module top(input a);
   sub u(a, !a);
 endmodule
 elaborate top
-> PortMismatch 3:12
+> PortMismatch 3:7
 # an output that is connected to no left side
 module sub(output a); assign a = 1; endmodule
 module top(input a);

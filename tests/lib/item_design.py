@@ -108,7 +108,7 @@ class Design:
                 is_wrong, where = name not in ports or name in seen, connection.at
             else:
                 is_wrong, value = k == len(ports), connection
-                name, where = None if is_wrong else ports[k], value.at if value else place
+                name, where = None if is_wrong else ports[k], place
             if is_wrong:
                 self.list(f"refuses PortMismatch {at(where)}")
                 if not by_name:

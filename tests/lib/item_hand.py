@@ -211,7 +211,7 @@ flatten top
 > enters v.a = @4:7
 > enters v.b = @4:10
 > leaves @4:13 = v.y
-> refuses PortMismatch 4:16
+> refuses PortMismatch 4:5
 > declares v.a
 > declares v.b
 > declares v.y
@@ -274,7 +274,7 @@ module sub #(parameter A = k)(a); endmodule
 module top; sub #(.B(1)) u(1, 2); endmodule
 flatten top
 > refuses parameter Unknown 2:20
-> refuses PortMismatch 2:31
+> refuses PortMismatch 2:26
 > refuses declaration Unknown 1:31
 > refuses declaration Unknown 1:28
 # conditions

@@ -2,7 +2,6 @@
 use Rattle.std.specs.Prelude.{not, ◌&&◌, List, [], ◌∷◌, ◌++◌, map, Option, None, Some, if◌then◌else◌}
 use Rattle.mcy_base.specs.declared.span.Span.{Span}
 use Rattle.vlog_syntax.specs.declared.expr.Expr.{Expr}
-use Rattle.vlog_syntax.specs.Places.{first_token}
 use Rattle.vlog_syntax.specs.declared.identifier.Identifier.{Identifier}
 use Rattle.vlog_syntax.specs.declared.item.Connections.{Connections}
 use Rattle.vlog_syntax.specs.declared.item.Connections.TheVariants.{Ordered, Named}
@@ -38,15 +37,10 @@ abbrev pub named_wires : (ports seen : List Identifier) → List NamedConnection
 named_wires ports seen [] = []
 named_wires ports seen (c ∷ more) = named_wire ports seen c ∷ named_wires ports (seen ++ c.name ∷ []) more
 
--- By place: a place may be empty; the first one without a port is refused, an empty one at the instance's name.
-
-abbrev pub place_of : Span → Option Expr → Span
-place_of at None = at
-place_of at (Some value) = first_token value
-
+-- By place: a place may be empty; the first one without a port is refused at the instance's name, whether it is empty or not.
 abbrev pub ordered_wires : Span → (ports : List Identifier) → List (Option Expr) → List Wire
 ordered_wires at ports [] = []
-ordered_wires at [] (value ∷ more) = Mismatch (place_of at value) ∷ []
+ordered_wires at [] (value ∷ more) = Mismatch at ∷ []
 ordered_wires at (port ∷ ports) (value ∷ more) = To port value ∷ ordered_wires at ports more
 
 abbrev pub wires_by : Span → List Identifier → Connections → List Wire

@@ -1,6 +1,6 @@
 //! The connections of an instance's ports, by name or by place (IEEE 1364-2005, 12.3.5 and 12.3.6).
 ghost use Rattle.std.specs.Prelude.{◌≡◌, ◌++◌, [], map, IfOk};
-ghost use Rattle.flat_scopes.specs.Wires.{name_in, declared_ports, ports_of, named_wire, named_wires, ordered_wires, place_of, wires_of};
+ghost use Rattle.flat_scopes.specs.Wires.{name_in, declared_ports, ports_of, named_wire, named_wires, ordered_wires, wires_of};
 
 use crate::lent::Lent;
 use crate::names::NameList;
@@ -116,16 +116,6 @@ fn named_wires<'a>(
     Ok(wires)
 }
 
-/// The place of a value, or the instance's where it is left out.
-fn place_of(at: Span, value: &Option<Boxed<Expr>>) -> Span
-    ensures { result ≡ place_of at value.now }
-{
-    match value {
-        Some(value) => value.get().first_token(),
-        None => at,
-    }
-}
-
 /// The connections by place.
 fn ordered_wires<'a>(
     alloc: Global,
@@ -140,7 +130,7 @@ fn ordered_wires<'a>(
         match ports.get(place) {
             Some(port) => wires.push(Wire::To(Lent::of(port.get()), lent(value)))?,
             None => {
-                wires.push(Wire::Mismatch(place_of(at, value)))?;
+                wires.push(Wire::Mismatch(at))?;
                 return Ok(wires);
             }
         }
