@@ -1,12 +1,12 @@
 -- Pieces are what the parts of a left side write.
 use Rattle.std.proofs.Common.{◌≡◌, suc, ℕ, ◌<◌, List, [], ◌∷◌, ◌++◌, map, refl, ap, sym, ◌∙◌, length, get_or, take, append_assoc, append-nil, Some, Option}
-use Rattle.std.specs.Prelude.{ℤ, pos}
+use Rattle.std.specs.Prelude.{ℤ}
 use Rattle.std.proofs.lemmas.List.{map-append}
 use Rattle.rand_pcg.specs.Lcg.{Lcg}
 use Rattle.vlog_syntax.specs.declared.expr.Expr.{Expr}
 use Rattle.vlog_syntax.specs.declared.left_side.LeftSide.{LeftSide}
 use Rattle.vlog_meaning.specs.declared.shapes.Shape.{Shape}
-use Rattle.vlog_meaning.specs.Integers.{bound_integer}
+use Rattle.vlog_meaning.specs.Integers.{integer, bound_integer}
 use Rattle.vlog_meaning.specs.Scopes.{Names, Store}
 use Rattle.vlog_meaning.specs.Senses.{sense}
 use Rattle.vlog_effects.specs.LeftSides.{Part, Vector, part_vector, select_width, parts_of, concatenated}
@@ -16,10 +16,10 @@ use Rattle.tb_assigns.specs.declared.piece.Piece.{Piece}
 use Rattle.tb_assigns.specs.Updates.{Window, index_drawn, base_drawn, window_drawn, windows_drawn}
 use Rattle.tb_assigns.specs.Pieces.{vector_is, window_of, windows_of, IsDrawn, onto, AreDrawn}
 
-pub index_is : (names : Names) (phase : ℕ) (store : Store) (index : Expr) (g h : Lcg) (v : ℕ) (b : ℤ) (shape : Shape) → b ≡ pos v → (v, h) ≡ evaluated names phase index store shape g → shape ≡ (sense names index).shape → (b, h) ≡ index_drawn names phase store index g
+pub index_is : (names : Names) (phase : ℕ) (store : Store) (index : Expr) (g h : Lcg) (v : ℕ) (b : ℤ) (shape : Shape) → b ≡ integer shape v → (v, h) ≡ evaluated names phase index store shape g → shape ≡ (sense names index).shape → (b, h) ≡ index_drawn names phase store index g
 index_is names phase store index g h v b shape is value own =
-    let number : ℕ × Lcg → ℤ × Lcg = λ p. (pos p.0, p.1) in
-    ap (λ (z : ℤ). (z, h)) is ∙ ap number value ∙ ap (λ (s : Shape). number (evaluated names phase index store s g)) own
+    let number : Shape → ℕ × Lcg → ℤ × Lcg = λ s p. (integer s p.0, p.1) in
+    ap (λ (z : ℤ). (z, h)) is ∙ ap (number shape) value ∙ ap (λ (s : Shape). number s (evaluated names phase index store s g)) own
 
 pub piece_drawn : (names : Names) (phase : ℕ) (store : Store) (p : Part) (g h : Lcg) (piece : Piece) → part_vector names p ≡ Some (vector_is piece.vector) → piece.size ≡ select_width names (vector_is piece.vector) p.select → (bound_integer piece.base, h) ≡ base_drawn names phase store (vector_is piece.vector) p.select g → IsDrawn names phase store p g h piece
 piece_drawn names phase store p g h piece known size base =

@@ -5,6 +5,7 @@ use Rattle.std.specs.Prelude.{◌≡◌, ◌≤◌, ℕ, zero, suc, ◌+◌, ◌
 use Rattle.rand_pcg.specs.Lcg.{Lcg}
 use Rattle.vlog_syntax.specs.declared.expr.Expr.{Expr}
 use Rattle.vlog_syntax.specs.declared.stmt.Assignment.{Assignment}
+use Rattle.vlog_meaning.specs.Integers.{integer}
 use Rattle.vlog_meaning.specs.Scopes.{Names, Store}
 use Rattle.vlog_meaning.specs.Senses.{sense, assigned, IsWhole}
 use Rattle.vlog_effects.specs.Expressions.{bound_of}
@@ -12,9 +13,9 @@ use Rattle.vlog_effects.specs.LeftSides.{Select, Whole, Bit, Range, Indexed, Par
 use Rattle.tb_values.specs.Values.{evaluated, own_evaluated}
 use Rattle.tb_machine.specs.declared.update.Update.{Update}
 
--- the number that an index is, which stands for itself, and is read as unsigned
+-- the integer that an index is by its sign, where it stands for itself
 abbrev pub index_drawn : Names → ℕ → Store → Expr → Lcg → ℤ × Lcg
-index_drawn names phase store i g = let a = own_evaluated names phase i store g in (pos a.0, a.1)
+index_drawn names phase store i g = let a = own_evaluated names phase i store g in (integer (sense names i).shape a.0, a.1)
 
 -- the declared number of the lowest bit that a select writes
 abbrev pub base_drawn : Names → ℕ → Store → Vector → Select → Lcg → ℤ × Lcg

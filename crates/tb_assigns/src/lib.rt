@@ -21,5 +21,5 @@ pub use check::can_assign;
 pub use clip::{Clip, clip_of};
 pub use laws::{assignments_fit, whole_sides_suffice};
 pub use left_side::left_width;
-pub use piece::{Piece, Vector, positive, range_piece, vector_of, whole_piece};
+pub use piece::{Piece, Vector, range_piece, vector_of, whole_piece};
 pub use writing::update_of;

@@ -64,7 +64,7 @@ pub(crate) fn range_size(msb: Bound, lsb: Bound) -> u8
 }
 
 /// A number that is not negative.
-pub fn positive(magnitude: u128) -> Bound
+pub(crate) fn positive(magnitude: u128) -> Bound
     ensures { bound_integer result ≡ pos magnitude }
 {
     Bound {
@@ -73,7 +73,7 @@ pub fn positive(magnitude: u128) -> Bound
     }
 }
 
-/// The number that an index is in this evaluation, read as unsigned.
+/// The integer that an index is in this evaluation.
 fn index_at(index: &Expr, moment: &Moment<'_>, words: &mut Lcg64Xsh32) -> Result<Bound, AllocError>
     requires whole { IsWhole (names_of moment.now.scope.now) index.now }
     requires stored { FitsSignals (names_of moment.now.scope.now) moment.now.store.now }
@@ -81,7 +81,7 @@ fn index_at(index: &Expr, moment: &Moment<'_>, words: &mut Lcg64Xsh32) -> Result
 {
     let shape = shape_of(index, moment.scope);
     let value = evaluate(index, moment, shape, words)?;
-    Ok(positive(value.bits()))
+    Ok(Bound::of(shape, value.bits()))
 }
 
 /// A whole signal.

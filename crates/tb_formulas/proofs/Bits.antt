@@ -17,23 +17,22 @@ use Rattle.tb_formulas.specs.declared.formula.Formula.TheVariants as v
 use Rattle.tb_formulas.specs.Signals.{HasSignal}
 use Rattle.tb_formulas.specs.Formulas.{FitsIn}
 use Rattle.tb_formulas.proofs.Layers.{closed}
-use Rattle.tb_formulas.proofs.Widening.{grows}
 
 pub number_fits : (widths : List ℕ) (b n : ℕ) → b < 2 ^ n → FitsIn widths (v.Number b) n
 number_fits widths b n h = closed widths (o.Number b) (v.Number b) n (v.rolls-Number b) h
 
-pub select_fits : (widths : List ℕ) (p : Part) (f : Formula) → p.signal < length widths → p.width ≤ 128 → ((k : ℕ) × FitsIn widths f k) → FitsIn widths (v.Select p f) p.width
-select_fits widths p f known narrow inner = closed widths (o.Select p f) (v.Select p f) p.width (v.rolls-Select p f) (known, narrow, omega arith, inner)
+pub select_fits : (widths : List ℕ) (s : ℕ) (p : Part) (f : Formula) → s < length widths → p.width ≤ 128 → IsSized p.index → FitsIn widths f p.index.width → FitsIn widths (v.Select s p f) p.width
+select_fits widths s p f known narrow sized inner = closed widths (o.Select s p f) (v.Select s p f) p.width (v.rolls-Select s p f) (known, narrow, omega arith, sized, inner)
 
-pub number_select_fits : (widths : List ℕ) (b l w : ℕ) (f : Formula) → w ≤ 128 → ((k : ℕ) × FitsIn widths f k) → FitsIn widths (v.NumberSelect b l w f) w
-number_select_fits widths b l w f narrow inner = closed widths (o.NumberSelect b l w f) (v.NumberSelect b l w f) w (v.rolls-NumberSelect b l w f) (narrow, omega arith, inner)
+pub number_select_fits : (widths : List ℕ) (b : ℕ) (p : Part) (f : Formula) → p.width ≤ 128 → IsSized p.index → FitsIn widths f p.index.width → FitsIn widths (v.NumberSelect b p f) p.width
+number_select_fits widths b p f narrow sized inner = closed widths (o.NumberSelect b p f) (v.NumberSelect b p f) p.width (v.rolls-NumberSelect b p f) (narrow, omega arith, sized, inner)
 
 pub slice_fits : (widths : List ℕ) (s at w : ℕ) → s < length widths → at < 128 → w ≤ 128 → FitsIn widths (v.Slice s at w) w
 slice_fits widths s at w known inside narrow = closed widths (o.Slice s at w) (v.Slice s at w) w (v.rolls-Slice s at w) (known, inside, narrow, omega arith)
 
--- a formula that is some number
-pub some_number : (widths : List ℕ) (f : Formula) (b : ℕ) → f ≡ v.Number b → (k : ℕ) × FitsIn widths f k
-some_number widths f b is = (b, rw is (number_fits widths b b (grows b)))
+-- a formula that is a number
+pub some_number : (widths : List ℕ) (f : Formula) (b n : ℕ) → f ≡ v.Number b → b < 2 ^ n → FitsIn widths f n
+some_number widths f b n is h = rw is (number_fits widths b n h)
 
 module _ (widths : List ℕ) (d : Option Decl) (w low : ℕ) (s : Bool) (k : ℕ) (e : Decl) (is_some : d ≡ Some e) (is_signal : e ≡ Signal w low s k) where
   is : d ≡ Some (Signal w low s k)

@@ -18,10 +18,10 @@ use Rattle.vlog_meaning.specs.declared.shapes.Shape.{Shape}
 use Rattle.vlog_meaning.specs.declared.operator.Sizing.{Sizing}
 use Rattle.vlog_meaning.specs.declared.operator.Sizing.TheVariants.{Common, Left, Compared, Apart}
 use Rattle.vlog_meaning.specs.Functions.{function_of}
-use Rattle.vlog_meaning.specs.Integers.{extended, natural, window, clog2}
+use Rattle.vlog_meaning.specs.Integers.{integer, extended, natural, window, clog2}
 use Rattle.vlog_meaning.specs.Operators.{IsSized, ArePaired, bit, sizing, pair_shape, left_context, right_context, result_width, is_reduction, unary_shape, operand_context, unary_value, binary_value}
 use Rattle.vlog_meaning.specs.Scopes.{Names, Store, nothing, store_of, decl_shape, decl_low, decl_value}
-use Rattle.vlog_meaning.specs.Senses.{Sense, sense, senses, step, own, taken, joined, repeated, total_width, call_shape, call_value, part_width, constant_integer, IsWhole, IsContext, IsWholeCall}
+use Rattle.vlog_meaning.specs.Senses.{Sense, sense, senses, step, own, index_of, taken, joined, repeated, total_width, call_shape, call_value, part_width, constant_integer, IsWhole, IsContext, IsWholeCall}
 use Rattle.vlog_meaning.proofs.Contexts.{wider, context_sized, are_paired}
 use Rattle.vlog_meaning.proofs.Results.{parts_drop, total_take, total_parts, joined_step}
 use Rattle.vlog_meaning.proofs.Whole.{whole_part}
@@ -81,11 +81,11 @@ name_made names x n c d f is is_d means fits = record {
 
 -- Selects.
 
-pub bit_made : (names : Names) (x : Expr) (n : Identifier) (p : Span) (i : Expr) (c : Shape) (f : Formula) → x ≡ v.BitSelect n p i → IsContext (sense names x).shape c → Makes names (λ store. window (pos (own store (sense names i)) -ℤ pos (decl_low (names n.name))) 1 (decl_value store (names n.name))) 1 f → Makes names (λ store. (sense names x).value store c) c.width f
+pub bit_made : (names : Names) (x : Expr) (n : Identifier) (p : Span) (i : Expr) (c : Shape) (f : Formula) → x ≡ v.BitSelect n p i → IsContext (sense names x).shape c → Makes names (λ store. window (index_of store (sense names i) -ℤ pos (decl_low (names n.name))) 1 (decl_value store (names n.name))) 1 f → Makes names (λ store. (sense names x).value store c) c.width f
 bit_made names x n p i c f is at h = stepped names x (step names (e.BitSelect n p (sense names i))) c f (ap (sense names) is ∙ s.sense_bit_select names n p i) at h
 
-pub indexed_made : (names : Names) (x : Expr) (n : Identifier) (p : Span) (b w : Expr) (c : Shape) (k : ℕ) (f : Formula) → x ≡ v.IndexedPartSelect n p b w → IsContext (sense names x).shape c → k ≡ natural (constant_integer (sense names w)) → Makes names (λ store. window (pos (own store (sense names b)) -ℤ pos (decl_low (names n.name))) k (decl_value store (names n.name))) k f → Makes names (λ store. (sense names x).value store c) c.width f
-indexed_made names x n p b w c k f is at is_k h = stepped names x (step names (e.IndexedPartSelect n p (sense names b) (sense names w))) c f (ap (sense names) is ∙ s.sense_indexed_part_select names n p b w) at (subst (λ (j : ℕ). Makes names (λ store. window (pos (own store (sense names b)) -ℤ pos (decl_low (names n.name))) j (decl_value store (names n.name))) j f) is_k h)
+pub indexed_made : (names : Names) (x : Expr) (n : Identifier) (p : Span) (b w : Expr) (c : Shape) (k : ℕ) (f : Formula) → x ≡ v.IndexedPartSelect n p b w → IsContext (sense names x).shape c → k ≡ natural (constant_integer (sense names w)) → Makes names (λ store. window (index_of store (sense names b) -ℤ pos (decl_low (names n.name))) k (decl_value store (names n.name))) k f → Makes names (λ store. (sense names x).value store c) c.width f
+indexed_made names x n p b w c k f is at is_k h = stepped names x (step names (e.IndexedPartSelect n p (sense names b) (sense names w))) c f (ap (sense names) is ∙ s.sense_indexed_part_select names n p b w) at (subst (λ (j : ℕ). Makes names (λ store. window (index_of store (sense names b) -ℤ pos (decl_low (names n.name))) j (decl_value store (names n.name))) j f) is_k h)
 
 module _ (names : Names) (x : Expr) (n : Identifier) (p : Span) (m l : Expr) (y z : ℤ) (is : x ≡ v.PartSelect n p m l) (is_y : y ≡ constant_integer (sense names m)) (is_z : z ≡ constant_integer (sense names l)) where
   width_is : part_width (constant_integer (sense names m)) (constant_integer (sense names l)) ≡ part_width y z
@@ -103,16 +103,16 @@ module _ (names : Names) (x : Expr) (n : Identifier) (p : Span) (m l : Expr) (y 
       })
 
 module _ (names : Names) (name : List ℕ) (i : Expr) (d : Option Decl) (w : ℕ) (is_d : d ≡ names name) (f : Formula) where
-  pub picked : (shape : Shape) (place : ℕ) → shape ≡ (sense names i).shape → ((store : Store) → place ≡ (sense names i).value store shape) → ((store : Store) → formula_value f store ≡ window (pos place -ℤ pos (decl_low d)) w (decl_value store d)) → ((widths : List ℕ) → HasSignal widths d → FitsIn widths f w) → Makes names (λ store. window (pos (own store (sense names i)) -ℤ pos (decl_low (names name))) w (decl_value store (names name))) w f
-  picked shape place is_s at means fits = record {
-    means = λ store. means store ∙ ap (λ (q : Option Decl). window (pos place -ℤ pos (decl_low q)) w (decl_value store q)) is_d ∙ ap (λ (k : ℕ). window (pos k -ℤ pos (decl_low (names name))) w (decl_value store (names name))) (at store ∙ ap ((sense names i).value store) is_s);
+  pub picked : (shape : Shape) (bits : ℕ) (place : ℤ) → shape ≡ (sense names i).shape → place ≡ integer shape bits → ((store : Store) → bits ≡ (sense names i).value store shape) → ((store : Store) → formula_value f store ≡ window (place -ℤ pos (decl_low d)) w (decl_value store d)) → ((widths : List ℕ) → HasSignal widths d → FitsIn widths f w) → Makes names (λ store. window (index_of store (sense names i) -ℤ pos (decl_low (names name))) w (decl_value store (names name))) w f
+  picked shape bits place is_s is_place at means fits = record {
+    means = λ store. means store ∙ ap (λ (q : Option Decl). window (place -ℤ pos (decl_low q)) w (decl_value store q)) is_d ∙ ap (λ (z : ℤ). window (z -ℤ pos (decl_low (names name))) w (decl_value store (names name))) (is_place ∙ ap (integer shape) (at store) ∙ ap (λ (s : Shape). integer s ((sense names i).value store s)) is_s);
     fits = λ widths has. fits widths (subst (HasSignal widths) (sym is_d) (has name));
   }
 
-  pub aimed : (g : Formula) → Makes names (λ store. own store (sense names i)) (sense names i).shape.width g → ((store : Store) → formula_value f store ≡ window (pos (formula_value g store) -ℤ pos (decl_low d)) w (decl_value store d)) → ((widths : List ℕ) → HasSignal widths d → ((k : ℕ) × FitsIn widths g k) → FitsIn widths f w) → Makes names (λ store. window (pos (own store (sense names i)) -ℤ pos (decl_low (names name))) w (decl_value store (names name))) w f
-  aimed g h means fits = record {
-    means = λ store. means store ∙ ap (λ (q : Option Decl). window (pos (formula_value g store) -ℤ pos (decl_low q)) w (decl_value store q)) is_d ∙ ap (λ (k : ℕ). window (pos k -ℤ pos (decl_low (names name))) w (decl_value store (names name))) (h.means store);
-    fits = λ widths has. fits widths (subst (HasSignal widths) (sym is_d) (has name)) ((sense names i).shape.width, h.fits widths has);
+  pub aimed : (shape : Shape) (g : Formula) → shape ≡ (sense names i).shape → Makes names (λ store. (sense names i).value store shape) shape.width g → ((store : Store) → formula_value f store ≡ window (integer shape (formula_value g store) -ℤ pos (decl_low d)) w (decl_value store d)) → ((widths : List ℕ) → HasSignal widths d → FitsIn widths g shape.width → FitsIn widths f w) → Makes names (λ store. window (index_of store (sense names i) -ℤ pos (decl_low (names name))) w (decl_value store (names name))) w f
+  aimed shape g is_s h means fits = record {
+    means = λ store. means store ∙ ap (λ (q : Option Decl). window (integer shape (formula_value g store) -ℤ pos (decl_low q)) w (decl_value store q)) is_d ∙ ap (λ (z : ℤ). window (z -ℤ pos (decl_low (names name))) w (decl_value store (names name))) (ap (integer shape) (h.means store) ∙ ap (λ (s : Shape). integer s ((sense names i).value store s)) is_s);
+    fits = λ widths has. fits widths (subst (HasSignal widths) (sym is_d) (has name)) (h.fits widths has);
   }
 
 -- Operators.

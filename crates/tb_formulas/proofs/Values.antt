@@ -8,7 +8,7 @@ use Rattle.mcy_base.specs.declared.word.Word.{Word}
 use Rattle.vlog_syntax.specs.declared.operator.UnaryOperator.{UnaryOperator}
 use Rattle.vlog_syntax.specs.declared.operator.BinaryOperator.{BinaryOperator}
 use Rattle.vlog_meaning.specs.declared.shapes.Shape.{Shape}
-use Rattle.vlog_meaning.specs.Integers.{extended, window}
+use Rattle.vlog_meaning.specs.Integers.{integer, extended, window}
 use Rattle.vlog_meaning.specs.Operators.{IsSized, ArePaired, bit, sizing, result_width, is_reduction, unary_shape, operand_context, unary_value, binary_value}
 use Rattle.vlog_meaning.specs.Scopes.{Store, store_of}
 use Rattle.vlog_meaning.specs.Senses.{repeated}
@@ -88,13 +88,13 @@ module _ (f : Formula) (store : Store) where
   pub says_slice : (s at w x r : ℕ) → f ≡ v.Slice s at w → x ≡ store s → r ≡ x / 2 ^ at % 2 ^ w → r ≡ formula_value f store
   says_slice s at w x r is one so = so ∙ ap (λ (y : ℕ). y / 2 ^ at % 2 ^ w) one ∙ sym (valued (o.Slice s at w) f store (v.rolls-Slice s at w ∙ sym is))
 
-  pub says_select : (p : Part) (g i : Formula) (x y r : ℕ) → f ≡ v.Select p i → g ≡ i → x ≡ store p.signal → y ≡ formula_value g store → r ≡ window (pos y -ℤ pos p.low) p.width x → r ≡ formula_value f store
-  says_select p g i x y r is got held one so =
-      so ∙ ap (window (pos y -ℤ pos p.low) p.width) held ∙ ap (λ (z : ℕ). window (pos z -ℤ pos p.low) p.width (store p.signal)) (one ∙ ap (λ (h : Formula). formula_value h store) got) ∙ sym (valued (o.Select p i) f store (v.rolls-Select p i ∙ sym is))
+  pub says_select : (s : ℕ) (p : Part) (g i : Formula) (x y r : ℕ) → f ≡ v.Select s p i → g ≡ i → x ≡ store s → y ≡ formula_value g store → r ≡ window (integer p.index y -ℤ pos p.low) p.width x → r ≡ formula_value f store
+  says_select s p g i x y r is got held one so =
+      so ∙ ap (window (integer p.index y -ℤ pos p.low) p.width) held ∙ ap (λ (z : ℕ). window (integer p.index z -ℤ pos p.low) p.width (store s)) (one ∙ ap (λ (h : Formula). formula_value h store) got) ∙ sym (valued (o.Select s p i) f store (v.rolls-Select s p i ∙ sym is))
 
-  pub says_number_select : (b l w : ℕ) (g i : Formula) (y r : ℕ) → f ≡ v.NumberSelect b l w i → g ≡ i → y ≡ formula_value g store → r ≡ window (pos y -ℤ pos l) w b → r ≡ formula_value f store
-  says_number_select b l w g i y r is got one so =
-      so ∙ ap (λ (z : ℕ). window (pos z -ℤ pos l) w b) (one ∙ ap (λ (h : Formula). formula_value h store) got) ∙ sym (valued (o.NumberSelect b l w i) f store (v.rolls-NumberSelect b l w i ∙ sym is))
+  pub says_number_select : (b : ℕ) (p : Part) (g i : Formula) (y r : ℕ) → f ≡ v.NumberSelect b p i → g ≡ i → y ≡ formula_value g store → r ≡ window (integer p.index y -ℤ pos p.low) p.width b → r ≡ formula_value f store
+  says_number_select b p g i y r is got one so =
+      so ∙ ap (λ (z : ℕ). window (integer p.index z -ℤ pos p.low) p.width b) (one ∙ ap (λ (h : Formula). formula_value h store) got) ∙ sym (valued (o.NumberSelect b p i) f store (v.rolls-NumberSelect b p i ∙ sym is))
 
   pub says_extended : (s : Shape) (to : ℕ) (g i : Formula) (x r : ℕ) → f ≡ v.Extended s to i → g ≡ i → x ≡ formula_value g store → r ≡ extended s to x → r ≡ formula_value f store
   says_extended s to g i x r is got one so =

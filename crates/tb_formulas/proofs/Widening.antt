@@ -1,6 +1,5 @@
 -- What fits a width fits a greater one.
-use Rattle.std.proofs.Common.{◌≡◌, ℕ, zero, suc, ◌+◌, ◌*◌, ◌<◌, ◌≤◌, ◌^◌, List, refl, arith, subst}
-use Rattle.std.proofs.lemmas.Nat.{pow-add}
+use Rattle.std.proofs.Common.{ℕ, ◌≤◌, List, refl, arith, subst}
 use Rattle.vlog_meaning.proofs.Contexts.{wider}
 use Rattle.tb_formulas.specs.declared.formula.Formula.{Formula}
 use Rattle.tb_formulas.specs.declared.formula.Formula.TheOpen as o
@@ -22,8 +21,8 @@ layer widths (o.Number b) n m le h = closed widths (o.Number b) _ m refl (wider 
 layer widths (o.Signal s w) n m le h = let g = opened widths (o.Signal s w) _ n refl h in closed widths (o.Signal s w) _ m refl (g.0, omega (arith, g.1, le))
 layer widths (o.SignedSignal s w t) n m le h = let g = opened widths (o.SignedSignal s w t) _ n refl h in closed widths (o.SignedSignal s w t) _ m refl (g.0, g.1, g.2, g.3, omega (arith, g.4, le))
 layer widths (o.Slice s a w) n m le h = let g = opened widths (o.Slice s a w) _ n refl h in closed widths (o.Slice s a w) _ m refl (g.0, g.1, g.2, omega (arith, g.3, le))
-layer widths (o.Select p x) n m le h = let g = opened widths (o.Select p x.0) _ n refl h in closed widths (o.Select p x.0) _ m refl (g.0, g.1, omega (arith, g.2, le), g.3)
-layer widths (o.NumberSelect b l w x) n m le h = let g = opened widths (o.NumberSelect b l w x.0) _ n refl h in closed widths (o.NumberSelect b l w x.0) _ m refl (g.0, omega (arith, g.1, le), g.2)
+layer widths (o.Select s p x) n m le h = let g = opened widths (o.Select s p x.0) _ n refl h in closed widths (o.Select s p x.0) _ m refl (g.0, g.1, omega (arith, g.2, le), g.3, g.4)
+layer widths (o.NumberSelect b p x) n m le h = let g = opened widths (o.NumberSelect b p x.0) _ n refl h in closed widths (o.NumberSelect b p x.0) _ m refl (g.0, omega (arith, g.1, le), g.2, g.3)
 layer widths (o.Extended s t x) n m le h = let g = opened widths (o.Extended s t x.0) _ n refl h in closed widths (o.Extended s t x.0) _ m refl (g.0, g.1, g.2, omega (arith, g.3, le), g.4)
 layer widths (o.Unary op s x) n m le h = let g = opened widths (o.Unary op s x.0) _ n refl h in closed widths (o.Unary op s x.0) _ m refl (g.0, omega (arith, g.1, le), g.2)
 layer widths (o.Binary op s t x y) n m le h = let g = opened widths (o.Binary op s t x.0 y.0) _ n refl h in closed widths (o.Binary op s t x.0 y.0) _ m refl (g.0, g.1, g.2, omega (arith, g.3, le), g.4, g.5)
@@ -33,13 +32,3 @@ layer widths (o.Repeated c w x) n m le h = let g = opened widths (o.Repeated c w
 
 pub widens : (widths : List ℕ) (f : Formula) → (n m : ℕ) → n ≤ m → FitsIn widths f n → FitsIn widths f m
 widens widths = ind-Formula (Widens widths) (λ x y is. subst (λ (z : Formula-F Formula). Widens widths (roll-Formula z)) is (layer widths y))
-
--- a number has at most as many bits as it counts
-pub grows : (m : ℕ) → m < 2 ^ m
-grows zero = omega arith
-grows (suc m) =
-    let before = grows m in
-    let e : 2 ^ (1 + m) ≡ 2 ^ 1 * 2 ^ m = pow-add 2 1 m in
-    let here : 1 + m < 2 ^ (1 + m) = omega (arith, e, before) in
-    let same : 1 + m ≡ suc m = omega arith in
-    subst (λ (k : ℕ). k < 2 ^ k) same here

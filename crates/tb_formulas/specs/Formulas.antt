@@ -2,7 +2,7 @@
 use Rattle.std.specs.Prelude.{◌≡◌, ◌<◌, ◌≤◌, ℕ, ◌+◌, ◌*◌, ◌/◌, ◌%◌, ◌^◌, pos, ◌-ℤ◌, true, ◌==◌, List, length, if◌then◌else◌}
 use Rattle.vlog_syntax.specs.declared.expr.Expr.{Expr}
 use Rattle.vlog_meaning.specs.declared.shapes.Shape.{Shape}
-use Rattle.vlog_meaning.specs.Integers.{extended, window}
+use Rattle.vlog_meaning.specs.Integers.{integer, extended, window}
 use Rattle.vlog_meaning.specs.Operators.{IsSized, ArePaired, sizing, result_width, unary_shape, unary_value, binary_value}
 use Rattle.vlog_meaning.specs.Scopes.{Names, Store}
 use Rattle.vlog_meaning.specs.Senses.{sense, repeated}
@@ -20,8 +20,8 @@ value_step (o.Number bits) store = bits
 value_step (o.Signal number width) store = store number % 2 ^ width
 value_step (o.SignedSignal number from to) store = extended (signed from) to (store number)
 value_step (o.Slice number at width) store = store number / 2 ^ at % 2 ^ width
-value_step (o.Select part place) store = window (pos (place store) -ℤ pos part.low) part.width (store part.signal)
-value_step (o.NumberSelect bits low width place) store = window (pos (place store) -ℤ pos low) width bits
+value_step (o.Select signal part index) store = window (integer part.index (index store) -ℤ pos part.low) part.width (store signal)
+value_step (o.NumberSelect bits part index) store = window (integer part.index (index store) -ℤ pos part.low) part.width bits
 value_step (o.Extended shape to inner) store = extended shape to (inner store)
 value_step (o.Unary op shape inner) store = unary_value op shape (inner store)
 value_step (o.Binary op left right f g) store = binary_value op left (f store) right (g store)
@@ -39,8 +39,8 @@ fits_step widths X part fits (o.Number bits) n = bits < 2 ^ n
 fits_step widths X part fits (o.Signal number width) n = IsSignal widths number width × (width ≤ n)
 fits_step widths X part fits (o.SignedSignal number from to) n = IsSignal widths number from × (1 ≤ from) × (from ≤ to) × (to ≤ 128) × (to ≤ n)
 fits_step widths X part fits (o.Slice number at width) n = (number < length widths) × (at < 128) × (width ≤ 128) × (width ≤ n)
-fits_step widths X part fits (o.Select bits place) n = (bits.signal < length widths) × (bits.width ≤ 128) × (bits.width ≤ n) × ((k : ℕ) × fits place k)
-fits_step widths X part fits (o.NumberSelect bits low width place) n = (width ≤ 128) × (width ≤ n) × ((k : ℕ) × fits place k)
+fits_step widths X part fits (o.Select signal bits index) n = (signal < length widths) × (bits.width ≤ 128) × (bits.width ≤ n) × IsSized bits.index × fits index bits.index.width
+fits_step widths X part fits (o.NumberSelect number bits index) n = (bits.width ≤ 128) × (bits.width ≤ n) × IsSized bits.index × fits index bits.index.width
 fits_step widths X part fits (o.Extended shape to inner) n = IsSized shape × (shape.width ≤ to) × (to ≤ 128) × (to ≤ n) × fits inner shape.width
 fits_step widths X part fits (o.Unary op shape inner) n = IsSized shape × ((unary_shape op shape).width ≤ n) × fits inner shape.width
 fits_step widths X part fits (o.Binary op left right f g) n = IsSized left × IsSized right × ArePaired (sizing op) left right × (result_width (sizing op) left ≤ n) × fits f left.width × fits g right.width

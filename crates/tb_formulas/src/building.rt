@@ -4,7 +4,7 @@
 ghost use Rattle.std.specs.Prelude.{◌≡◌, ◌<◌, ◌≤◌, ◌^◌, ◌+◌, ◌*◌, ◌-ℤ◌, pos, ℕ, List, [], ◌∷◌, Some, IfOk, IfSome, IsTrue};
 ghost use Rattle.vlog_meaning.specs.Integers.{window};
 ghost use Rattle.vlog_meaning.specs.Scopes.{Names, Store, names_of, decl_low, decl_value};
-ghost use Rattle.vlog_meaning.specs.Senses.{sense, senses, own, joined, repeated, total_width, call_shape, call_value, IsWhole, AreWhole, IsWholeCall, IsContext};
+ghost use Rattle.vlog_meaning.specs.Senses.{sense, senses, own, index_of, joined, repeated, total_width, call_shape, call_value, IsWhole, AreWhole, IsWholeCall, IsContext};
 ghost use Rattle.tb_formulas.specs.declared.formula.Formula.TheVariants as v;
 ghost use Rattle.tb_formulas.specs.Formulas.{formula_value, FitsIn, IsFormulaOf, Serves};
 ghost use Rattle.tb_formulas.specs.Made.{Makes};
@@ -181,18 +181,16 @@ fn selected(
     requires whole { IsWhole (names_of scope.now) index.now }
     requires some { 1 ≤ width }
     requires narrow { width ≤ 128 }
-    ensures { IfOk result (λ f. Makes (names_of scope.now) (λ store. window (pos (own store (sense (names_of scope.now) index.now)) -ℤ pos (decl_low (names_of scope.now name.now.name))) width (decl_value store (names_of scope.now name.now.name))) width f) }
+    ensures { IfOk result (λ f. Makes (names_of scope.now) (λ store. window (index_of store (sense (names_of scope.now) index.now) -ℤ pos (decl_low (names_of scope.now name.now.name))) width (decl_value store (names_of scope.now name.now.name))) width f) }
 {
     let decl = declared(name, scope);
-    if let Some(magnitude) = constant(index, scope, shape_of(index, scope)) {
-        let place = Bound {
-            is_negative: false,
-            magnitude,
-        };
+    let shape = shape_of(index, scope);
+    if let Some(bits) = constant(index, scope, shape) {
+        let place = Bound::of(shape, bits);
         return fixed(alloc, decl, width, place);
     }
-    let place = own_boxed(alloc, index, scope)?;
-    Ok(indexed(decl, width, place))
+    let place = boxed(alloc, index, scope, shape)?;
+    Ok(indexed(decl, width, shape, place))
 }
 
 /// The formula of a concatenation.

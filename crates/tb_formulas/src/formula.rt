@@ -3,7 +3,8 @@
 //! Nothing is looked up in an evaluation, and no memory is taken.
 ghost use Rattle.std.specs.Prelude.{◌≡◌, ◌<◌, ◌≤◌, ◌^◌, ◌-ℤ◌, pos, ℕ, length, map, slice_index};
 ghost use Rattle.mcy_base.specs.declared.word.Word.{Word as Held};
-ghost use Rattle.vlog_meaning.specs.Integers.{window};
+ghost use Rattle.vlog_meaning.specs.Integers.{integer, window};
+ghost use Rattle.vlog_meaning.specs.Operators.{IsSized};
 ghost use Rattle.vlog_meaning.specs.Scopes.{store_of};
 ghost use Rattle.tb_formulas.specs.Formulas.{signed, formula_value, FitsIn};
 
@@ -13,12 +14,12 @@ use vlog_meaning::{
 };
 use vlog_syntax::{BinaryOperator, Boxed, UnaryOperator};
 
-/// A part of a signal whose lowest bit has the number `low`: as many bits as the width.
+/// Which bits are selected: as many as the width, from an index of the shape `index` on, where the lowest bit has the number `low`.
 #[derive(Clone, Copy, Debug, PartialEq, Eq)]
 pub struct Part {
-    pub signal: u32,
     pub low: u32,
     pub width: u8,
+    pub index: Shape,
 }
 
 /// What an expression comes to at a width and sign.
@@ -30,10 +31,10 @@ pub enum Formula {
     SignedSignal(u32, u8, u8),
     /// Bits of a signal from a place on, as many as the width.
     Slice(u32, u8, u8),
-    /// Bits of a signal from a place on, which is an index of the signal.
-    Select(Part, Boxed<Formula>),
-    /// Bits of a number from a place on, as many as the width. The number's lowest bit has the number that stands before the width.
-    NumberSelect(u128, u32, u8, Boxed<Formula>),
+    /// Bits of a signal from an index on.
+    Select(u32, Part, Boxed<Formula>),
+    /// Bits of a number from an index on.
+    NumberSelect(u128, Part, Boxed<Formula>),
     /// A number of this shape at another width.
     Extended(Shape, u8, Boxed<Formula>),
     /// An operator, and the shape at which its operand is evaluated.
@@ -55,8 +56,8 @@ impl Drop for Formula {
             Formula::Signal(_, _) => {}
             Formula::SignedSignal(_, _, _) => {}
             Formula::Slice(_, _, _) => {}
-            Formula::Select(_, _place) => {}
-            Formula::NumberSelect(_, _, _, _place) => {}
+            Formula::Select(_, _, _index) => {}
+            Formula::NumberSelect(_, _, _index) => {}
             Formula::Extended(_, _, _inner) => {}
             Formula::Unary(_, _, _inner) => {}
             Formula::Binary(_, _, _, _first, _second) => {}
@@ -86,25 +87,14 @@ fn signed(width: u8) -> Shape
     }
 }
 
-/// The bits of a number from an index on, where its lowest bit has the number `low`.
-fn bits_from(bits: u128, low: u32, width: u8, index: u128) -> u128
-    requires { width ≤ 128 }
-    ensures { result ≡ window (pos index -ℤ pos low) width bits }
-{
-    let place = Bound {
-        is_negative: false,
-        magnitude: index,
-    };
-    window(bits, place, low, width)
-}
-
-/// The bits of a part that begins at an index of the signal.
-fn part_from(store: &[Word], part: Part, index: u128) -> u128
-    requires known { part.signal < length store.now }
+/// The selected bits of a number, from an index on.
+fn part_from(bits: u128, part: Part, index: u128) -> u128
+    requires sized { IsSized part.index }
+    requires fits { index < 2 ^ part.index.width }
     requires narrow { part.width ≤ 128 }
-    ensures { result ≡ window (pos index -ℤ pos part.low) part.width (store_of store.now part.signal) }
+    ensures { result ≡ window (integer part.index index -ℤ pos part.low) part.width bits }
 {
-    bits_from(bits_of(store, part.signal), part.low, part.width, index)
+    window(bits, Bound::of(part.index, index), part.low, part.width)
 }
 
 impl Formula {
@@ -138,9 +128,13 @@ impl Formula {
                 extend(signed(*from), bits_of(store, *signal), *to)
             }
             Formula::Slice(signal, at, width) => truncate(bits_of(store, *signal) >> *at, *width),
-            Formula::Select(part, place) => part_from(store, *part, place.get().value(store)),
-            Formula::NumberSelect(bits, low, width, place) => {
-                bits_from(*bits, *low, *width, place.get().value(store))
+            Formula::Select(signal, part, index) => part_from(
+                bits_of(store, *signal),
+                *part,
+                index.get().value(store),
+            ),
+            Formula::NumberSelect(bits, part, index) => {
+                part_from(*bits, *part, index.get().value(store))
             }
             Formula::Extended(shape, to, inner) => extend(*shape, inner.get().value(store), *to),
             Formula::Unary(op, shape, inner) => {

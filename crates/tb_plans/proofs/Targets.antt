@@ -1,9 +1,11 @@
 -- Targets of left sides of one part.
-use Rattle.std.proofs.Common.{◌≡◌, zero, suc, ℕ, ◌<◌, ◌≤◌, ◌/◌, ◌^◌, List, [], ◌∷◌, ◌++◌, ap, sym, ◌∙◌, arith, Option, Some}
-use Rattle.std.specs.Prelude.{ℤ, pos}
+use Rattle.std.proofs.Common.{◌≡◌, zero, suc, ℕ, ◌<◌, ◌≤◌, ◌/◌, ◌^◌, List, [], ◌∷◌, ◌++◌, ap, sym, ◌∙◌, arith, subst, Option, Some}
+use Rattle.std.specs.Prelude.{ℤ}
 use Rattle.std.proofs.Math.Nat.{mod-eq_of_lt}
 use Rattle.rand_pcg.specs.Lcg.{Lcg}
 use Rattle.vlog_syntax.specs.declared.expr.Expr.{Expr}
+use Rattle.vlog_meaning.specs.declared.shapes.Shape.{Shape}
+use Rattle.vlog_meaning.specs.Integers.{integer}
 use Rattle.vlog_meaning.specs.Scopes.{Names, Store}
 use Rattle.vlog_meaning.specs.Senses.{sense}
 use Rattle.vlog_effects.specs.LeftSides.{Part, Vector, part_vector, select_width}
@@ -18,11 +20,11 @@ use Rattle.tb_formulas.specs.declared.formula.Formula.TheOpen as o
 use Rattle.tb_formulas.specs.declared.formula.Formula.TheVariants as v
 use Rattle.tb_formulas.specs.declared.formula.Formula.TheVariants.{Number}
 use Rattle.tb_formulas.proofs.Layers.{valued}
-use Rattle.tb_formulas.specs.Formulas.{formula_value}
+use Rattle.tb_formulas.specs.Formulas.{formula_value, FitsIn}
 use Rattle.tb_plans.specs.declared.target.Target.{Target}
 use Rattle.tb_plans.specs.Making.{IsTargetOf}
 use Rattle.tb_plans.specs.Transfers.{target_updates, TargetFits}
-use Rattle.tb_plans.specs.Values.{FormulaFits, IsValueOf}
+use Rattle.tb_plans.specs.Values.{IsValueOf}
 
 whole : (v : ℕ) → v / 2 ^ 0 ≡ v
 whole v = omega arith
@@ -47,16 +49,18 @@ piece_target names p piece clip bits t drawn clipped written fits = record {
   fits = λ widths has. fits widths;
 }
 
-pub index_target : (names : Names) (p : Part) (vector : code.Vector) (size : ℕ) (x : Expr) (f : Formula) (bits : ℕ) (t : Target) → part_vector names p ≡ Some (vector_is vector) → size ≡ select_width names (vector_is vector) p.select → ((phase : ℕ) (store : Store) (g : Lcg) → base_drawn names phase store (vector_is vector) p.select g ≡ index_drawn names phase store x g) → IsValueOf names x (sense names x).shape f → ((store : Store) (v : ℕ) → target_updates t store v ≡ window_update (record { vector = vector_is vector; base = pos (formula_value f store); size = size }) v) → ((widths : List ℕ) → FormulaFits widths f → TargetFits widths bits t) → IsTargetOf names (p ∷ []) bits t
-index_target names p vector size x f bits t known sized based value written fits = record {
+pub index_target : (names : Names) (p : Part) (vector : code.Vector) (size : ℕ) (shape : Shape) (x : Expr) (f : Formula) (bits : ℕ) (t : Target) → part_vector names p ≡ Some (vector_is vector) → size ≡ select_width names (vector_is vector) p.select → shape ≡ (sense names x).shape → ((phase : ℕ) (store : Store) (g : Lcg) → base_drawn names phase store (vector_is vector) p.select g ≡ index_drawn names phase store x g) → IsValueOf names x (sense names x).shape f → ((store : Store) (v : ℕ) → target_updates t store v ≡ window_update (record { vector = vector_is vector; base = integer shape (formula_value f store); size = size }) v) → ((widths : List ℕ) → FitsIn widths f shape.width → TargetFits widths bits t) → IsTargetOf names (p ∷ []) bits t
+index_target names p vector size shape x f bits t known sized own based value written fits = record {
   means = λ phase store v g.
       let joined : Option Vector → List Update × Lcg = λ o. let a = window_drawn names phase store p.select o g in (updates_of (a.0 ++ []) v, a.1) in
       let from : ℤ × Lcg → List Update × Lcg = λ b. (window_update (record { vector = vector_is vector; base = b.0; size = select_width names (vector_is vector) p.select }) (v / 2 ^ 0), b.1) in
+      let at : ℤ = integer (sense names x).shape (formula_value f store) in
       ap joined known
       ∙ ap from (based phase store g)
-      ∙ ap (λ (a : ℕ × Lcg). from (pos a.0, a.1)) (value.means phase store g)
-      ∙ ap (λ (n : ℕ). (window_update (record { vector = vector_is vector; base = pos (formula_value f store); size = select_width names (vector_is vector) p.select }) n, g)) (whole v)
-      ∙ ap (λ (n : ℕ). (window_update (record { vector = vector_is vector; base = pos (formula_value f store); size = n }) v, g)) (sym sized)
+      ∙ ap (λ (a : ℕ × Lcg). from (integer (sense names x).shape a.0, a.1)) (value.means phase store g)
+      ∙ ap (λ (n : ℕ). (window_update (record { vector = vector_is vector; base = at; size = select_width names (vector_is vector) p.select }) n, g)) (whole v)
+      ∙ ap (λ (n : ℕ). (window_update (record { vector = vector_is vector; base = at; size = n }) v, g)) (sym sized)
+      ∙ ap (λ (s : Shape). (window_update (record { vector = vector_is vector; base = integer s (formula_value f store); size = size }) v, g)) (sym own)
       ∙ ap (λ (us : List Update). (us, g)) (sym (written store v));
-  fits = λ widths has. fits widths ((sense names x).shape.width, value.fits widths has);
+  fits = λ widths has. fits widths (subst (λ (s : Shape). FitsIn widths f s.width) (sym own) (value.fits widths has));
 }

@@ -1,9 +1,11 @@
 -- Plans of assignments: the value is a formula, or a word of `$random` alone, and goes to bits of one signal. A plan is one of an
 -- assignment where it brings the same updates in each phase.
-use Rattle.std.specs.Prelude.{◌≡◌, ◌<◌, ◌≤◌, ◌^◌, ℕ, pos, List, Option, Some, None}
+use Rattle.std.specs.Prelude.{◌≡◌, ◌<◌, ◌≤◌, ◌^◌, ℕ, List, Option, Some, None}
 use Rattle.rand_pcg.specs.Lcg.{Lcg}
 use Rattle.rand_pcg.specs.Pcg.{pcg32}
 use Rattle.vlog_syntax.specs.declared.stmt.Assignment.{Assignment}
+use Rattle.vlog_meaning.specs.Integers.{integer}
+use Rattle.vlog_meaning.specs.Operators.{IsSized}
 use Rattle.vlog_meaning.specs.Scopes.{Names, Store}
 use Rattle.vlog_meaning.specs.Senses.{taken}
 use Rattle.tb_machine.specs.declared.update.Update.{Update}
@@ -12,7 +14,6 @@ use Rattle.tb_assigns.specs.Pieces.{vector_is, clip_update}
 use Rattle.tb_assigns.specs.Updates.{some_bits, window_update, updates}
 use Rattle.tb_formulas.specs.Formulas.{formula_value, FitsIn}
 use Rattle.tb_formulas.specs.Signals.{HasSignals}
-use Rattle.tb_plans.specs.Values.{FormulaFits}
 use Rattle.tb_plans.specs.declared.target.Target.{Target}
 use Rattle.tb_plans.specs.declared.target.Target.TheVariants.{Filled, Fixed, Indexed}
 use Rattle.tb_plans.specs.declared.transfer.Transfer.{Transfer}
@@ -20,11 +21,11 @@ use Rattle.tb_plans.specs.declared.transfer.Draw.{Draw}
 use Rattle.tb_plans.specs.declared.transfer.Writing.{Writing}
 use Rattle.tb_plans.specs.declared.transfer.Writing.TheVariants as w
 
--- the updates of a target with a value; an index is read as unsigned
+-- the updates of a target with a value; an index is an integer by its shape
 abbrev pub target_updates : Target → Store → ℕ → List Update
 target_updates (Filled signal low width) store v = some_bits signal low width v
 target_updates (Fixed clip) store v = clip_update clip v
-target_updates (Indexed vector size index) store v = window_update (record { vector = vector_is vector; base = pos (formula_value index store); size = size }) v
+target_updates (Indexed vector size shape index) store v = window_update (record { vector = vector_is vector; base = integer shape (formula_value index store); size = size }) v
 
 abbrev pub transfer_updates : Transfer → Store → List Update
 transfer_updates t store = target_updates t.target store (formula_value t.value store)
@@ -39,7 +40,7 @@ draw_updates d store g = (target_updates d.target store (taken random_shape d.co
 abbrev pub TargetFits : List ℕ → ℕ → Target → Type 0
 TargetFits widths bits (Filled signal low width) = (1 ≤ width) × (bits ≤ width)
 TargetFits widths bits (Fixed clip) = Unit {0}
-TargetFits widths bits (Indexed vector size index) = FormulaFits widths index
+TargetFits widths bits (Indexed vector size shape index) = IsSized shape × FitsIn widths index shape.width
 
 -- it takes this value
 pub record Takes (widths : List ℕ) (t : Target) (v : ℕ) : Type 0 where

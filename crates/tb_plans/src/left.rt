@@ -1,11 +1,12 @@
 //! Targets of left sides.
-ghost use Rattle.std.specs.Prelude.{◌≡◌, ℕ, List, ◌∷◌, [], pos, IfOk};
+ghost use Rattle.std.specs.Prelude.{◌≡◌, ◌<◌, ◌≤◌, ◌^◌, ℕ, List, ◌∷◌, [], IfOk, IsTrue};
+ghost use Rattle.vlog_meaning.specs.Integers.{integer};
+ghost use Rattle.vlog_meaning.specs.Operators.{IsSized};
 ghost use Rattle.vlog_meaning.specs.Scopes.{Store, names_of};
 ghost use Rattle.vlog_effects.specs.LeftSides.{Whole, Bit, Range, Indexed as FromIndex, Vector as Known, parts_of};
 ghost use Rattle.tb_assigns.specs.Pieces.{vector_is};
 ghost use Rattle.tb_assigns.specs.Updates.{IsPart, AreParts, window_update};
-ghost use Rattle.tb_formulas.specs.Formulas.{formula_value};
-ghost use Rattle.tb_plans.specs.Values.{FormulaFits};
+ghost use Rattle.tb_formulas.specs.Formulas.{formula_value, FitsIn};
 ghost use Rattle.tb_plans.specs.Making.{IsTargetOf, OfTarget};
 ghost use Rattle.tb_plans.specs.Transfers.{target_updates, TargetFits};
 
@@ -14,9 +15,9 @@ use crate::value::own_value_of;
 use expr_plans::count_of;
 use mcy_base::Span;
 use std::alloc::{AllocError, Global};
-use tb_assigns::{Piece, Vector, clip_of, positive, range_piece, vector_of, whole_piece};
+use tb_assigns::{Piece, Vector, clip_of, range_piece, vector_of, whole_piece};
 use tb_formulas::Formula;
-use vlog_meaning::Scope;
+use vlog_meaning::{Bound, Scope, Shape, shape_of, truncate};
 use vlog_syntax::{Expr, Identifier, LeftSide};
 
 /// A whole signal.
@@ -42,16 +43,27 @@ fn range_target(
     Target::of_clip(clip_of(range_piece(name, span, msb, lsb, scope)), bits)
 }
 
-/// So many bits from an index on. They are fixed where the index is a number.
-fn indexed(vector: Vector, size: u8, index: Formula, bits: u8) -> Target
-    ensures updates { (store : Store) (v : ℕ) → target_updates result store v ≡ window_update (record { vector = vector_is vector; base = pos (formula_value index store); size = size }) v }
-    ensures fits { (widths : List ℕ) → FormulaFits widths index → TargetFits widths bits result }
+/// Whether a number has at most so many bits.
+fn is_within(bits: u128, width: u8) -> bool
+    requires { width ≤ 128 }
+    ensures { IsTrue result → bits < 2 ^ width }
+{
+    truncate(bits, width) == bits
+}
+
+/// So many bits from an index of this shape on. They are fixed where the index is a number.
+fn indexed(vector: Vector, size: u8, shape: Shape, index: Formula, bits: u8) -> Target
+    requires { IsSized shape }
+    ensures updates { (store : Store) (v : ℕ) → target_updates result store v ≡ window_update (record { vector = vector_is vector; base = integer shape (formula_value index store); size = size }) v }
+    ensures fits { (widths : List ℕ) → FitsIn widths index shape.width → TargetFits widths bits result }
 {
     if let Formula::Number(at) = &index {
-        let base = positive(*at);
-        return Target::of_clip(clip_of(Piece { vector, base, size }), bits);
+        if is_within(*at, shape.width) {
+            let base = Bound::of(shape, *at);
+            return Target::of_clip(clip_of(Piece { vector, base, size }), bits);
+        }
     }
-    Target::Indexed(vector, size, index)
+    Target::Indexed(vector, size, shape, index)
 }
 
 /// `name[index]`
@@ -67,8 +79,9 @@ fn bit_target(
     ensures { IfOk result (λ t. OfTarget (names_of scope.now) (record { name = name.now; select = Bit span index.now } ∷ []) bits t) }
 {
     let vector = vector_of(name, scope);
+    let shape = shape_of(index, scope);
     match own_value_of(alloc, index, scope)? {
-        Some(at) => Ok(Some(indexed(vector, 1, at, bits))),
+        Some(at) => Ok(Some(indexed(vector, 1, shape, at, bits))),
         None => Ok(None),
     }
 }
@@ -88,8 +101,9 @@ fn part_target(
 {
     let vector = vector_of(name, scope);
     let size = count_of(count, scope);
+    let shape = shape_of(base, scope);
     match own_value_of(alloc, base, scope)? {
-        Some(at) => Ok(Some(indexed(vector, size, at, bits))),
+        Some(at) => Ok(Some(indexed(vector, size, shape, at, bits))),
         None => Ok(None),
     }
 }

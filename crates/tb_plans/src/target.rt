@@ -1,16 +1,18 @@
 //! The bits that an assignment writes.
-ghost use Rattle.std.specs.Prelude.{◌≡◌, ℕ, pos, List, map};
+ghost use Rattle.std.specs.Prelude.{◌≡◌, ℕ, List, map};
+ghost use Rattle.vlog_meaning.specs.Integers.{integer};
+ghost use Rattle.vlog_meaning.specs.Operators.{IsSized};
 ghost use Rattle.vlog_meaning.specs.Scopes.{Store, store_of};
 ghost use Rattle.tb_assigns.specs.Pieces.{vector_is, listed, clip_update};
 ghost use Rattle.tb_assigns.specs.Updates.{window_update};
-ghost use Rattle.tb_formulas.specs.Formulas.{formula_value};
-ghost use Rattle.tb_plans.specs.Values.{FormulaFits};
+ghost use Rattle.tb_formulas.specs.Formulas.{formula_value, FitsIn};
 ghost use Rattle.tb_plans.specs.Transfers.{target_updates, TargetFits, Takes};
 
 use mcy_base::Word;
-use tb_assigns::{Clip, Piece, Vector, positive, update_of};
+use tb_assigns::{Clip, Piece, Vector, update_of};
 use tb_formulas::Formula;
 use tb_machine::Update;
+use vlog_meaning::{Bound, Shape};
 
 /// Where an assignment writes: bits of one signal.
 pub enum Target {
@@ -18,8 +20,8 @@ pub enum Target {
     Filled { signal: u32, low: u8, width: u8 },
     /// Always the same ones.
     Fixed(Clip),
-    /// So many, from an index on.
-    Indexed(Vector, u8, Formula),
+    /// So many, from an index of this shape on.
+    Indexed(Vector, u8, Shape, Formula),
 }
 
 impl Drop for Target {
@@ -31,24 +33,26 @@ impl Drop for Target {
                 width: _,
             } => {}
             Target::Fixed(_) => {}
-            Target::Indexed(_, _, _index) => {}
+            Target::Indexed(_, _, _, _index) => {}
         }
     }
 }
 
-/// The update of so many bits of a signal, from an index on, with a value.
+/// The update of so many bits of a signal, from an index of this shape on, with a value.
 #[inline(never)]
 fn update_from(
     vector: Vector,
     size: u8,
+    shape: Shape,
     index: &Formula,
     store: &[Word],
     value: u128,
 ) -> Option<Update>
-    requires { FormulaFits (map (λ w. w.width) store.now) index.now }
-    ensures { listed result ≡ window_update (record { vector = vector_is vector; base = pos (formula_value index.now (store_of store.now)); size = size }) value }
+    requires sized { IsSized shape }
+    requires fits { FitsIn (map (λ w. w.width) store.now) index.now shape.width }
+    ensures { listed result ≡ window_update (record { vector = vector_is vector; base = integer shape (formula_value index.now (store_of store.now)); size = size }) value }
 {
-    let base = positive(index.value(store));
+    let base = Bound::of(shape, index.value(store));
     update_of(Piece { vector, base, size }, value)
 }
 
@@ -82,8 +86,8 @@ impl Target {
                 value,
             }),
             Target::Fixed(clip) => clip.update(value),
-            Target::Indexed(vector, size, index) => {
-                update_from(*vector, *size, index, store, value)
+            Target::Indexed(vector, size, shape, index) => {
+                update_from(*vector, *size, *shape, index, store, value)
             }
         }
     }

@@ -1,5 +1,5 @@
 -- What is evaluated depends on the bits that an expression reads.
-use Rattle.std.proofs.Common.{◌≡◌, ℕ, ◌<◌, Bool, true, false, ◌&&◌, ◌||◌, ◌==◌, nat_lt, ℤ, pos, ◌-ℤ◌, List, [], ◌∷◌, ◌++◌, map, refl, ap, ◌∙◌, subst, arith}
+use Rattle.std.proofs.Common.{◌≡◌, ℕ, ◌<◌, Bool, true, false, ◌&&◌, ◌||◌, ◌==◌, nat_lt, ℤ, pos, ◌-ℤ◌, List, [], ◌∷◌, ◌++◌, map, refl, sym, ap, ◌∙◌, subst, arith}
 use Rattle.std.specs.Prelude.{Option, None, Some}
 use Rattle.std.proofs.lemmas.Bool.Decides.{nat_tests}
 use Rattle.std.proofs.lemmas.Nat.Bits.{same_from_bits_below}
@@ -19,11 +19,11 @@ use Rattle.vlog_meaning.specs.declared.scope.Decl.{Decl}
 use Rattle.vlog_meaning.specs.declared.scope.Decl.TheVariants.{Signal, Constant}
 use Rattle.vlog_meaning.specs.declared.shapes.Shape.{Shape}
 use Rattle.vlog_meaning.specs.Functions.{function_of}
-use Rattle.vlog_meaning.specs.Integers.{window, natural}
+use Rattle.vlog_meaning.specs.Integers.{integer, window, natural}
 use Rattle.vlog_meaning.specs.Laws.{Agree}
 use Rattle.vlog_meaning.specs.Operators.{sizing, left_context, right_context, operand_context}
-use Rattle.vlog_meaning.specs.Scopes.{Names, Store, nothing, decl_low, decl_value, IsWithin, AreWithin}
-use Rattle.vlog_meaning.specs.Senses.{Bits, Sense, sense, senses, step, own, either, all_reads, name_bits, part_bits, select_bits, is_among, constant_integer, constant_faults, joined, name_signals, name_faults, all_signals, all_faults, all_features, call_shape, call_value, call_signals, call_faults, call_zeros, fault}
+use Rattle.vlog_meaning.specs.Scopes.{Names, Store, decl_low, decl_value, IsWithin, AreWithin}
+use Rattle.vlog_meaning.specs.Senses.{Bits, Sense, sense, senses, step, index_of, either, all_reads, name_bits, part_bits, select_bits, is_among, constant_integer, constant_faults, joined, name_signals, name_faults, all_signals, all_faults, all_features, call_shape, call_value, call_signals, call_faults, call_zeros, fault}
 use Rattle.vlog_meaning.proofs.Blanks.{left_nil, right_nil, these_nil}
 use Rattle.vlog_meaning.proofs.Settled.{settled}
 use Rattle.vlog_meaning.proofs.Windows.{window_same}
@@ -90,15 +90,16 @@ from_step : (names : Names) (phase : ℕ) (x : Expr-F Expr) → StepRests names 
 from_step names phase x rests g = rw (fold-roll-Expr Sense (step names) x, fold-roll-Expr Drawn (drawn_step names phase) x) (rests g)
 
 -- a select, whose place is constant or not
-select_same : (names : Names) (s t : Store) → AreWithin names s → AreWithin names t → (d : Option Decl) (x : Expr) (a : Sense) (size : ℕ) → IsWithin s d → IsWithin t d → ((sense names x).signals ≡ [] → a ≡ sense names x) → (Agree (sense names x).reads s t → (c : Shape) → a.value s c ≡ a.value t c) → Agree (select_bits d (sense names x) size) s t → window (pos (own s a) -ℤ pos (decl_low d)) size (decl_value s d) ≡ window (pos (own t a) -ℤ pos (decl_low d)) size (decl_value t d)
+select_same : (names : Names) (s t : Store) → AreWithin names s → AreWithin names t → (d : Option Decl) (x : Expr) (a : Sense) (size : ℕ) → IsWithin s d → IsWithin t d → ((sense names x).signals ≡ [] → a ≡ sense names x) → (Agree (sense names x).reads s t → (c : Shape) → a.value s c ≡ a.value t c) → Agree (select_bits d (sense names x) size) s t → window (index_of s a -ℤ pos (decl_low d)) size (decl_value s d) ≡ window (index_of t a -ℤ pos (decl_low d)) size (decl_value t d)
 select_same names s t within within_too d x a size w w_too quiet rests agree = go (sense names x).signals refl
   where
-    go : (signals : List Span) → (sense names x).signals ≡ signals → window (pos (own s a) -ℤ pos (decl_low d)) size (decl_value s d) ≡ window (pos (own t a) -ℤ pos (decl_low d)) size (decl_value t d)
+    go : (signals : List Span) → (sense names x).signals ≡ signals → window (index_of s a -ℤ pos (decl_low d)) size (decl_value s d) ≡ window (index_of t a -ℤ pos (decl_low d)) size (decl_value t d)
     go [] is =
-        let bits : Agree (part_bits d (pos (own nothing (sense names x)) -ℤ pos (decl_low d)) size) s t = rw is at agree in
-        let here : own s a ≡ own nothing (sense names x) = ap (own s) (quiet is) ∙ settled names x is s (sense names x).shape in
-        let there : own t a ≡ own nothing (sense names x) = ap (own t) (quiet is) ∙ settled names x is t (sense names x).shape in
-        rw (here, there) (part_same d _ size s t w w_too bits)
+        let place : ℤ = constant_integer (sense names x) in
+        let bits : Agree (part_bits d (place -ℤ pos (decl_low d)) size) s t = rw is at agree in
+        let here : index_of s a ≡ place = ap (index_of s) (quiet is) ∙ ap (integer (sense names x).shape) (settled names x is s (sense names x).shape) in
+        let there : index_of t a ≡ place = ap (index_of t) (quiet is) ∙ ap (integer (sense names x).shape) (settled names x is t (sense names x).shape) in
+        ap (λ (z : ℤ). window (z -ℤ pos (decl_low d)) size (decl_value s d)) here ∙ part_same d (place -ℤ pos (decl_low d)) size s t w w_too bits ∙ sym (ap (λ (z : ℤ). window (z -ℤ pos (decl_low d)) size (decl_value t d)) there)
     go (y ∷ ys) is =
         let bits : Agree (either (name_bits d) (sense names x).reads) s t = rw is at agree in
         rw (rests (those_agree (name_bits d) (sense names x).reads s t bits) a.shape, name_same d s t w w_too (these_agree (name_bits d) (sense names x).reads s t bits)) refl

@@ -8,9 +8,10 @@ use Rattle.vlog_syntax.specs.declared.expr.Expr.{Expr}
 use Rattle.vlog_meaning.specs.declared.scope.Decl.{Decl}
 use Rattle.vlog_meaning.specs.declared.scope.Decl.TheVariants.{Signal, Constant}
 use Rattle.vlog_meaning.specs.declared.shapes.Shape.{Shape}
+use Rattle.vlog_meaning.specs.Integers.{integer}
 use Rattle.vlog_meaning.specs.Laws.{Agree}
 use Rattle.vlog_meaning.specs.Scopes.{Names, Store, AreWithin}
-use Rattle.vlog_meaning.specs.Senses.{Sense, sense, assigned, is_among, is_empty, name_bits, IsWhole}
+use Rattle.vlog_meaning.specs.Senses.{Sense, sense, index_of, assigned, is_among, is_empty, name_bits, IsWhole}
 use Rattle.vlog_meaning.proofs.Settled.{settled}
 use Rattle.vlog_effects.specs.Latches.{index_reads, is_fixed, stands_in, part_covers, parts_cover}
 use Rattle.vlog_effects.specs.LeftSides.{Select, Whole, Bit, Range, Indexed, Part, Vector, vector_of, part_vector, parts_of, parts_width, select_base, select_width, places}
@@ -29,7 +30,7 @@ use Rattle.tb_settling.proofs.Sides.{sides_can}
 
 module _ (names : Names) (phase : ℕ) (u v : Store) (within : AreWithin names u) (within_too : AreWithin names v) where
   index_rests : (i : Expr) (g : Lcg) → IsWhole names i → Agree (sense names i).reads u v → index_drawn names phase u i g ≡ index_drawn names phase v i g
-  index_rests i g whole agree = ap (λ (n : ℕ). (pos n, (drawn names phase i g).1)) (value_rests names phase i g whole u v within within_too agree (sense names i).shape)
+  index_rests i g whole agree = ap (λ (n : ℕ). (integer (sense names i).shape n, (drawn names phase i g).1)) (value_rests names phase i g whole u v within within_too agree (sense names i).shape)
 
   base_rests : (x : Vector) (s : Select) (g : Lcg) → IsWholeSelect names s → Agree (index_reads names s) u v → base_drawn names phase u x s g ≡ base_drawn names phase v x s g
   base_rests x Whole g whole agree = refl
@@ -175,10 +176,10 @@ empty_is [] e = refl
 empty_is (x ∷ xs) e = absurd cc
 
 -- a constant place
-constant_index : (names : Names) (phase : ℕ) (store : Store) (i : Expr) (g : Lcg) → is_empty (sense names i).signals ≡ true → (index_drawn names phase store i g).0 ≡ pos ((sense names i).value (λ m. 0) (sense names i).shape)
+constant_index : (names : Names) (phase : ℕ) (store : Store) (i : Expr) (g : Lcg) → is_empty (sense names i).signals ≡ true → (index_drawn names phase store i g).0 ≡ index_of (λ m. 0) (sense names i)
 constant_index names phase store i g fixed =
     let quiet : (sense names i).signals ≡ [] = empty_is (sense names i).signals fixed in
-    ap (λ (d : Sense). pos (d.value store (sense names i).shape)) (quiet_at names phase i g quiet) ∙ ap pos (settled names i quiet store (sense names i).shape)
+    ap (λ (d : Sense). integer (sense names i).shape (d.value store (sense names i).shape)) (quiet_at names phase i g quiet) ∙ ap (integer (sense names i).shape) (settled names i quiet store (sense names i).shape)
 
 fixed_base : (names : Names) (phase : ℕ) (store : Store) (x : Vector) (s : Select) (g : Lcg) → is_fixed names s ≡ true → (base_drawn names phase store x s g).0 ≡ select_base names (λ m. 0) x s
 fixed_base names phase store x Whole g fixed = refl

@@ -231,20 +231,20 @@ repeated-joined-requires t c = (search (rules, the_lemmas), (c.requires.whole, c
 pub repeated-returns : goal.repeated-returns
 repeated-returns t c = repeated_made (names_of c.args.scope.now) c.args.parts.now c.args.times c.total_width-width.result c.in_ok-inner.inner c.in_ok-new.field-0 c.total_width-width.ensures c.in_ok-new.ensures c.requires.few c.in_ok-inner.ensures
 
-pub selected-shape_of-requires : goal.selected-shape_of-requires
-selected-shape_of-requires t c = c.requires.whole
+pub selected-shape_of-shape-requires : goal.selected-shape_of-shape-requires
+selected-shape_of-shape-requires t c = c.requires.whole
 
 pub selected-constant-requires-clause-whole : goal.selected-constant-requires-clause-whole
 selected-constant-requires-clause-whole t c = c.requires.whole
 
 pub selected-constant-requires-clause-context : goal.selected-constant-requires-clause-context
-selected-constant-requires-clause-context t c = (own_context (sense (names_of c.args.scope.now) c.args.index.now).shape c.shape_of.result c.shape_of.ensures.shape c.shape_of.ensures.sized)
+selected-constant-requires-clause-context t c = (own_context (sense (names_of c.args.scope.now) c.args.index.now).shape c.shape_of-shape.result c.shape_of-shape.ensures.shape c.shape_of-shape.ensures.sized)
 
 pub selected-returns-in-Some : goal.selected-returns-in-Some
-selected-returns-in-Some t c = ok_both c.fixed.result _ _ _ (λ f m h. picked (names_of c.args.scope.now) c.args.name.now.name c.args.index.now c.declared-decl.result c.args.width c.declared-decl.ensures f c.shape_of.result c.in-Some.magnitude c.shape_of.ensures.shape c.in-Some.ensures.means m h) c.fixed.ensures.means c.fixed.ensures.fits
+selected-returns-in-Some t c = ok_both c.fixed.result _ _ _ (λ f m h. picked (names_of c.args.scope.now) c.args.name.now.name c.args.index.now c.declared-decl.result c.args.width c.declared-decl.ensures f c.shape_of-shape.result c.in-Some.bits _ c.shape_of-shape.ensures.shape c.of-place.ensures.value c.in-Some.ensures.means m h) c.fixed.ensures.means c.fixed.ensures.fits
 
-pub selected-own_boxed-requires : goal.selected-own_boxed-requires
-selected-own_boxed-requires t c = (search (rules, the_lemmas), c.requires.whole)
+pub selected-boxed-requires : goal.selected-boxed-requires
+selected-boxed-requires t c = (search (rules, the_lemmas), (c.requires.whole, (own_context (sense (names_of c.args.scope.now) c.args.index.now).shape c.shape_of-shape.result c.shape_of-shape.ensures.shape c.shape_of-shape.ensures.sized)))
 
 pub selected-returns : goal.selected-returns
-selected-returns t c = aimed (names_of c.args.scope.now) c.args.name.now.name c.args.index.now c.declared-decl.result c.args.width c.declared-decl.ensures c.indexed.result c.in_ok-place.place c.in_ok-place.ensures c.indexed.ensures.means c.indexed.ensures.fits
+selected-returns t c = aimed (names_of c.args.scope.now) c.args.name.now.name c.args.index.now c.declared-decl.result c.args.width c.declared-decl.ensures c.indexed.result c.shape_of-shape.result c.in_ok-place.place c.shape_of-shape.ensures.shape c.in_ok-place.ensures c.indexed.ensures.means c.indexed.ensures.fits

@@ -2,7 +2,7 @@ use Rattle.std.proofs.Common.{arith, refl, sym, ◌∙◌}
 use Rattle.std.proofs.lemmas.Nat.{pow_pos}
 use Rattle.tb_formulas.specs.declared.formula.Formula.TheVariants as v
 use Rattle.tb_formulas.proofs.Values.{says_number}
-use Rattle.tb_formulas.proofs.Bits.{number_fits, select_fits, some_number, below_all}
+use Rattle.tb_formulas.proofs.Bits.{number_fits, below_all}
 use Rattle.tb_formulas.proofs.parts.raised.Goals as goal
 
 pub returns-then-places-from-clause-means : goal.returns-then-places-from-clause-means
@@ -10,6 +10,3 @@ returns-then-places-from-clause-means c = λ store. sym (says_number (v.Number 0
 
 pub returns-then-places-from-clause-fits : goal.returns-then-places-from-clause-fits
 returns-then-places-from-clause-fits c = λ widths known. number_fits widths 0 c.args.width (pow_pos c.args.width)
-
-pub returns-clause-fits : goal.returns-clause-fits
-returns-clause-fits c = λ widths known. select_fits widths _ c.in_ok-new.field-0 known c.requires.narrow (some_number widths c.in_ok-new.field-0 0 c.in_ok-new.ensures)

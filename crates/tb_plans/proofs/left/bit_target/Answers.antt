@@ -9,6 +9,6 @@ use Rattle.tb_plans.proofs.left.bit_target.Goals as goal
 pub returns-in-Some : goal.returns-in-Some
 returns-in-Some c =
     let names : Names = names_of c.args.scope.now in
-    index_target names (record { name = c.args.name.now; select = Bit c.args.span c.args.index.now }) c.vector_of-vector.result 1 c.args.index.now c.in-Some.at c.args.bits c.indexed.result c.vector_of-vector.ensures refl (λ phase store g. refl)
+    index_target names (record { name = c.args.name.now; select = Bit c.args.span c.args.index.now }) c.vector_of-vector.result 1 c.shape_of-shape.result c.args.index.now c.in-Some.at c.args.bits c.indexed.result c.vector_of-vector.ensures refl c.shape_of-shape.ensures.shape (λ phase store g. refl)
     (subst (OfValue names c.args.index.now (sense names c.args.index.now).shape) c.in-Some.is c.in_ok-at.ensures)
     c.indexed.ensures.updates c.indexed.ensures.fits

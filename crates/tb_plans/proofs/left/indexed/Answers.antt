@@ -1,15 +1,16 @@
 use Rattle.std.proofs.Common.{ap, sym, ◌∙◌}
-use Rattle.std.specs.Prelude.{ℤ, pos}
+use Rattle.std.specs.Prelude.{ℤ}
+use Rattle.vlog_meaning.specs.Integers.{integer}
 use Rattle.tb_assigns.specs.Pieces.{vector_is}
 use Rattle.tb_assigns.specs.Updates.{window_update}
 use Rattle.tb_plans.proofs.Targets.{number_is}
 use Rattle.tb_plans.proofs.left.indexed.Goals as goal
 
-pub returns-in-Number-clause-updates : goal.returns-in-Number-clause-updates
-returns-in-Number-clause-updates c store v =
+pub returns-then-is_within-clause-updates : goal.returns-then-is_within-clause-updates
+returns-then-is_within-clause-updates c store v =
     c.of_clip.ensures.updates store v
     ∙ c.clip_of.ensures v
-    ∙ ap (λ (z : ℤ). window_update (record { vector = vector_is c.args.vector; base = z; size = c.args.size }) v) (c.positive-base.ensures ∙ ap pos (sym (number_is c.args.index c.in-Number.at store c.in-Number.is)))
+    ∙ ap (λ (z : ℤ). window_update (record { vector = vector_is c.args.vector; base = z; size = c.args.size }) v) (c.of-base.ensures.value ∙ ap (integer c.args.shape) (sym (number_is c.args.index c.in-Number.at store c.in-Number.is)))
 
-pub returns-in-Number-clause-fits : goal.returns-in-Number-clause-fits
-returns-in-Number-clause-fits c = λ widths fits. c.of_clip.ensures.fits widths
+pub returns-then-is_within-clause-fits : goal.returns-then-is_within-clause-fits
+returns-then-is_within-clause-fits c = λ widths fits. c.of_clip.ensures.fits widths

@@ -1,4 +1,4 @@
-use Rattle.std.proofs.Common.{rules, ◌≡◌, ℕ, ◌+◌, ◌*◌, ◌%◌, ◌^◌, List, map, slice_index, refl, sym, ap, ◌∙◌, arith}
+use Rattle.std.proofs.Common.{rules, ◌≡◌, ℕ, ◌+◌, ◌*◌, ◌%◌, ◌^◌, List, map, slice_index, sym, ap, ◌∙◌, arith}
 use Rattle.mcy_base.specs.declared.word.Word.{Word}
 use Rattle.vlog_meaning.specs.declared.shapes.Shape.{Shape}
 use Rattle.vlog_meaning.specs.Integers.{extended}
@@ -83,32 +83,44 @@ computed-returns-in-Slice-clause-value t c = says_slice c.args.self.now (store_o
 pub computed-returns-in-Slice-clause-fits : goal.computed-returns-in-Slice-clause-fits
 computed-returns-in-Slice-clause-fits t c = λ n h. let f = (opened (widths c.args.store.now) (o.Slice c.in-Slice.signal c.in-Slice.at c.in-Slice.width) c.args.self.now n (v.rolls-Slice c.in-Slice.signal c.in-Slice.at c.in-Slice.width ∙ sym c.in-Slice.is) h) in cut_fits c.truncate.result _ c.in-Slice.width n c.truncate.ensures f.3
 
-pub computed-value-requires : goal.computed-value-requires
-computed-value-requires t c = (search (rules, the_lemmas), rw c.get.ensures (opened (widths c.args.store.now) (o.Select c.in-Select.part c.in-Select.place) c.args.self.now c.requires.0 (v.rolls-Select c.in-Select.part c.in-Select.place ∙ sym c.in-Select.is) c.requires.1).3)
+pub computed-bits_of-requires-in-Select : goal.computed-bits_of-requires-in-Select
+computed-bits_of-requires-in-Select t c = as_long c.args.store.now c.in-Select.signal (opened (widths c.args.store.now) (o.Select c.in-Select.signal c.in-Select.part c.in-Select.index) c.args.self.now c.requires.0 (v.rolls-Select c.in-Select.signal c.in-Select.part c.in-Select.index ∙ sym c.in-Select.is) c.requires.1).0
 
-pub computed-part_from-requires-clause-known : goal.computed-part_from-requires-clause-known
-computed-part_from-requires-clause-known t c = as_long c.args.store.now c.in-Select.part.signal (opened (widths c.args.store.now) (o.Select c.in-Select.part c.in-Select.place) c.args.self.now c.requires.0 (v.rolls-Select c.in-Select.part c.in-Select.place ∙ sym c.in-Select.is) c.requires.1).0
+pub computed-value-requires : goal.computed-value-requires
+computed-value-requires t c = (search (rules, the_lemmas), (c.in-Select.part.index.width, rw c.get.ensures (opened (widths c.args.store.now) (o.Select c.in-Select.signal c.in-Select.part c.in-Select.index) c.args.self.now c.requires.0 (v.rolls-Select c.in-Select.signal c.in-Select.part c.in-Select.index ∙ sym c.in-Select.is) c.requires.1).4))
+
+pub computed-part_from-requires-clause-sized : goal.computed-part_from-requires-clause-sized
+computed-part_from-requires-clause-sized t c = (opened (widths c.args.store.now) (o.Select c.in-Select.signal c.in-Select.part c.in-Select.index) c.args.self.now c.requires.0 (v.rolls-Select c.in-Select.signal c.in-Select.part c.in-Select.index ∙ sym c.in-Select.is) c.requires.1).3
+
+pub computed-part_from-requires-clause-fits : goal.computed-part_from-requires-clause-fits
+computed-part_from-requires-clause-fits t c = c.value.ensures.fits c.in-Select.part.index.width (rw c.get.ensures (opened (widths c.args.store.now) (o.Select c.in-Select.signal c.in-Select.part c.in-Select.index) c.args.self.now c.requires.0 (v.rolls-Select c.in-Select.signal c.in-Select.part c.in-Select.index ∙ sym c.in-Select.is) c.requires.1).4)
 
 pub computed-part_from-requires-clause-narrow : goal.computed-part_from-requires-clause-narrow
-computed-part_from-requires-clause-narrow t c = (opened (widths c.args.store.now) (o.Select c.in-Select.part c.in-Select.place) c.args.self.now c.requires.0 (v.rolls-Select c.in-Select.part c.in-Select.place ∙ sym c.in-Select.is) c.requires.1).1
+computed-part_from-requires-clause-narrow t c = (opened (widths c.args.store.now) (o.Select c.in-Select.signal c.in-Select.part c.in-Select.index) c.args.self.now c.requires.0 (v.rolls-Select c.in-Select.signal c.in-Select.part c.in-Select.index ∙ sym c.in-Select.is) c.requires.1).1
 
 pub computed-returns-in-Select-clause-value : goal.computed-returns-in-Select-clause-value
-computed-returns-in-Select-clause-value t c = says_select c.args.self.now (store_of c.args.store.now) c.in-Select.part c.get.result.now c.in-Select.place (store_of c.args.store.now c.in-Select.part.signal) c.value.result c.part_from.result c.in-Select.is c.get.ensures refl c.value.ensures.value c.part_from.ensures
+computed-returns-in-Select-clause-value t c = says_select c.args.self.now (store_of c.args.store.now) c.in-Select.signal c.in-Select.part c.get.result.now c.in-Select.index c.bits_of-in-Select.result c.value.result c.part_from.result c.in-Select.is c.get.ensures c.bits_of-in-Select.ensures.value c.value.ensures.value c.part_from.ensures
 
 pub computed-returns-in-Select-clause-fits : goal.computed-returns-in-Select-clause-fits
-computed-returns-in-Select-clause-fits t c = λ n h. let f = (opened (widths c.args.store.now) (o.Select c.in-Select.part c.in-Select.place) c.args.self.now n (v.rolls-Select c.in-Select.part c.in-Select.place ∙ sym c.in-Select.is) h) in window_within c.part_from.result _ c.in-Select.part.width _ n c.part_from.ensures f.2
+computed-returns-in-Select-clause-fits t c = λ n h. let f = (opened (widths c.args.store.now) (o.Select c.in-Select.signal c.in-Select.part c.in-Select.index) c.args.self.now n (v.rolls-Select c.in-Select.signal c.in-Select.part c.in-Select.index ∙ sym c.in-Select.is) h) in window_within c.part_from.result _ c.in-Select.part.width _ n c.part_from.ensures f.2
 
 pub computed-value-requires-in-NumberSelect : goal.computed-value-requires-in-NumberSelect
-computed-value-requires-in-NumberSelect t c = (search (rules, the_lemmas), rw c.get-in-NumberSelect.ensures (opened (widths c.args.store.now) (o.NumberSelect c.in-NumberSelect.bits c.in-NumberSelect.low c.in-NumberSelect.width c.in-NumberSelect.place) c.args.self.now c.requires.0 (v.rolls-NumberSelect c.in-NumberSelect.bits c.in-NumberSelect.low c.in-NumberSelect.width c.in-NumberSelect.place ∙ sym c.in-NumberSelect.is) c.requires.1).2)
+computed-value-requires-in-NumberSelect t c = (search (rules, the_lemmas), (c.in-NumberSelect.part.index.width, rw c.get-in-NumberSelect.ensures (opened (widths c.args.store.now) (o.NumberSelect c.in-NumberSelect.bits c.in-NumberSelect.part c.in-NumberSelect.index) c.args.self.now c.requires.0 (v.rolls-NumberSelect c.in-NumberSelect.bits c.in-NumberSelect.part c.in-NumberSelect.index ∙ sym c.in-NumberSelect.is) c.requires.1).3))
 
-pub computed-bits_from-requires : goal.computed-bits_from-requires
-computed-bits_from-requires t c = (opened (widths c.args.store.now) (o.NumberSelect c.in-NumberSelect.bits c.in-NumberSelect.low c.in-NumberSelect.width c.in-NumberSelect.place) c.args.self.now c.requires.0 (v.rolls-NumberSelect c.in-NumberSelect.bits c.in-NumberSelect.low c.in-NumberSelect.width c.in-NumberSelect.place ∙ sym c.in-NumberSelect.is) c.requires.1).0
+pub computed-part_from-requires-in-NumberSelect-clause-sized : goal.computed-part_from-requires-in-NumberSelect-clause-sized
+computed-part_from-requires-in-NumberSelect-clause-sized t c = (opened (widths c.args.store.now) (o.NumberSelect c.in-NumberSelect.bits c.in-NumberSelect.part c.in-NumberSelect.index) c.args.self.now c.requires.0 (v.rolls-NumberSelect c.in-NumberSelect.bits c.in-NumberSelect.part c.in-NumberSelect.index ∙ sym c.in-NumberSelect.is) c.requires.1).2
+
+pub computed-part_from-requires-in-NumberSelect-clause-fits : goal.computed-part_from-requires-in-NumberSelect-clause-fits
+computed-part_from-requires-in-NumberSelect-clause-fits t c = c.value-in-NumberSelect.ensures.fits c.in-NumberSelect.part.index.width (rw c.get-in-NumberSelect.ensures (opened (widths c.args.store.now) (o.NumberSelect c.in-NumberSelect.bits c.in-NumberSelect.part c.in-NumberSelect.index) c.args.self.now c.requires.0 (v.rolls-NumberSelect c.in-NumberSelect.bits c.in-NumberSelect.part c.in-NumberSelect.index ∙ sym c.in-NumberSelect.is) c.requires.1).3)
+
+pub computed-part_from-requires-in-NumberSelect-clause-narrow : goal.computed-part_from-requires-in-NumberSelect-clause-narrow
+computed-part_from-requires-in-NumberSelect-clause-narrow t c = (opened (widths c.args.store.now) (o.NumberSelect c.in-NumberSelect.bits c.in-NumberSelect.part c.in-NumberSelect.index) c.args.self.now c.requires.0 (v.rolls-NumberSelect c.in-NumberSelect.bits c.in-NumberSelect.part c.in-NumberSelect.index ∙ sym c.in-NumberSelect.is) c.requires.1).0
 
 pub computed-returns-in-NumberSelect-clause-value : goal.computed-returns-in-NumberSelect-clause-value
-computed-returns-in-NumberSelect-clause-value t c = says_number_select c.args.self.now (store_of c.args.store.now) c.in-NumberSelect.bits c.in-NumberSelect.low c.in-NumberSelect.width c.get-in-NumberSelect.result.now c.in-NumberSelect.place c.value-in-NumberSelect.result c.bits_from.result c.in-NumberSelect.is c.get-in-NumberSelect.ensures c.value-in-NumberSelect.ensures.value c.bits_from.ensures
+computed-returns-in-NumberSelect-clause-value t c = says_number_select c.args.self.now (store_of c.args.store.now) c.in-NumberSelect.bits c.in-NumberSelect.part c.get-in-NumberSelect.result.now c.in-NumberSelect.index c.value-in-NumberSelect.result c.part_from-in-NumberSelect.result c.in-NumberSelect.is c.get-in-NumberSelect.ensures c.value-in-NumberSelect.ensures.value c.part_from-in-NumberSelect.ensures
 
 pub computed-returns-in-NumberSelect-clause-fits : goal.computed-returns-in-NumberSelect-clause-fits
-computed-returns-in-NumberSelect-clause-fits t c = λ n h. let f = (opened (widths c.args.store.now) (o.NumberSelect c.in-NumberSelect.bits c.in-NumberSelect.low c.in-NumberSelect.width c.in-NumberSelect.place) c.args.self.now n (v.rolls-NumberSelect c.in-NumberSelect.bits c.in-NumberSelect.low c.in-NumberSelect.width c.in-NumberSelect.place ∙ sym c.in-NumberSelect.is) h) in window_within c.bits_from.result _ c.in-NumberSelect.width _ n c.bits_from.ensures f.1
+computed-returns-in-NumberSelect-clause-fits t c = λ n h. let f = (opened (widths c.args.store.now) (o.NumberSelect c.in-NumberSelect.bits c.in-NumberSelect.part c.in-NumberSelect.index) c.args.self.now n (v.rolls-NumberSelect c.in-NumberSelect.bits c.in-NumberSelect.part c.in-NumberSelect.index ∙ sym c.in-NumberSelect.is) h) in window_within c.part_from-in-NumberSelect.result _ c.in-NumberSelect.part.width _ n c.part_from-in-NumberSelect.ensures f.1
 
 pub computed-value-requires-in-Extended : goal.computed-value-requires-in-Extended
 computed-value-requires-in-Extended t c = (search (rules, the_lemmas), (c.in-Extended.shape.width, rw c.get-in-Extended.ensures (opened (widths c.args.store.now) (o.Extended c.in-Extended.shape c.in-Extended.to c.in-Extended.inner) c.args.self.now c.requires.0 (v.rolls-Extended c.in-Extended.shape c.in-Extended.to c.in-Extended.inner ∙ sym c.in-Extended.is) c.requires.1).4))
