@@ -13,9 +13,9 @@ use Rattle.vlog_meaning.specs.declared.function.Function.{Function}
 use Rattle.vlog_meaning.specs.declared.function.Function.TheVariants.{Random}
 use Rattle.vlog_meaning.specs.Functions.{function_of}
 use Rattle.vlog_meaning.specs.Scopes.{Names}
-use Rattle.vlog_meaning.specs.Senses.{sense, assigned, fault, or_else, own_zeros}
+use Rattle.vlog_meaning.specs.Senses.{sense, assigned, fault, or_else, own_zeros, constant_faults}
 use Rattle.vlog_effects.specs.Expressions.{width_of}
-use Rattle.vlog_effects.specs.LeftSides.{parts_of}
+use Rattle.vlog_effects.specs.LeftSides.{Select, Bit, Indexed, Part, parts_of}
 use Rattle.elab_proc.specs.Refusals.{divisions, same_form}
 use Rattle.tb_faults.specs.declared.fault.BenchFault.{BenchFault}
 use Rattle.tb_faults.specs.declared.fault.BenchFault.TheVariants.{Wrong}
@@ -61,10 +61,24 @@ value_faults names width x = or_else (net_wrong names x) (divisions ((sense name
 abbrev pub form_faults : Names → Expr → List Fault
 form_faults names x = or_else (net_wrong names x) (divisions (own_zeros (sense names x)))
 
--- both sides of an assign
-abbrev pub net_faults : Names → Expr → Expr → List Fault
-net_faults names left right = or_else (net_wrong names left ++ net_wrong names right) (divisions (own_zeros (sense names left) ++ (sense names right).zeros (assigned (sense names right) (width_of names left))))
+-- The left side of a net is the same at all times, so its indices are constants (A.8.5).
+
+abbrev pub index_faults : Names → Select → List Fault
+index_faults names (Bit at i) = constant_faults (sense names i)
+index_faults names (Indexed at base count) = constant_faults (sense names base)
+index_faults names select = []
+
+abbrev pub part_indices : Names → Part → List Fault
+part_indices names p = index_faults names p.select
+
+-- why the indices of a left side are no constants
+abbrev pub indices_faults : Names → LeftSide → List Fault
+indices_faults names left = flat_map (part_indices names) (parts_of left)
+
+-- both sides of an assign, of which the left one is given with the expression of its form
+abbrev pub net_faults : Names → (form : Expr) → LeftSide → Expr → List Fault
+net_faults names form left right = or_else (((sense names form).faults ++ indices_faults names left) ++ net_wrong names right) (divisions ((sense names right).zeros (assigned (sense names right) (width_of names form))))
 
 -- an assign: both sides, and the names that it writes
 abbrev pub assign_faults : Names → LeftSide → Expr → List BenchFault
-assign_faults names left value = map Wrong (net_faults names (same_form left) value) ++ flat_map (part_faults names None) (parts_of left)
+assign_faults names left value = map Wrong (net_faults names (same_form left) left value) ++ flat_map (part_faults names None) (parts_of left)

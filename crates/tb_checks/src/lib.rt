@@ -10,6 +10,7 @@ mod cases;
 mod controls;
 mod expressions;
 mod features;
+mod indices;
 mod lefts;
 mod nets;
 mod processes;

@@ -6,12 +6,13 @@ ghost use Rattle.tb_checks.specs.Nets.{net_wrong, value_faults, form_faults, net
 ghost use Rattle.tb_faults.specs.Order.{IsFirst};
 
 use crate::expressions::wrong_in;
+use crate::indices::indices_fault;
 use crate::lefts::names_fault;
 use crate::randoms::random_in;
 use elab_proc::same_form;
 use std::alloc::{AllocError, Global};
 use tb_faults::{BenchFault, earlier as sooner, wrong};
-use vlog_meaning::{Fault, Scope, Shape, earlier, shape_of, zero_in};
+use vlog_meaning::{Fault, Scope, Shape, earlier, fault_in, shape_of, zero_in};
 use vlog_syntax::{Expr, LeftSide};
 
 /// What is wrong in an expression of a net.
@@ -49,20 +50,21 @@ pub fn form_fault(expr: &Expr, scope: &Scope) -> Option<Fault>
     }
 }
 
-/// What is wrong in the sides of an assign, of which the left one is given as the expression of its form.
-fn net_fault(left: &Expr, right: &Expr, scope: &Scope) -> Option<Fault>
-    ensures { result ≡ least (net_faults (names_of scope.now) left.now right.now) }
+/// What is wrong in the sides of an assign, of which the left one is given with the expression of its form.
+fn net_fault(form: &Expr, left: &LeftSide, right: &Expr, scope: &Scope) -> Option<Fault>
+    ensures { result ≡ least (net_faults (names_of scope.now) form.now left.now right.now) }
 {
-    match earlier(net_wrong_in(left, scope), net_wrong_in(right, scope)) {
+    let written = earlier(fault_in(form, scope), indices_fault(left, scope));
+    match earlier(written, net_wrong_in(right, scope)) {
         Some(fault) => Some(fault),
         None => {
-            let to = shape_of(left, scope);
+            let to = shape_of(form, scope);
             let own = shape_of(right, scope);
             let context = Shape {
                 width: own.width.max(to.width),
                 is_signed: own.is_signed,
             };
-            earlier(zero_in(left, scope, to), zero_in(right, scope, context))
+            zero_in(right, scope, context)
         }
     }
 }
@@ -77,7 +79,7 @@ pub fn assign_fault(
     ensures { IfOk result (λ o. IsFirst (assign_faults (names_of scope.now) left.now value.now) o) }
 {
     let form = same_form(alloc, left)?;
-    let sides = wrong(net_fault(&form, value, scope));
+    let sides = wrong(net_fault(&form, left, value, scope));
     let names = names_fault(left, scope, None);
     Ok(sooner(sides, names))
 }

@@ -1,11 +1,12 @@
 -- Assigns in which nothing is wrong can be carried out.
-use Rattle.std.proofs.Common.{◌≡◌, true, ◌&&◌, List, [], ◌++◌, map}
+use Rattle.std.proofs.Common.{◌≡◌, true, ◌&&◌, List, [], ◌++◌, map, ap}
 use Rattle.std.specs.Prelude.{None}
 use Rattle.std.specs.List.{flat_map}
 use Rattle.vlog_syntax.specs.declared.expr.Expr.{Expr}
 use Rattle.vlog_meaning.specs.declared.fault.Cause.TheVariants.{SystemFunction}
+use Rattle.vlog_meaning.specs.declared.fault.Fault.{Fault}
 use Rattle.vlog_meaning.specs.Scopes.{Names}
-use Rattle.vlog_meaning.specs.Senses.{sense, fault, own_zeros, assigned}
+use Rattle.vlog_meaning.specs.Senses.{sense, fault, assigned, is_empty}
 use Rattle.vlog_meaning.proofs.Blanks.{left_nil, right_nil}
 use Rattle.vlog_effects.specs.Expressions.{width_of}
 use Rattle.vlog_effects.specs.LeftSides.{parts_of}
@@ -15,7 +16,7 @@ use Rattle.tb_faults.specs.declared.fault.BenchFault.TheVariants.{Wrong}
 use Rattle.tb_assigns.specs.Checks.{has_shape, all_signals}
 use Rattle.tb_checks.specs.Expressions.{wrong}
 use Rattle.tb_checks.specs.Lefts.{part_faults}
-use Rattle.tb_checks.specs.Nets.{randoms, net_wrong, net_faults}
+use Rattle.tb_checks.specs.Nets.{randoms, net_wrong, indices_faults, net_faults}
 use Rattle.tb_known.specs.Laws.{FaultlessAssigns}
 use Rattle.tb_known.proofs.Nothing.{none_before, and_true}
 use Rattle.tb_known.proofs.Expressions.{wrong_passes, signals_pass}
@@ -26,8 +27,10 @@ net_passes names x e = wrong_passes names x (left_nil (wrong names x) (map (faul
 pub assigns : FaultlessAssigns
 assigns names x e =
     let left : Expr = same_form x.left in
-    let sides : List BenchFault = map Wrong (net_faults names left x.value) in
+    let faults : List Fault = (sense names left).faults ++ indices_faults names x.left in
+    let sides : List BenchFault = map Wrong (net_faults names left x.left x.value) in
     let written : List BenchFault = flat_map (part_faults names None) (parts_of x.left) in
-    let both : net_wrong names left ++ net_wrong names x.value ≡ [] = none_before (net_wrong names left ++ net_wrong names x.value) (divisions (own_zeros (sense names left) ++ (sense names x.value).zeros (assigned (sense names x.value) (width_of names left)))) (left_nil sides written e) in
-    and_true (has_shape names left) (all_signals names (parts_of x.left) && has_shape names x.value) (net_passes names left (left_nil (net_wrong names left) (net_wrong names x.value) both))
-    (and_true (all_signals names (parts_of x.left)) (has_shape names x.value) (signals_pass names None (parts_of x.left) (right_nil sides written e)) (net_passes names x.value (right_nil (net_wrong names left) (net_wrong names x.value) both)))
+    let both : faults ++ net_wrong names x.value ≡ [] = none_before (faults ++ net_wrong names x.value) (divisions ((sense names x.value).zeros (assigned (sense names x.value) (width_of names left)))) (left_nil sides written e) in
+    let shaped : has_shape names left ≡ true = ap (λ (fs : List Fault). is_empty fs) (left_nil (sense names left).faults (indices_faults names x.left) (left_nil faults (net_wrong names x.value) both)) in
+    and_true (has_shape names left) (all_signals names (parts_of x.left) && has_shape names x.value) shaped
+    (and_true (all_signals names (parts_of x.left)) (has_shape names x.value) (signals_pass names None (parts_of x.left) (right_nil sides written e)) (net_passes names x.value (right_nil faults (net_wrong names x.value) both)))

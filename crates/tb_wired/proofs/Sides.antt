@@ -1,13 +1,14 @@
 -- Assignments in which nothing is wrong can be carried out.
-use Rattle.std.proofs.Common.{◌≡◌, zero, suc, ℕ, true, ◌&&◌, List, [], ◌∷◌, ◌++◌, map, arith, subst}
+use Rattle.std.proofs.Common.{◌≡◌, zero, suc, ℕ, true, ◌&&◌, List, [], ◌∷◌, ◌++◌, map, arith, ap, subst}
 use Rattle.std.specs.Prelude.{None, Some, slice_get}
 use Rattle.std.specs.List.{All, flat_map}
 use Rattle.std.proofs.lemmas.List.Elements.{All-weaker}
 use Rattle.vlog_syntax.specs.declared.expr.Expr.{Expr}
 use Rattle.vlog_syntax.specs.declared.stmt.Assignment.{Assignment}
 use Rattle.vlog_meaning.specs.declared.fault.Cause.TheVariants.{SystemFunction}
+use Rattle.vlog_meaning.specs.declared.fault.Fault.{Fault}
 use Rattle.vlog_meaning.specs.Scopes.{Names}
-use Rattle.vlog_meaning.specs.Senses.{sense, assigned, fault, own_zeros}
+use Rattle.vlog_meaning.specs.Senses.{sense, assigned, fault, is_empty}
 use Rattle.vlog_meaning.proofs.Blanks.{left_nil, right_nil}
 use Rattle.vlog_effects.specs.Expressions.{width_of}
 use Rattle.vlog_effects.specs.LeftSides.{parts_of}
@@ -17,7 +18,7 @@ use Rattle.tb_faults.specs.declared.fault.BenchFault.TheVariants.{Wrong}
 use Rattle.tb_assigns.specs.Checks.{has_shape, all_signals, can_assign}
 use Rattle.tb_checks.specs.Expressions.{wrong}
 use Rattle.tb_checks.specs.Lefts.{part_faults}
-use Rattle.tb_checks.specs.Nets.{randoms, net_wrong, net_faults, assign_faults}
+use Rattle.tb_checks.specs.Nets.{randoms, net_wrong, indices_faults, net_faults, assign_faults}
 use Rattle.tb_known.proofs.Nothing.{none_before, and_true}
 use Rattle.tb_known.proofs.Expressions.{wrong_passes, signals_pass}
 use Rattle.tb_nets.specs.declared.node.NetNode.{NetNode}
@@ -32,11 +33,13 @@ net_passes names x e = wrong_passes names x (left_nil (wrong names x) (map (faul
 clean_can : (names : Names) (a : Assignment) → assign_faults names a.left a.value ≡ [] → can_assign names a ≡ true
 clean_can names a e =
     let left : Expr = same_form a.left in
-    let sides : List BenchFault = map Wrong (net_faults names left a.value) in
+    let faults : List Fault = (sense names left).faults ++ indices_faults names a.left in
+    let sides : List BenchFault = map Wrong (net_faults names left a.left a.value) in
     let written : List BenchFault = flat_map (part_faults names None) (parts_of a.left) in
-    let both : net_wrong names left ++ net_wrong names a.value ≡ [] = none_before (net_wrong names left ++ net_wrong names a.value) (divisions (own_zeros (sense names left) ++ (sense names a.value).zeros (assigned (sense names a.value) (width_of names left)))) (left_nil sides written e) in
-    and_true (has_shape names left) (all_signals names (parts_of a.left) && has_shape names a.value) (net_passes names left (left_nil (net_wrong names left) (net_wrong names a.value) both))
-    (and_true (all_signals names (parts_of a.left)) (has_shape names a.value) (signals_pass names None (parts_of a.left) (right_nil sides written e)) (net_passes names a.value (right_nil (net_wrong names left) (net_wrong names a.value) both)))
+    let both : faults ++ net_wrong names a.value ≡ [] = none_before (faults ++ net_wrong names a.value) (divisions ((sense names a.value).zeros (assigned (sense names a.value) (width_of names left)))) (left_nil sides written e) in
+    let shaped : has_shape names left ≡ true = ap (λ (fs : List Fault). is_empty fs) (left_nil (sense names left).faults (indices_faults names a.left) (left_nil faults (net_wrong names a.value) both)) in
+    and_true (has_shape names left) (all_signals names (parts_of a.left) && has_shape names a.value) shaped
+    (and_true (all_signals names (parts_of a.left)) (has_shape names a.value) (signals_pass names None (parts_of a.left) (right_nil sides written e)) (net_passes names a.value (right_nil faults (net_wrong names a.value) both)))
 
 clean_sided : (names : Names) (node : NetNode) → IsClean names node → IsSided names node
 clean_sided names (Assign a) e = sides_fit names a (clean_can names a e)

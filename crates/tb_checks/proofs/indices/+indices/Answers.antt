@@ -1,0 +1,17 @@
+use Rattle.std.proofs.Common.{List, map, take, add-one, arith, ◌∙◌, ap, sym}
+use Rattle.std.specs.List.{flat_map}
+use Rattle.std.proofs.lemmas.Grind.{flat_map-append}
+use Rattle.vlog_meaning.specs.declared.fault.Fault.{Fault}
+use Rattle.vlog_meaning.specs.Answers.{least}
+use Rattle.vlog_meaning.specs.Scopes.{names_of}
+use Rattle.vlog_effects.specs.LeftSides.{Part, parts_of, concatenated}
+use Rattle.elab_proc.proofs.Lists.{parts_take}
+use Rattle.tb_checks.specs.Nets.{part_indices}
+use Rattle.tb_checks.proofs.indices.+indices.Goals as goal
+
+pub all_indices_fault-loop-part-preserved : goal.all_indices_fault-loop-part-preserved
+all_indices_fault-loop-part-preserved t c =
+    let g : Part → List Fault = part_indices (names_of c.args.scope.now) in
+    let ps : List Part = concatenated (map parts_of (take c.loop-part.part-index c.args.parts.now)) in
+    let more = ap (flat_map g) (parts_take c.args.parts.now c.loop-part.part-index c.part-item.result c.part-item.is (omega arith)) ∙ flat_map-append g ps (parts_of c.part-item.result) in
+    rw add-one (c.earlier-found.ensures.joined (flat_map g ps) (flat_map g (parts_of c.part-item.result)) c.loop-part.invariant c.indices_fault.ensures ∙ ap least (sym more))
