@@ -1,7 +1,7 @@
 -- The values that labels name, one label more at a time.
 use Rattle.std.proofs.Common.{◌≡◌, zero, suc, ℕ, ◌<◌, ◌≤◌, ◌^◌, Bool, true, false, ◌&&◌, ◌||◌, nat_eq, nat_le, map, List, [], ◌∷◌, ◌++◌, refl, sym, ap, ◌∙◌, arith, length, get_or, take}
 use Rattle.std.specs.Prelude.{not, if◌then◌else◌}
-use Rattle.std.specs.List.{flat_map, list_any}
+use Rattle.std.specs.List.{flat_map}
 use Rattle.std.proofs.lemmas.Bool.Decides.{nat_tests}
 use Rattle.std.proofs.lemmas.List.Folds.{list_any-append}
 use Rattle.vlog_syntax.specs.declared.expr.Expr.{Expr}
@@ -71,7 +71,7 @@ all_same c values labels zero e = refl
 all_same c values labels (suc n) e = ap (λ (b : Bool). has values n && b) (all_same c values labels n e) ∙ ap (λ (b : Bool). b && all_named c n labels) (e n)
 
 module _ (names : Names) (kind : CaseKind) (selector : Expr) (is : List CaseItem) (own size : Shape) (bits : ℕ) (own_is : own ≡ (sense names selector).shape) (size_is : size ≡ common_size names (selector ∷ flat_map labels_in is)) (bits_are : bits ≡ (if keeps_width selector && not own.is_signed then own.width else size.width)) where
-  c : Selection
+  abbrev pub c : Selection
   c = selection_of names kind selector (map item_steps is)
 
   labels : labels_of (map item_steps is) ≡ flat_map labels_in is

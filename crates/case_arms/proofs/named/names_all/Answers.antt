@@ -17,3 +17,12 @@ pub add_all_named-requires-clause-within : goal.add_all_named-requires-clause-wi
 add_all_named-requires-clause-within c =
     let names = names_of c.args.scope.now in
     labels_within names c.case_size-size.result c.args.items.now (common_within names c.case_size-size.result (c.args.selector.now ∷ flat_map labels_in c.args.items.now) c.case_size-size.ensures.size c.case_size-size.ensures.sized).1
+
+pub returns-then-bits-gt-MOST_BITS : goal.returns-then-bits-gt-MOST_BITS
+returns-then-bits-gt-MOST_BITS c =
+    names_many (names_of c.args.scope.now) c.args.kind c.args.selector.now c.args.items.now c.shape_of.result c.case_size-size.result c.selector_bits-bits.result c.shape_of.ensures.shape c.case_size-size.ensures.size c.selector_bits-bits.ensures (omega arith)
+
+pub returns : goal.returns
+returns c =
+    names_are (names_of c.args.scope.now) c.args.kind c.args.selector.now c.args.items.now c.shape_of.result c.case_size-size.result c.selector_bits-bits.result c.shape_of.ensures.shape c.case_size-size.ensures.size c.selector_bits-bits.ensures
+    _ c.new-values.result.items c.has_each.result (omega arith) (search rules) c.in_ok-add_all_named.ensures (rw c.as_slice.ensures.value at c.has_each.ensures)
