@@ -180,11 +180,11 @@ pub fresh_long : (from w v : ℕ) (y : List Bit) → y ≡ fresh_bits from w →
 fresh_long from w v y is le = let l : length y ≡ w = ap length is ∙ length_fresh from w in omega (arith, l, le)
 
 -- a name's bits that are picked
-pub picked_adds : (o n : Building) (a i y : List Bit) (size v : ℕ) (span : Span) (d : Option Decl) → length a ≡ (decl_shape d).width → ((nets : Nets) → number (values nets a) ≡ decl_value (store o nets) d) → Adds o n y v (λ nets. window (pos (number (values nets i))) size (number (values nets a))) (cell_of (Some Pick) false (length a ∷ length i ∷ size ∷ []) span) → Adds o n y v (λ nets. window (pos (number (values nets i))) size (decl_value (store o nets) d)) (cell_of (Some Pick) false ((decl_shape d).width ∷ length i ∷ size ∷ []) span)
-picked_adds o n a i y size v span d long value b = record {
+pub picked_adds : (o n : Building) (a i y : List Bit) (size v w : ℕ) (f : Nets → ℕ) (span : Span) (d : Option Decl) → length a ≡ (decl_shape d).width → ((nets : Nets) → number (values nets a) ≡ decl_value (store o nets) d) → length i ≡ w → ((nets : Nets) → number (values nets i) ≡ f nets) → Adds o n y v (λ nets. window (pos (number (values nets i))) size (number (values nets a))) (cell_of (Some Pick) false (length a ∷ length i ∷ size ∷ []) span) → Adds o n y v (λ nets. window (pos (f nets)) size (decl_value (store o nets) d)) (cell_of (Some Pick) false ((decl_shape d).width ∷ w ∷ size ∷ []) span)
+picked_adds o n a i y size v w f span d long value wide place b = record {
   grows = b.grows;
-  cells = b.cells ∙ ap (λ (k : ℕ). cell_of (Some Pick) false (k ∷ length i ∷ size ∷ []) span) long;
+  cells = b.cells ∙ ap (λ (k : ℕ). cell_of (Some Pick) false (k ∷ length i ∷ size ∷ []) span) long ∙ ap (λ (k : ℕ). cell_of (Some Pick) false ((decl_shape d).width ∷ k ∷ size ∷ []) span) wide;
   long = b.long;
   below = b.below;
-  value_is = λ nets runs. b.value_is nets runs ∙ ap (window (pos (number (values nets i))) size) (value nets);
+  value_is = λ nets runs. b.value_is nets runs ∙ ap (window (pos (number (values nets i))) size) (value nets) ∙ ap (λ (k : ℕ). window (pos k) size (decl_value (store o nets) d)) (place nets);
 }

@@ -4,7 +4,7 @@ use Rattle.std.specs.Prelude.{Option, None, Some, if◌then◌else◌}
 use Rattle.std.proofs.lemmas.Bool.Decides.{nat_tests}
 use Rattle.std.proofs.lemmas.Int.{ints}
 use Rattle.std.proofs.lemmas.List.{length-append, map-append}
-use Rattle.std.proofs.lemmas.Nat.{pow-add}
+use Rattle.std.proofs.lemmas.Nat.{pow-add, pow_pos}
 use Rattle.mcy_base.specs.declared.span.Span.{Span}
 use Rattle.netlist_core.specs.declared.bit.Bit.{Bit}
 use Rattle.netlist_core.specs.declared.cell.CellKind.TheVariants.{Mux, Pick, Ror}
@@ -18,23 +18,25 @@ use Rattle.vlog_meaning.specs.declared.fault.Cause.TheVariants.{IndexedBase}
 use Rattle.vlog_meaning.specs.declared.shapes.Shape.{Shape}
 use Rattle.vlog_meaning.specs.declared.scope.Decl.{Decl}
 use Rattle.vlog_meaning.specs.declared.scope.Decl.TheVariants.{Signal, Constant}
-use Rattle.vlog_meaning.specs.Integers.{window, extended}
-use Rattle.vlog_meaning.specs.Operators.{sizing, left_context, right_context, result_width, operand_context, is_reduction, unary_value, binary_value, digit}
+use Rattle.vlog_meaning.specs.Integers.{integer, window, extended}
+use Rattle.vlog_meaning.specs.Operators.{IsSized, sizing, left_context, right_context, result_width, operand_context, is_reduction, unary_value, binary_value, digit}
 use Rattle.vlog_meaning.specs.Scopes.{Names, Store, decl_shape, decl_low, decl_value}
-use Rattle.vlog_meaning.specs.Senses.{Sense, sense, senses, own, is_empty, fault, index_features, binary_step, total_width, joined, repeated}
+use Rattle.vlog_meaning.specs.Senses.{Sense, sense, senses, own, index_of, is_empty, fault, index_features, binary_step, total_width, joined, repeated}
+use Rattle.vlog_meaning.proofs.Powers.{power_le}
 use Rattle.vlog_meaning.proofs.Results.{total_take}
 use Rattle.vlog_meaning.proofs.Signs.{extended_positive}
 use Rattle.net_builder.specs.declared.error.ElabError.{ElabError}
-use Rattle.net_builder.specs.Building.{Building, AllBelow, RunsIn, store}
+use Rattle.net_builder.specs.Building.{Building, AllBelow, IsSignal, RunsIn, signal, store}
 use Rattle.elab_expr.specs.Evaluates.{Adds, Builds, Evaluates}
 use Rattle.expr_plans.specs.Kinds.{unary_kind, binary_kind}
-use Rattle.expr_plans.specs.Made.{Made, made_of, plan, plans, made, own_cells, all_cells, cell_of, pick_cells, condition_cells, unary_cells, binary_cells, choice_cells}
+use Rattle.expr_plans.specs.Made.{Made, made_of, plan, plans, made, own_cells, all_cells, cell_of, index_width, pick_cells, condition_cells, unary_cells, binary_cells, choice_cells}
 use Rattle.net_builder.specs.Refusals.{IsShort}
 use Rattle.elab_expr.specs.Wiring.{ShapeOfBits}
 use Rattle.elab_expr.proofs.Bits.{number-fits}
 use Rattle.elab_expr.proofs.Growing.{then_adds, none_made, count, more_short, stretched}
 use Rattle.net_builder.proofs.Parts.{grows_not, grows_again, grown_nets, runs_before, store_same, below_append, below_later}
 use Rattle.elab_expr.proofs.Selects.{number_append}
+use Rattle.expr_plans.proofs.Indices.{index_window}
 use Rattle.expr_plans.proofs.Plans.{plan_sense, plan_first}
 
 -- other cells that are the same
@@ -135,31 +137,48 @@ low_0 span (suc low) false e h =
 low_is_0 : (span : Span) (d : Option Decl) (i : Sense) → index_features span d i ≡ [] → is_empty i.signals ≡ false → decl_low d ≡ 0
 low_is_0 span d i none varies = low_0 span (decl_low d) (is_empty i.signals) varies none
 
-minus_0 : (n k : ℕ) → k ≡ 0 → pos n -ℤ pos k ≡ pos n
-minus_0 n k e = omega (arith, ints, e)
+minus_0 : (z : ℤ) (k : ℕ) → k ≡ 0 → z -ℤ pos k ≡ z
+minus_0 z k e = omega (arith, ints, e)
+
+-- the value of a name has at most 128 bits
+decl_small : (b : Building) (nets : Nets) (d : Option Decl) → IsSignal b d → IsSized (decl_shape d) → decl_value (store b nets) d < 2 ^ 128
+decl_small b nets (Some (Signal width low signed number)) has sized =
+    let fits = number-fits nets (signal b number) in
+    let le : 2 ^ length (signal b number) ≤ 2 ^ 128 = power_le (length (signal b number)) 128 (let w = sized.narrow in omega (arith, has.1, w)) in
+    omega (arith, fits, le)
+decl_small b nets (Some (Constant value low signed)) has sized =
+    let fits = value.fits in
+    let le : 2 ^ value.width ≤ 2 ^ 128 = power_le value.width 128 value.narrow in
+    omega (arith, fits, le)
+decl_small b nets None has sized = pow_pos 128
 
 module _ (names : Names) (name : List ℕ) (x : Expr) (span : Span) (size : ℕ) where
   abbrev picking : ℕ → List Made
   picking k = cell_of (Some Pick) false ((decl_shape (names name)).width ∷ k ∷ size ∷ []) span
 
   pub pick_cells_none : is_empty (sense names x).signals ≡ true → pick_cells names name span (plan names x) size ≡ []
-  pick_cells_none e = ap (λ (b : Bool). if b then [] else own_cells (plan names x) ++ picking (plan names x).sense.shape.width) (ap (λ (a : Sense). is_empty a.signals) (plan_sense names x) ∙ e)
+  pick_cells_none e = ap (λ (b : Bool). if b then [] else own_cells (plan names x) ++ picking (index_width (plan names x).sense.shape)) (ap (λ (a : Sense). is_empty a.signals) (plan_sense names x) ∙ e)
 
-  pub pick_cells_are : (at : Shape) (k : ℕ) → is_empty (sense names x).signals ≡ false → at ≡ (sense names x).shape → k ≡ at.width → pick_cells names name span (plan names x) size ≡ made names x at ++ cell_of (Some Pick) false ((decl_shape (names name)).width ∷ k ∷ size ∷ []) span
+  pub pick_cells_are : (at : Shape) (k : ℕ) → is_empty (sense names x).signals ≡ false → at ≡ (sense names x).shape → k ≡ index_width at → pick_cells names name span (plan names x) size ≡ made names x at ++ cell_of (Some Pick) false ((decl_shape (names name)).width ∷ k ∷ size ∷ []) span
   pick_cells_are at k e is is_k =
-      ap (λ (b : Bool). if b then [] else own_cells (plan names x) ++ picking (plan names x).sense.shape.width) (ap (λ (a : Sense). is_empty a.signals) (plan_sense names x) ∙ e)
-      ∙ ap (λ (a : Sense). made names x a.shape ++ picking a.shape.width) (plan_sense names x)
-      ∙ ap (λ (s : Shape). made names x s ++ picking s.width) (sym is)
+      ap (λ (b : Bool). if b then [] else own_cells (plan names x) ++ picking (index_width (plan names x).sense.shape)) (ap (λ (a : Sense). is_empty a.signals) (plan_sense names x) ∙ e)
+      ∙ ap (λ (a : Sense). made names x a.shape ++ picking (index_width a.shape)) (plan_sense names x)
+      ∙ ap (λ (s : Shape). made names x s ++ picking (index_width s)) (sym is)
       ∙ ap (λ (m : ℕ). made names x at ++ picking m) (sym is_k)
 
-  pub pick_built : (at : Shape) (c : ℕ) (o m n : Building) (i y : List Bit) → is_empty (sense names x).signals ≡ false → index_features span (names name) (sense names x) ≡ [] → at ≡ (sense names x).shape → Evaluates names x at o m i → Adds m n y c (λ nets. window (pos (number (values nets i))) size (decl_value (store m nets) (names name))) (cell_of (Some Pick) false ((decl_shape (names name)).width ∷ length i ∷ size ∷ []) span) → Builds o n y c (λ signals. window (pos (own signals (sense names x)) -ℤ pos (decl_low (names name))) size (decl_value signals (names name))) (pick_cells names name span (plan names x) size)
-  pick_built at c o m n i y varies from_0 is p q =
-      let low : decl_low (names name) ≡ 0 = low_is_0 span (names name) (sense names x) from_0 varies in
-      same_cells o n y c _ _ _ (pick_cells_are at (length i) varies is p.long)
-      (then_adds o m n i y at.width c (λ nets. (sense names x).value (store o nets) at) (λ nets. window (pos (number (values nets i))) size (decl_value (store m nets) (names name))) (λ nets. window (pos (own (store o nets) (sense names x)) -ℤ pos (decl_low (names name))) size (decl_value (store o nets) (names name))) (made names x at) (picking (length i)) p q
-      (λ nets e same. ap (λ (k : ℕ). window (pos k) size (decl_value (store m nets) (names name))) (e ∙ ap (λ (s : Shape). (sense names x).value (store o nets) s) is)
-      ∙ ap (λ (s : Store). window (pos (own (store o nets) (sense names x))) size (decl_value s (names name))) same
-      ∙ ap (λ (z : ℤ). window z size (decl_value (store o nets) (names name))) (sym (minus_0 (own (store o nets) (sense names x)) (decl_low (names name)) low))))
+  pub pick_built : (at : Shape) (c : ℕ) (o m n : Building) (i y : List Bit) → is_empty (sense names x).signals ≡ false → index_features span (names name) (sense names x) ≡ [] → ((sense names x).shape.is_signed ≡ true → is_empty (sense names x).signals ≡ false → size ≡ 1) → IsSignal m (names name) → IsSized (decl_shape (names name)) → IsSized at → at ≡ (sense names x).shape → Evaluates names x at o m i → Adds m n y c (λ nets. window (pos (extended at (index_width at) (number (values nets i)))) size (decl_value (store m nets) (names name))) (cell_of (Some Pick) false ((decl_shape (names name)).width ∷ index_width at ∷ size ∷ []) span) → Builds o n y c (λ signals. window (index_of signals (sense names x) -ℤ pos (decl_low (names name))) size (decl_value signals (names name))) (pick_cells names name span (plan names x) size)
+  pick_built at c o m n i y varies from_0 one has sized sized_at is p q =
+      let d : Option Decl = names name in
+      let low : decl_low d ≡ 0 = low_is_0 span d (sense names x) from_0 varies in
+      let alone : at.is_signed ≡ true → size ≡ 1 = λ e. one (ap (λ (s : Shape). s.is_signed) (sym is) ∙ e) varies in
+      let fits : (nets : Nets) → number (values nets i) < 2 ^ at.width = λ nets. subst (λ (k : ℕ). number (values nets i) < 2 ^ k) p.long (number-fits nets i) in
+      same_cells o n y c _ _ _ (pick_cells_are at (index_width at) varies is refl)
+      (then_adds o m n i y at.width c (λ nets. (sense names x).value (store o nets) at) (λ nets. window (pos (extended at (index_width at) (number (values nets i)))) size (decl_value (store m nets) d)) (λ nets. window (index_of (store o nets) (sense names x) -ℤ pos (decl_low d)) size (decl_value (store o nets) d)) (made names x at) (picking (index_width at)) p q
+      (λ nets e same. index_window at (number (values nets i)) size (decl_value (store m nets) d) sized_at.some (fits nets) (decl_small m nets d has sized) alone
+      ∙ ap (λ (k : ℕ). window (integer at k) size (decl_value (store m nets) d)) e
+      ∙ ap (λ (s : Shape). window (integer s ((sense names x).value (store o nets) s)) size (decl_value (store m nets) d)) is
+      ∙ ap (λ (s : Store). window (index_of (store o nets) (sense names x)) size (decl_value s d)) same
+      ∙ ap (λ (z : ℤ). window z size (decl_value (store o nets) d)) (sym (minus_0 (index_of (store o nets) (sense names x)) (decl_low d) low))))
 
 -- Parts side by side.
 

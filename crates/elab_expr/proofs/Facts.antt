@@ -1,6 +1,6 @@
 -- What the parts of an expression have where the whole has a shape, a context and nothing that is not supported; and
 -- what the whole makes, from what its parts make.
-use Rattle.std.proofs.Common.{◌≡◌, ℕ, ◌+◌, ◌*◌, ◌<◌, ◌≤◌, ◌^◌, ◌&&◌, ◌==◌, ◌-ℤ◌, ℤ, pos, Bool, true, false, not, List, [], ◌∷◌, ◌++◌, map, refl, sym, ◌∙◌, ap, subst, arith}
+use Rattle.std.proofs.Common.{◌≡◌, ℕ, ◌+◌, ◌*◌, ◌<◌, ◌≤◌, ◌^◌, ◌&&◌, ◌==◌, ◌-ℤ◌, ℤ, pos, Bool, true, false, not, List, [], ◌∷◌, ◌++◌, map, refl, sym, ◌∙◌, ap, subst, arith, true≢false}
 use Rattle.std.specs.Prelude.{Option, None, Some, if◌then◌else◌}
 use Rattle.mcy_base.specs.declared.span.Span.{Span}
 use Rattle.netlist_core.specs.declared.bit.Bit.{Bit}
@@ -14,6 +14,7 @@ use Rattle.vlog_syntax.specs.declared.identifier.Identifier.{Identifier}
 use Rattle.vlog_syntax.specs.declared.operator.UnaryOperator.{UnaryOperator}
 use Rattle.vlog_syntax.specs.declared.operator.BinaryOperator.{BinaryOperator}
 use Rattle.vlog_meaning.specs.declared.fault.Cause.TheVariants.{DivideOrPower, NotConstant}
+use Rattle.vlog_meaning.specs.declared.fault.Fault.{Fault}
 use Rattle.vlog_meaning.specs.declared.function.Function.{Function}
 use Rattle.vlog_meaning.specs.declared.function.Function.TheVariants.{Signed, Unsigned, Clog2, Random, Time}
 use Rattle.vlog_meaning.specs.declared.shapes.Shape.{Shape}
@@ -21,15 +22,16 @@ use Rattle.vlog_meaning.specs.Functions.{function_of}
 use Rattle.vlog_meaning.specs.Integers.{natural, window, extended}
 use Rattle.vlog_meaning.specs.Operators.{IsSized, sizing, pair_shape, unary_shape, unary_value, operand_context}
 use Rattle.vlog_meaning.specs.Scopes.{Names, decl_shape, decl_low, decl_value}
-use Rattle.vlog_meaning.specs.Senses.{Sense, sense, senses, step, own, fault, is_empty, constant_integer, constant_faults, part_width, total_width, joined, repeated, taken, all_signals, call_faults, call_shape, call_signals, call_value, index_features, binary_features, is_division, binary_step, IsWhole, IsContext}
+use Rattle.vlog_meaning.specs.Senses.{Sense, sense, senses, step, own, index_of, fault, is_empty, constant_integer, constant_faults, part_width, total_width, joined, repeated, taken, all_signals, call_faults, call_shape, call_signals, call_value, index_features, binary_features, is_division, binary_step, IsWhole, IsContext}
 use Rattle.vlog_meaning.proofs.Blanks.{left_nil, right_nil, these_nil}
 use Rattle.vlog_meaning.proofs.Contexts.{joint_left, joint_right}
 use Rattle.vlog_meaning.proofs.Steps as steps
 use Rattle.vlog_meaning.proofs.Whole as whole
 use Rattle.net_builder.specs.Building.{Building, RunsIn, store}
 use Rattle.elab_expr.specs.Evaluates.{Builds, Evaluates, TakesBits, takes_sign}
-use Rattle.expr_plans.specs.Made.{Plan, Made, plan, plans, plan_step, unsupported_step, made, all_unsupported, all_cells, call_unsupported, pick_cells, unary_cells, binary_cells, choice_cells}
+use Rattle.expr_plans.specs.Made.{Plan, Made, plan, plans, plan_step, unsupported_step, made, base_features, all_unsupported, all_cells, call_unsupported, pick_cells, unary_cells, binary_cells, choice_cells}
 use Rattle.elab_expr.proofs.Growing.{made_as, evaluates_as}
+use Rattle.expr_plans.proofs.Indices.{base_indexed, base_unsigned}
 use Rattle.expr_plans.proofs.Plans as planned
 use Rattle.expr_plans.proofs.Plans.{plan_sense}
 use Rattle.elab_expr.proofs.Arms.{unextended}
@@ -51,8 +53,8 @@ module _ (names : Names) (x : Expr) (c : Shape) where
   wide_in a is at = (context_in a is at).wide
 
   -- the parts of an index
-  indexed : (s : Span) (n : Identifier) (i : Expr) → index_features s (names n.name) (plan names i).sense ++ (plan names i).unsupported ≡ [] → (index_features s (names n.name) (sense names i) ≡ []) × ((plan names i).unsupported ≡ [])
-  indexed s n i none = (subst (λ (q : Sense). index_features s (names n.name) q ≡ []) (plan_sense names i) (left_nil _ _ none), right_nil _ _ none)
+  indexed : (features : Sense → List Fault) (i : Expr) → features (plan names i).sense ++ (plan names i).unsupported ≡ [] → (features (sense names i) ≡ []) × ((plan names i).unsupported ≡ [])
+  indexed features i none = (subst (λ (q : Sense). features q ≡ []) (plan_sense names i) (left_nil _ _ none), right_nil _ _ none)
 
   -- a number is constant
   pub number_varies : (n : Number) → x ≡ v.Number n → is_empty (sense names x).signals ≡ true
@@ -82,7 +84,7 @@ module _ (names : Names) (x : Expr) (c : Shape) where
     bit_name h = whole.name_sized n.span (names n.name) (left_nil _ _ (faults_in _ is_bit h))
 
     pub bit_parts : (plan names x).unsupported ≡ [] → (index_features s (names n.name) (sense names i) ≡ []) × ((plan names i).unsupported ≡ [])
-    bit_parts none = indexed s n i (none_in (e.BitSelect n s (plan names i)) bit_plan none)
+    bit_parts none = indexed (index_features s (names n.name)) i (none_in (e.BitSelect n s (plan names i)) bit_plan none)
 
     pub bit_wide : IsContext (sense names x).shape c → 1 ≤ c.width
     bit_wide at = wide_in _ is_bit at
@@ -90,7 +92,7 @@ module _ (names : Names) (x : Expr) (c : Shape) where
     pub bit_made : is_empty (sense names x).signals ≡ false → made names x c ≡ pick_cells names n.name s (plan names i) 1
     bit_made varies = made_as names x (e.BitSelect n s (plan names i)) c bit_plan varies
 
-    pub bit_built : (o m : Building) (bits : List Bit) → is_empty (sense names x).signals ≡ false → Builds o m bits c.width (λ signals. window (pos (own signals (sense names i)) -ℤ pos (decl_low (names n.name))) 1 (decl_value signals (names n.name))) (pick_cells names n.name s (plan names i) 1) → Evaluates names x c o m bits
+    pub bit_built : (o m : Building) (bits : List Bit) → is_empty (sense names x).signals ≡ false → Builds o m bits c.width (λ signals. window (index_of signals (sense names i) -ℤ pos (decl_low (names n.name))) 1 (decl_value signals (names n.name))) (pick_cells names n.name s (plan names i) 1) → Evaluates names x c o m bits
     bit_built o m bits varies b = evaluates_as names x c o m bits _ _ is_bit (bit_made varies) b
 
   module _ (n : Identifier) (s : Span) (a l : Expr) (is : x ≡ v.PartSelect n s a l) where
@@ -120,8 +122,14 @@ module _ (names : Names) (x : Expr) (c : Shape) where
     pub indexed_name : IsWhole names x → IsSized (decl_shape (names n.name))
     indexed_name h = whole.name_sized n.span (names n.name) (left_nil _ _ (faults_in _ is_indexed h))
 
+    indexed_base : (plan names x).unsupported ≡ [] → (base_features s (names n.name) (sense names b) ≡ []) × ((plan names b).unsupported ≡ [])
+    indexed_base none = indexed (base_features s (names n.name)) b (none_in (e.IndexedPartSelect n s (plan names b) (plan names w)) indexed_plan none)
+
     pub indexed_parts : (plan names x).unsupported ≡ [] → (index_features s (names n.name) (sense names b) ≡ []) × ((plan names b).unsupported ≡ [])
-    indexed_parts none = indexed s n b (none_in (e.IndexedPartSelect n s (plan names b) (plan names w)) indexed_plan none)
+    indexed_parts none = (base_indexed s (names n.name) (sense names b) (indexed_base none).0, (indexed_base none).1)
+
+    pub indexed_one : (size : ℕ) → (plan names x).unsupported ≡ [] → IsWhole names b → (sense names b).shape.is_signed ≡ true → is_empty (sense names b).signals ≡ false → size ≡ 1
+    indexed_one size none is_whole signed varies = absurd (true≢false (sym signed ∙ base_unsigned s (names n.name) (sense names b) (indexed_base none).0 varies is_whole))
 
     pub indexed_wide : IsContext (sense names x).shape c → natural (constant_integer (sense names w)) ≤ c.width
     indexed_wide at = wide_in _ is_indexed at
@@ -129,10 +137,10 @@ module _ (names : Names) (x : Expr) (c : Shape) where
     pub indexed_made : (size : ℕ) → size ≡ natural (constant_integer (sense names w)) → is_empty (sense names x).signals ≡ false → made names x c ≡ pick_cells names n.name s (plan names b) size
     indexed_made size is_size varies = made_as names x (e.IndexedPartSelect n s (plan names b) (plan names w)) c indexed_plan varies ∙ ap (λ (k : ℕ). pick_cells names n.name s (plan names b) k) (ap (λ (q : Sense). natural (constant_integer q)) (plan_sense names w) ∙ sym is_size)
 
-    pub indexed_built : (o m : Building) (bits : List Bit) (size : ℕ) → size ≡ natural (constant_integer (sense names w)) → is_empty (sense names x).signals ≡ false → Builds o m bits c.width (λ signals. window (pos (own signals (sense names b)) -ℤ pos (decl_low (names n.name))) size (decl_value signals (names n.name))) (pick_cells names n.name s (plan names b) size) → Evaluates names x c o m bits
+    pub indexed_built : (o m : Building) (bits : List Bit) (size : ℕ) → size ≡ natural (constant_integer (sense names w)) → is_empty (sense names x).signals ≡ false → Builds o m bits c.width (λ signals. window (index_of signals (sense names b) -ℤ pos (decl_low (names n.name))) size (decl_value signals (names n.name))) (pick_cells names n.name s (plan names b) size) → Evaluates names x c o m bits
     indexed_built o m bits size is_size varies h =
         evaluates_as names x c o m bits _ (pick_cells names n.name s (plan names b) size) is_indexed (indexed_made size is_size varies)
-        (subst (λ (k : ℕ). Builds o m bits c.width (λ signals. window (pos (own signals (sense names b)) -ℤ pos (decl_low (names n.name))) k (decl_value signals (names n.name))) (pick_cells names n.name s (plan names b) size)) is_size h)
+        (subst (λ (k : ℕ). Builds o m bits c.width (λ signals. window (index_of signals (sense names b) -ℤ pos (decl_low (names n.name))) k (decl_value signals (names n.name))) (pick_cells names n.name s (plan names b) size)) is_size h)
 
   module _ (s : Span) (i : Expr) (is : x ≡ v.Parenthesized s i) where
     is_inner : sense names x ≡ step names (e.Parenthesized s (sense names i))

@@ -17,12 +17,12 @@ use Rattle.vlog_meaning.specs.declared.shapes.Shape.{Shape}
 use Rattle.vlog_meaning.specs.Functions.{function_of}
 use Rattle.vlog_meaning.specs.Integers.{natural}
 use Rattle.vlog_meaning.specs.Operators.{sizing, left_context, right_context, result_width, operand_context, is_reduction}
-use Rattle.vlog_meaning.specs.Scopes.{Names, nothing, decl_low}
-use Rattle.vlog_meaning.specs.Senses.{Sense, sense, own, is_empty, constant_integer}
+use Rattle.vlog_meaning.specs.Scopes.{Names, decl_low}
+use Rattle.vlog_meaning.specs.Senses.{Sense, sense, is_empty, constant_integer}
 use Rattle.net_builder.specs.Building.{Building}
 use Rattle.elab_expr.specs.Evaluates.{takes_sign}
 use Rattle.expr_plans.specs.Kinds.{unary_kind, binary_kind}
-use Rattle.elab_expr.specs.Laid.{Laid, Layout, layout, layouts, lay, lay_own, lay_parts, lay_select, lay_unary, lay_binary, lay_condition, lay_arms, showing, cell, at_width, unary_cell, binary_cell, mux_cell, reduced, name_bits, number_bits, widened, bits_from, times}
+use Rattle.elab_expr.specs.Laid.{Laid, Layout, layout, layouts, lay, lay_own, lay_parts, lay_select, lay_unary, lay_binary, lay_condition, lay_arms, showing, cell, index_bits, at_width, unary_cell, binary_cell, mux_cell, reduced, name_bits, number_bits, widened, bits_from, times}
 use Rattle.elab_expr.proofs.Layouts.{layout_sense, layout_first, lay_constant, lay_varies, layout_number, layout_name, layout_bit_select, layout_part_select, layout_indexed_part_select, layout_parenthesized, layout_unary, layout_binary, layout_conditional, layout_concatenation, layout_multiple_concatenation, layout_system_function_call}
 
 -- `op i`
@@ -64,20 +64,20 @@ module _ (names : Names) (d : Option Decl) (x : Expr) (span : Span) (size width 
   abbrev wired : ℤ → Laid
   wired z = showing b (widened (bits_from (name_bits b d) (z -ℤ pos (decl_low d)) size) false width)
 
-  abbrev picked : Laid → Laid
-  picked l = at_width width (cell Pick false (name_bits l.after d ∷ l.bits ∷ []) size span l.after)
+  abbrev picked : Shape → Laid → Laid
+  picked s l = at_width width (cell Pick false (name_bits l.after d ∷ index_bits s l.bits ∷ []) size span l.after)
 
   abbrev chosen : Sense → Laid
-  chosen q = if is_empty q.signals then wired (pos (own nothing q)) else picked (lay names x q.shape b)
+  chosen q = if is_empty q.signals then wired (constant_integer q) else picked q.shape (lay names x q.shape b)
 
   is_chosen : chosen (sense names x) ≡ lay_select d span (layout names x) size width b
   is_chosen = sym (ap chosen (layout_sense names x))
 
-  pub place_laid : (z : ℤ) (bits : List Bit) → is_empty (sense names x).signals ≡ true → z ≡ pos (own nothing (sense names x)) → bits ≡ widened (bits_from (name_bits b d) (z -ℤ pos (decl_low d)) size) false width → showing b bits ≡ lay_select d span (layout names x) size width b
-  place_laid z bits quiet is by = ap (showing b) by ∙ ap wired is ∙ sym (ap (λ (t : Bool). if t then wired (pos (own nothing (sense names x))) else picked (lay names x (sense names x).shape b)) quiet) ∙ is_chosen
+  pub place_laid : (z : ℤ) (bits : List Bit) → is_empty (sense names x).signals ≡ true → z ≡ constant_integer (sense names x) → bits ≡ widened (bits_from (name_bits b d) (z -ℤ pos (decl_low d)) size) false width → showing b bits ≡ lay_select d span (layout names x) size width b
+  place_laid z bits quiet is by = ap (showing b) by ∙ ap wired is ∙ sym (ap (λ (t : Bool). if t then wired (constant_integer (sense names x)) else picked (sense names x).shape (lay names x (sense names x).shape b)) quiet) ∙ is_chosen
 
-  pub pick_laid : (at : Shape) (m n : Building) (a y : List Bit) → is_empty (sense names x).signals ≡ false → at ≡ (sense names x).shape → showing m a ≡ lay names x at b → showing n y ≡ at_width width (cell Pick false (name_bits m d ∷ a ∷ []) size span m) → showing n y ≡ lay_select d span (layout names x) size width b
-  pick_laid at m n a y loud is of_x by = by ∙ ap picked of_x ∙ ap (λ (s : Shape). picked (lay names x s b)) is ∙ sym (ap (λ (t : Bool). if t then wired (pos (own nothing (sense names x))) else picked (lay names x (sense names x).shape b)) loud) ∙ is_chosen
+  pub pick_laid : (at : Shape) (m n : Building) (a y : List Bit) → is_empty (sense names x).signals ≡ false → at ≡ (sense names x).shape → showing m a ≡ lay names x at b → showing n y ≡ at_width width (cell Pick false (name_bits m d ∷ index_bits at a ∷ []) size span m) → showing n y ≡ lay_select d span (layout names x) size width b
+  pick_laid at m n a y loud is of_x by = by ∙ ap (picked at) of_x ∙ ap (λ (s : Shape). picked s (lay names x s b)) is ∙ sym (ap (λ (t : Bool). if t then wired (constant_integer (sense names x)) else picked (sense names x).shape (lay names x (sense names x).shape b)) loud) ∙ is_chosen
 
 -- parts side by side: none, and one more
 pub parts_more : (names : Names) (es : List Expr) (k : ℕ) (x : Expr) (at : Shape) (o m n : Building) (all bits after : List Bit) → x ≡ get_or es k x → k < length es → at ≡ (sense names x).shape → showing m all ≡ lay_parts (layouts names (take k es)) o [] → showing n bits ≡ lay names x at m → after ≡ bits ++ all → showing n after ≡ lay_parts (layouts names (take (suc k) es)) o []

@@ -11,9 +11,9 @@ use Rattle.vlog_meaning.specs.declared.shapes.Shape.{Shape}
 use Rattle.vlog_meaning.specs.declared.operator.Sizing.{Sizing}
 use Rattle.vlog_meaning.specs.declared.operator.Sizing.TheVariants.{Common, Left, Compared, Apart}
 use Rattle.vlog_meaning.specs.Operators.{IsSized, ArePaired, pair_shape, left_context, right_context, result_width, unary_shape, operand_context, is_reduction}
-use Rattle.vlog_meaning.specs.Integers.{window}
+use Rattle.vlog_meaning.specs.Integers.{integer, window}
 use Rattle.vlog_meaning.specs.Scopes.{Names, nothing, decl_low, decl_value}
-use Rattle.vlog_meaning.specs.Senses.{IsContext, sense, own, is_empty}
+use Rattle.vlog_meaning.specs.Senses.{IsContext, sense, index_of, constant_integer, is_empty}
 use Rattle.vlog_meaning.proofs.Blanks.{left_nil, right_nil}
 use Rattle.vlog_meaning.proofs.Contexts.{operand_within, left_within, right_within, are_paired}
 use Rattle.net_builder.specs.Building.{Building, store}
@@ -86,11 +86,11 @@ both_ok (Ok a) P Q R f p q = f a p q
 both_ok (Err e) P Q R f p q = tt
 
 -- a select from a constant place on
-pub place_built : (names : Names) (name : List ℕ) (x : Expr) (span : Span) (size v : ℕ) (z : ℤ) (b : Building) (bits : List Bit) → is_empty (sense names x).signals ≡ true → z ≡ pos (own nothing (sense names x)) → Holds b bits v (λ signals. window (z -ℤ pos (decl_low (names name))) size (decl_value signals (names name))) → Builds b b bits v (λ signals. window (pos (own signals (sense names x)) -ℤ pos (decl_low (names name))) size (decl_value signals (names name))) (pick_cells names name span (plan names x) size)
+pub place_built : (names : Names) (name : List ℕ) (x : Expr) (span : Span) (size v : ℕ) (z : ℤ) (b : Building) (bits : List Bit) → is_empty (sense names x).signals ≡ true → z ≡ constant_integer (sense names x) → Holds b bits v (λ signals. window (z -ℤ pos (decl_low (names name))) size (decl_value signals (names name))) → Builds b b bits v (λ signals. window (index_of signals (sense names x) -ℤ pos (decl_low (names name))) size (decl_value signals (names name))) (pick_cells names name span (plan names x) size)
 place_built names name x span size v z b bits quiet is h = record {
   grows = grows_not b;
   cells = none_made b ∙ sym (pick_cells_none names name x span size quiet);
   long = h.long;
   below = h.below;
-  value_is = λ nets runs. h.value_is nets ∙ ap (λ (k : ℤ). window (k -ℤ pos (decl_low (names name))) size (decl_value (store b nets) (names name))) (is ∙ ap pos (constant_value names x nothing (store b nets) (sense names x).shape quiet));
+  value_is = λ nets runs. h.value_is nets ∙ ap (λ (k : ℤ). window (k -ℤ pos (decl_low (names name))) size (decl_value (store b nets) (names name))) (is ∙ ap (integer (sense names x).shape) (constant_value names x nothing (store b nets) (sense names x).shape quiet));
 }

@@ -41,5 +41,5 @@ bit_shown b a width span narrow =
     let test : nat_lt 1 width ≡ false = grind (arith, nat_tests) in
     sym (ap (λ (k : Bool). if k then cell Ror false (a ∷ []) 1 span b else showing b a) test)
 
-pub picked_shown : (b n : Building) (a index y : List Bit) (size width : ℕ) (span : Span) (d : Option Decl) → a ≡ name_bits b d → showing n y ≡ at_width width (cell Pick false (a ∷ index ∷ []) size span b) → showing n y ≡ at_width width (cell Pick false (name_bits b d ∷ index ∷ []) size span b)
-picked_shown b n a index y size width span d is laid = laid ∙ ap (λ (l : List Bit). at_width width (cell Pick false (l ∷ index ∷ []) size span b)) is
+pub picked_shown : (b n : Building) (a index at y : List Bit) (size width : ℕ) (span : Span) (d : Option Decl) → a ≡ name_bits b d → at ≡ index → showing n y ≡ at_width width (cell Pick false (a ∷ at ∷ []) size span b) → showing n y ≡ at_width width (cell Pick false (name_bits b d ∷ index ∷ []) size span b)
+picked_shown b n a index at y size width span d is is_at laid = laid ∙ ap (λ (l : List Bit). at_width width (cell Pick false (l ∷ at ∷ []) size span b)) is ∙ ap (λ (l : List Bit). at_width width (cell Pick false (name_bits b d ∷ l ∷ []) size span b)) is_at

@@ -21,10 +21,11 @@ use Rattle.vlog_meaning.specs.Functions.{function_of}
 use Rattle.vlog_meaning.specs.Integers.{natural}
 use Rattle.vlog_meaning.specs.Operators.{sizing, left_context, right_context, result_width, operand_context, is_reduction}
 use Rattle.vlog_meaning.specs.Scopes.{Names, nothing, decl_low}
-use Rattle.vlog_meaning.specs.Senses.{Sense, step, own, is_empty, constant_integer}
+use Rattle.vlog_meaning.specs.Senses.{Sense, step, is_empty, constant_integer}
 use Rattle.net_builder.specs.Building.{Building, fresh_bits, signal, with_cell}
 use Rattle.elab_expr.specs.Evaluates.{takes_sign}
 use Rattle.expr_plans.specs.Kinds.{unary_kind, binary_kind, is_order}
+use Rattle.expr_plans.specs.Made.{index_width}
 use Rattle.elab_expr.specs.Wiring.{fill_bit, bit_or_0}
 
 -- Bits without cells.
@@ -91,12 +92,16 @@ abbrev pub lay_parts : List Layout → Building → (above : List Bit) → Laid
 lay_parts [] b above = showing b above
 lay_parts (a ∷ more) b above = lay_parts more (lay_own a b).after ((lay_own a b).bits ++ above)
 
+-- the bits of an index at a cell
+abbrev pub index_bits : Shape → List Bit → List Bit
+index_bits s bits = widened bits s.is_signed (index_width s)
+
 -- a select of so many bits: at a constant place wiring, else a cell whose A is the name and whose B is the place
 abbrev pub lay_select : Option Decl → Span → Layout → (size width : ℕ) → Building → Laid
 lay_select name span i size width b =
     if is_empty i.sense.signals
-    then showing b (widened (bits_from (name_bits b name) (pos (own nothing i.sense) -ℤ pos (decl_low name)) size) false width)
-    else at_width width (cell Pick false (name_bits (lay_own i b).after name ∷ (lay_own i b).bits ∷ []) size span (lay_own i b).after)
+    then showing b (widened (bits_from (name_bits b name) (constant_integer i.sense -ℤ pos (decl_low name)) size) false width)
+    else at_width width (cell Pick false (name_bits (lay_own i b).after name ∷ index_bits i.sense.shape (lay_own i b).bits ∷ []) size span (lay_own i b).after)
 
 -- unary `+` is wiring
 abbrev pub unary_cell : Option CellKind → (width : ℕ) → Span → Laid → Laid

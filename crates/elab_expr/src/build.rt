@@ -1,13 +1,13 @@
 //! The cells of an expression. An operand's cells come before the operator's, left to right, and the largest
 //! subexpressions that are constant make none.
-ghost use Rattle.std.specs.Prelude.{ℕ, ◌≡◌, ◌+◌, ◌*◌, ◌^◌, ◌==◌, ◌≤◌, ◌<◌, ◌-ℤ◌, ◌&&◌, not, pos, false, [], ◌∷◌, ◌++◌, Some, length, IfOk, IfErr, if◌then◌else◌};
+ghost use Rattle.std.specs.Prelude.{ℕ, ◌≡◌, ◌+◌, ◌*◌, ◌^◌, ◌==◌, ◌≤◌, ◌<◌, ◌-ℤ◌, ◌&&◌, not, pos, true, false, [], ◌∷◌, ◌++◌, Some, length, IfOk, IfErr, if◌then◌else◌};
 ghost use Rattle.netlist_core.specs.Numbers.{number};
 ghost use Rattle.netlist_core.specs.Runs.{Nets, values};
 ghost use Rattle.netlist_core.specs.declared.cell.CellKind.TheVariants.{Mux};
 ghost use Rattle.vlog_meaning.specs.Integers.{window, extended};
 ghost use Rattle.vlog_meaning.specs.Operators.{IsSized, digit, sizing, pair_shape, unary_shape, joint, operand_context, unary_value};
 ghost use Rattle.vlog_meaning.specs.Scopes.{names_of, decl_shape, decl_low, decl_value};
-ghost use Rattle.vlog_meaning.specs.Senses.{sense, senses, own, binary_step, index_features, is_division, is_empty, total_width, joined, repeated, IsWhole, AreWhole, IsContext};
+ghost use Rattle.vlog_meaning.specs.Senses.{sense, senses, own, index_of, binary_step, index_features, is_division, is_empty, total_width, joined, repeated, IsWhole, AreWhole, IsContext};
 ghost use Rattle.net_builder.specs.Building.{AllBelow, HasSignals, RunsIn, store};
 ghost use Rattle.elab_expr.specs.Evaluates.{Adds, Builds, Evaluates};
 ghost use Rattle.elab_expr.specs.Laid.{lay, lay_arms, lay_binary, lay_condition, lay_parts, lay_select, lay_unary, layout, layouts, showing, widened};
@@ -21,7 +21,7 @@ use crate::operators::{
     argument_shape, binary_bits, choice_bits, condition_bits, picked, unary_bits,
 };
 use crate::wiring::{extended_bits, joined_bits, repeated_at};
-use expr_plans::{bound_of, count_of, index_of, is_constant};
+use expr_plans::{bound_of, count_of, is_constant};
 use mcy_base::Span;
 use net_builder::{Builder, ElabError};
 use netlist_core::BitList;
@@ -130,21 +130,23 @@ fn select(
     requires whole { IsWhole (names_of scope.now) index.now }
     requires supported { (plan (names_of scope.now) index.now).unsupported ≡ [] }
     requires from_0 { index_features span (names_of scope.now name.now.name) (sense (names_of scope.now) index.now) ≡ [] }
+    requires one { (sense (names_of scope.now) index.now).shape.is_signed ≡ true → is_empty (sense (names_of scope.now) index.now).signals ≡ false → size ≡ 1 }
     requires name { IsSized (decl_shape (names_of scope.now name.now.name)) }
     requires some { 1 ≤ size }
     requires wide { size ≤ width }
     requires narrow { width ≤ 128 }
     requires signals { HasSignals (names_of scope.now) builder.old }
     ensures laid { IfOk result (λ bits. showing builder.new bits ≡ lay_select (names_of scope.now name.now.name) span (layout (names_of scope.now) index.now) size width builder.old) }
-    ensures built { IfOk result (λ bits. Builds builder.old builder.new bits width (λ signals. window (pos (own signals (sense (names_of scope.now) index.now)) -ℤ pos (decl_low (names_of scope.now name.now.name))) size (decl_value signals (names_of scope.now name.now.name))) (pick_cells (names_of scope.now) name.now.name span (plan (names_of scope.now) index.now) size)) }
+    ensures built { IfOk result (λ bits. Builds builder.old builder.new bits width (λ signals. window (index_of signals (sense (names_of scope.now) index.now) -ℤ pos (decl_low (names_of scope.now name.now.name))) size (decl_value signals (names_of scope.now name.now.name))) (pick_cells (names_of scope.now) name.now.name span (plan (names_of scope.now) index.now) size)) }
     ensures short { IfErr result (λ e. IsShort (length builder.old.cells + length (pick_cells (names_of scope.now) name.now.name span (plan (names_of scope.now) index.now) size)) e) }
 {
     if is_constant(index, scope) {
-        let place = index_of(index, scope);
+        let place = bound_of(index, scope);
         Ok(placed(builder, scope, name, place, size, width)?)
     } else {
-        let at = build(builder, index, scope, shape_of(index, scope))?;
-        picked(builder, scope, name, at, size, width, span)
+        let own = shape_of(index, scope);
+        let at = build(builder, index, scope, own)?;
+        picked(builder, scope, name, own, at, size, width, span)
     }
 }
 

@@ -5,20 +5,20 @@ ghost use Rattle.netlist_core.specs.Numbers.{number};
 ghost use Rattle.netlist_core.specs.Runs.{values};
 ghost use Rattle.netlist_core.specs.declared.cell.CellKind.TheVariants.{Ror, Mux, Pick};
 ghost use Rattle.vlog_meaning.specs.Functions.{function_of as function_named};
-ghost use Rattle.vlog_meaning.specs.Integers.{window};
+ghost use Rattle.vlog_meaning.specs.Integers.{extended, window};
 ghost use Rattle.vlog_meaning.specs.Operators.{IsSized, ArePaired, digit, sizing, result_width, is_reduction, unary_value, binary_value};
 ghost use Rattle.vlog_meaning.specs.Scopes.{names_of, decl_shape, decl_value};
 ghost use Rattle.vlog_meaning.specs.Senses.{is_division};
 ghost use Rattle.net_builder.specs.Building.{AllBelow, HasSignals, store};
 ghost use Rattle.elab_expr.specs.Evaluates.{Adds, takes_sign};
 ghost use Rattle.expr_plans.specs.Kinds.{unary_kind, binary_kind};
-ghost use Rattle.elab_expr.specs.Laid.{at_width, binary_cell, cell, mux_cell, name_bits, reduced, showing, unary_cell};
-ghost use Rattle.expr_plans.specs.Made.{cell_of};
+ghost use Rattle.elab_expr.specs.Laid.{at_width, binary_cell, cell, index_bits, mux_cell, name_bits, reduced, showing, unary_cell};
+ghost use Rattle.expr_plans.specs.Made.{cell_of, index_width};
 ghost use Rattle.net_builder.specs.Refusals.{IsShort};
 
 use crate::names::name_bits;
 use crate::nodes::{binary_cell, mux_cell, pick_cell, ror_cell, unary_cell};
-use crate::wiring::extended_bits;
+use crate::wiring::{extended_bits, index_bits};
 use expr_plans::{binary_kind, unary_kind};
 use mcy_base::Span;
 use net_builder::{Builder, ElabError};
@@ -129,11 +129,13 @@ pub(crate) fn choice_bits(
     Ok(mux_cell(builder, s, yes, no, width, span)?)
 }
 
-/// The bits of a name from number `index` on, as many as `size`, at a width that is not less.
+/// The bits of a name from an index of this shape on, as many as `size`, at a width that is not less.
+#[tactic(auto, using(expr_plans::proofs::Indices::index_wide, expr_plans::proofs::Indices::index_narrow))]
 pub(crate) fn picked(
     builder: &mut Builder,
     scope: &Scope,
     name: &Identifier,
+    own: Shape,
     index: BitList,
     size: u8,
     width: u8,
@@ -141,18 +143,19 @@ pub(crate) fn picked(
 ) -> Result<BitList, ElabError>
     requires signals { HasSignals (names_of scope.now) builder.old }
     requires name { IsSized (decl_shape (names_of scope.now name.now.name)) }
-    requires some_index { 1 ≤ length index }
-    requires narrow_index { length index ≤ 128 }
+    requires own { IsSized own }
+    requires fit { length index ≡ own.width }
     requires below { AllBelow builder.old.nets index }
     requires some { 1 ≤ size }
     requires wide { size ≤ width }
     requires narrow { width ≤ 128 }
-    ensures laid { IfOk result (λ y. showing builder.new y ≡ at_width width (cell Pick false (name_bits builder.old (names_of scope.now name.now.name) ∷ index ∷ []) size span builder.old)) }
-    ensures adds { IfOk result (λ y. Adds builder.old builder.new y width (λ nets. window (pos (number (values nets index))) size (decl_value (store builder.old nets) (names_of scope.now name.now.name))) (cell_of (Some Pick) false ((decl_shape (names_of scope.now name.now.name)).width ∷ length index ∷ size ∷ []) span)) }
+    ensures laid { IfOk result (λ y. showing builder.new y ≡ at_width width (cell Pick false (name_bits builder.old (names_of scope.now name.now.name) ∷ index_bits own index ∷ []) size span builder.old)) }
+    ensures adds { IfOk result (λ y. Adds builder.old builder.new y width (λ nets. window (pos (extended own (index_width own) (number (values nets index)))) size (decl_value (store builder.old nets) (names_of scope.now name.now.name))) (cell_of (Some Pick) false ((decl_shape (names_of scope.now name.now.name)).width ∷ index_width own ∷ size ∷ []) span)) }
     ensures short { IfErr result (λ e. IsShort (length builder.old.cells + 1) e) }
 {
+    let at = index_bits(builder.alloc(), index.as_slice(), own)?;
     let a = name_bits(builder, scope, name)?;
-    pick_bits(builder, a, index, size, width, span)
+    pick_bits(builder, a, at, size, width, span)
 }
 
 /// The same of these bits.

@@ -4,16 +4,19 @@ ghost use Rattle.std.specs.Prelude.{◌≡◌, ◌+◌, ◌*◌, ◌/◌, ◌%�
 ghost use Rattle.netlist_core.specs.Numbers.{digit, number};
 ghost use Rattle.netlist_core.specs.Runs.{Nets, bit_value, values};
 ghost use Rattle.vlog_meaning.specs.Integers.{extended, window, bound_integer};
+ghost use Rattle.vlog_meaning.specs.Operators.{IsSized};
 ghost use Rattle.vlog_meaning.specs.Senses.{repeated};
 ghost use Rattle.net_builder.specs.Building.{AllBelow};
-ghost use Rattle.elab_expr.specs.Laid.{bit_of, bits_from, number_bits, widened};
+ghost use Rattle.expr_plans.specs.Made.{index_width};
+ghost use Rattle.elab_expr.specs.Laid.{bit_of, bits_from, index_bits, number_bits, widened};
 ghost use Rattle.elab_expr.specs.Laid as laid;
 ghost use Rattle.elab_expr.specs.Wiring.{ShapeOfBits, fill_bit, bit_or_0, window_digit};
 
+use expr_plans::index_width;
 use net_builder::copied_bits;
 use netlist_core::{Bit, BitList};
 use std::alloc::{AllocError, Global};
-use vlog_meaning::Bound;
+use vlog_meaning::{Bound, Shape};
 
 /// The bits of a constant.
 pub fn constant_bits(alloc: Global, value: u128, width: u8) -> Result<BitList, AllocError>
@@ -69,6 +72,19 @@ pub fn extended_bits(
         found.push(fill)?;
     }
     Ok(BitList::from_vec(found))
+}
+
+/// The bits of an index at a cell. A signed one has at least 9 there, so that what is below 0 lies outside of each vector.
+#[tactic(auto, using(expr_plans::proofs::Indices::index_wide, expr_plans::proofs::Indices::index_narrow))]
+pub fn index_bits(alloc: Global, bits: &[Bit], own: Shape) -> Result<BitList, AllocError>
+    requires sized { IsSized own }
+    requires fit { length bits.now ≡ own.width }
+    ensures is { IfOk result (λ found. found ≡ index_bits own bits.now) }
+    ensures long { IfOk result (λ found. length found ≡ index_width own) }
+    ensures value { IfOk result (λ found. (nets : Nets) → number (values nets found) ≡ extended own (index_width own) (number (values nets bits.now))) }
+    ensures below { IfOk result (λ found. (n : ℕ) → AllBelow n bits.now → AllBelow n found) }
+{
+    extended_bits(alloc, bits, own.is_signed, index_width(own))
 }
 
 /// The bit at a place, and 0 past the end.

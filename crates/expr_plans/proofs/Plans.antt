@@ -18,7 +18,7 @@ use Rattle.vlog_meaning.specs.declared.fault.Fault.{Fault}
 use Rattle.vlog_meaning.specs.declared.shapes.Shape.{Shape}
 use Rattle.vlog_meaning.specs.Answers.{least, least_at, earlier}
 use Rattle.vlog_meaning.specs.Scopes.{Names, Store}
-use Rattle.vlog_meaning.specs.Senses.{Sense, sense, step, is_empty, index_features, binary_features}
+use Rattle.vlog_meaning.specs.Senses.{Sense, sense, step, is_empty, binary_features}
 use Rattle.vlog_meaning.proofs.Firsts.{least_none, least_nil}
 use Rattle.vlog_meaning.proofs.Refusals.{least_empty, pair_first}
 use Rattle.vlog_meaning.proofs.Settled.{settled}
@@ -133,6 +133,16 @@ none_read (x ∷ xs) o b is test = go o is test
     go (Some f) is test = test
     go None is test = let none = least_none _ (sym is) in cc
 
+-- where nothing is found wrong, nothing is
+pub none_told : (xs : List Fault) (o : Option Fault) (b : Bool) → o ≡ least xs → b ≡ is_none o → b ≡ true → xs ≡ []
+none_told xs None b is test yes_told = least_none xs (sym is)
+none_told xs (Some f) b is test yes_told = cc
+
+pub none_wrong : (xs : List Fault) (o : Option Fault) (b : Bool) → o ≡ least xs → b ≡ is_none o → b ≡ is_empty xs
+none_wrong xs None b is test = test ∙ ap is_empty (sym (least_none xs (sym is)))
+none_wrong [] (Some f) b is test = let none : Some f ≡ None = is ∙ sym least_empty in cc
+none_wrong (x ∷ xs) (Some f) b is test = test
+
 pub both_empty : {A : Type 0} (xs ys : List A) → is_empty (xs ++ ys) ≡ is_empty xs && is_empty ys
 both_empty [] ys = refl
 both_empty (x ∷ xs) ys = refl
@@ -150,10 +160,10 @@ constant_value names x s t c e = let quiet = empty_is (sense names x).signals e 
 pub none_unsupported : (names : Names) (x : Expr) (p : Plan) → plan names x ≡ p → p.unsupported ≡ [] → None ≡ least (plan names x).unsupported
 none_unsupported names x p is none = least_empty ∙ ap least (sym (ap (λ (q : Plan). q.unsupported) is ∙ none))
 
-pub index_unsupported : (names : Names) (n : Identifier) (s : Span) (x i : Expr) (r a b : Option Fault) → (plan names x).unsupported ≡ index_features s (names n.name) (plan names i).sense ++ (plan names i).unsupported → r ≡ earlier a b → a ≡ least (index_features s (names n.name) (sense names i)) → b ≡ least (plan names i).unsupported → r ≡ least (plan names x).unsupported
-index_unsupported names n s x i r a b is r_is a_is b_is =
-    pair_first (index_features s (names n.name) (sense names i)) (plan names i).unsupported a b r r_is a_is b_is
-    ∙ ap least (ap (λ (q : Sense). index_features s (names n.name) q ++ (plan names i).unsupported) (sym (plan_sense names i)) ∙ sym is)
+pub index_unsupported : (names : Names) (features : Sense → List Fault) (x i : Expr) (r a b : Option Fault) → (plan names x).unsupported ≡ features (plan names i).sense ++ (plan names i).unsupported → r ≡ earlier a b → a ≡ least (features (sense names i)) → b ≡ least (plan names i).unsupported → r ≡ least (plan names x).unsupported
+index_unsupported names features x i r a b is r_is a_is b_is =
+    pair_first (features (sense names i)) (plan names i).unsupported a b r r_is a_is b_is
+    ∙ ap least (ap (λ (q : Sense). features q ++ (plan names i).unsupported) (sym (plan_sense names i)) ∙ sym is)
 
 pub pair_unsupported : (names : Names) (s : Span) (op : BinaryOperator) (x i j : Expr) (r d m a b : Option Fault) → x ≡ v.Binary s op i j → r ≡ earlier d m → m ≡ earlier a b → d ≡ least (binary_features s op (sense names i) (sense names j)) → a ≡ least (plan names i).unsupported → b ≡ least (plan names j).unsupported → r ≡ least (plan names x).unsupported
 pair_unsupported names s op x i j r d m a b is r_is m_is d_is a_is b_is =

@@ -1,6 +1,6 @@
 -- The cells that an expression makes, in order: operands first, left to right, then the operator's own. And what is not
 -- supported in an expression that makes cells.
-use Rattle.std.specs.Prelude.{ℕ, Bool, false, ◌&&◌, nat_lt, List, [], ◌∷◌, ◌++◌, map, Option, Some, None, if◌then◌else◌}
+use Rattle.std.specs.Prelude.{ℕ, Bool, false, ◌&&◌, ◌||◌, ◌==◌, not, nat_lt, List, [], ◌∷◌, ◌++◌, map, Option, Some, None, if◌then◌else◌}
 use Rattle.mcy_base.specs.declared.span.Span.{Span}
 use Rattle.vlog_syntax.specs.declared.expr.Expr.{Expr}
 use Rattle.vlog_syntax.specs.declared.expr.Expr.TheOpen as e
@@ -13,15 +13,16 @@ use Rattle.netlist_core.specs.declared.cell.Cell.{Cell}
 use Rattle.netlist_core.specs.declared.cell.CellKind.{CellKind}
 use Rattle.netlist_core.specs.declared.cell.CellKind.TheVariants.{Ror, Mux, Pick}
 use Rattle.netlist_core.specs.Shapes.{widths}
-use Rattle.vlog_meaning.specs.declared.fault.Cause.TheVariants.{SystemFunction}
+use Rattle.vlog_meaning.specs.declared.fault.Cause.TheVariants.{SystemFunction, IndexedBase}
 use Rattle.vlog_meaning.specs.declared.fault.Fault.{Fault}
 use Rattle.vlog_meaning.specs.declared.function.Function.{Function}
+use Rattle.vlog_meaning.specs.declared.scope.Decl.{Decl}
 use Rattle.vlog_meaning.specs.declared.function.Function.TheVariants.{Random, Time}
 use Rattle.vlog_meaning.specs.declared.shapes.Shape.{Shape}
 use Rattle.vlog_meaning.specs.Functions.{function_of}
 use Rattle.vlog_meaning.specs.Integers.{natural}
 use Rattle.vlog_meaning.specs.Operators.{sizing, left_context, right_context, result_width, operand_context, is_reduction}
-use Rattle.vlog_meaning.specs.Scopes.{Names, decl_shape}
+use Rattle.vlog_meaning.specs.Scopes.{Names, decl_shape, decl_low}
 use Rattle.vlog_meaning.specs.Senses.{Sense, step, is_empty, fault, constant_integer, index_features, binary_features}
 use Rattle.expr_plans.specs.Kinds.{unary_kind, binary_kind, is_order}
 
@@ -55,12 +56,16 @@ call_unsupported (Some Random) span arguments = fault SystemFunction span ∷ []
 call_unsupported (Some Time) span arguments = fault SystemFunction span ∷ []
 call_unsupported function span arguments = all_unsupported arguments
 
+-- a base that is no constant of a vector whose lowest bit is not number 0, or one that is signed
+abbrev pub base_features : Span → Option Decl → Sense → List Fault
+base_features span decl base = if is_empty base.signals || (decl_low decl == 0 && not (is_empty base.faults && base.shape.is_signed)) then [] else fault IndexedBase span ∷ []
+
 abbrev pub unsupported_step : Names → Expr-F Plan → List Fault
 unsupported_step names (e.Number n) = []
 unsupported_step names (e.Name n) = []
 unsupported_step names (e.BitSelect n s i) = index_features s (names n.name) i.sense ++ i.unsupported
 unsupported_step names (e.PartSelect n s msb lsb) = []
-unsupported_step names (e.IndexedPartSelect n s base width) = index_features s (names n.name) base.sense ++ base.unsupported
+unsupported_step names (e.IndexedPartSelect n s base width) = base_features s (names n.name) base.sense ++ base.unsupported
 unsupported_step names (e.Parenthesized s i) = i.unsupported
 unsupported_step names (e.Unary s op i) = i.unsupported
 unsupported_step names (e.Binary s op i j) = binary_features s op i.sense j.sense ++ (i.unsupported ++ j.unsupported)
@@ -83,9 +88,13 @@ abbrev pub all_cells : List Plan → List Made
 all_cells [] = []
 all_cells (a ∷ more) = own_cells a ++ all_cells more
 
+-- the width of an index at a cell: a signed one has at least 9 bits there, so that what is below 0 lies outside of each vector
+abbrev pub index_width : Shape → ℕ
+index_width s = if s.is_signed && nat_lt s.width 9 then 9 else s.width
+
 -- a select whose place is no constant
 abbrev pub pick_cells : Names → List ℕ → Span → Plan → ℕ → List Made
-pick_cells names name span i width = if is_empty i.sense.signals then [] else own_cells i ++ cell_of (Some Pick) false ((decl_shape (names name)).width ∷ i.sense.shape.width ∷ width ∷ []) span
+pick_cells names name span i width = if is_empty i.sense.signals then [] else own_cells i ++ cell_of (Some Pick) false ((decl_shape (names name)).width ∷ index_width i.sense.shape ∷ width ∷ []) span
 
 -- a condition wider than one bit is reduced
 abbrev pub condition_cells : Plan → List Made

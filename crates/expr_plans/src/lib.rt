@@ -9,6 +9,6 @@ mod constant;
 mod kinds;
 mod unsupported;
 
-pub use constant::{bound_of, count_of, index_of, is_constant};
+pub use constant::{bound_of, count_of, index_width, is_constant};
 pub use kinds::{binary_kind, unary_kind};
 pub use unsupported::unsupported_in;

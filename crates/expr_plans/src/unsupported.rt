@@ -1,14 +1,14 @@
 //! What is not supported in an expression that makes cells.
-ghost use Rattle.std.specs.Prelude.{◌≡◌, ◌++◌};
+ghost use Rattle.std.specs.Prelude.{◌≡◌, ◌++◌, ◌&&◌};
 ghost use Rattle.vlog_meaning.specs.Functions.{function_of as function_named};
 ghost use Rattle.vlog_meaning.specs.Scopes.{names_of};
-ghost use Rattle.vlog_meaning.specs.Senses.{sense, is_division, index_features, binary_features};
+ghost use Rattle.vlog_meaning.specs.Senses.{sense, is_empty, is_division, index_features, binary_features};
 ghost use Rattle.vlog_meaning.specs.Answers.{least};
-ghost use Rattle.expr_plans.specs.Made.{plan, plans, all_unsupported, call_unsupported};
+ghost use Rattle.expr_plans.specs.Made.{plan, plans, all_unsupported, call_unsupported, base_features};
 
 use crate::constant::is_constant;
 use mcy_base::Span;
-use vlog_meaning::{Cause, Fault, Function, Scope, earlier, function_of};
+use vlog_meaning::{Cause, Fault, Function, Scope, earlier, fault_in, function_of, shape_of};
 use vlog_syntax::{BinaryOperator, Expr, Identifier};
 
 /// A variable index of a vector whose lowest bit is not number 0.
@@ -17,6 +17,30 @@ fn index_unsupported(scope: &Scope, name: &Identifier, span: Span, index: &Expr)
     ensures { result ≡ least (index_features span (names_of scope.now name.now.name) (sense (names_of scope.now) index.now)) }
 {
     if scope.low_of(name.name.as_str()) == 0 || is_constant(index, scope) {
+        None
+    } else {
+        Some(Fault {
+            cause: Cause::IndexedBase,
+            span,
+        })
+    }
+}
+
+/// Whether nothing is wrong in an expression, and it is signed.
+#[tactic(auto, using(crate::proofs::Plans::none_wrong, crate::proofs::Plans::none_told))]
+fn is_signed(expr: &Expr, scope: &Scope) -> bool
+    ensures { result ≡ (is_empty (sense (names_of scope.now) expr.now).faults && (sense (names_of scope.now) expr.now).shape.is_signed) }
+{
+    fault_in(expr, scope).is_none() && shape_of(expr, scope).is_signed
+}
+
+/// A variable base of a vector whose lowest bit is not number 0, or one that is signed.
+#[tactic(auto, unfolding(vlog_meaning::specs::Answers::earlier, vlog_meaning::specs::Answers::least))]
+fn base_unsupported(scope: &Scope, name: &Identifier, span: Span, base: &Expr) -> Option<Fault>
+    ensures { result ≡ least (base_features span (names_of scope.now name.now.name) (sense (names_of scope.now) base.now)) }
+{
+    let from_0 = scope.low_of(name.name.as_str()) == 0;
+    if is_constant(base, scope) || (from_0 && !is_signed(base, scope)) {
         None
     } else {
         Some(Fault {
@@ -91,7 +115,7 @@ pub fn unsupported_in(expr: &Expr, scope: &Scope) -> Option<Fault>
             unsupported_in(index.get(), scope),
         ),
         Expr::IndexedPartSelect(name, span, base, _) => earlier(
-            index_unsupported(scope, name, *span, base.get()),
+            base_unsupported(scope, name, *span, base.get()),
             unsupported_in(base.get(), scope),
         ),
         Expr::Parenthesized(_, inner) => unsupported_in(inner.get(), scope),

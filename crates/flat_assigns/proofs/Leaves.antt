@@ -14,7 +14,7 @@ use Rattle.vlog_meaning.specs.declared.shapes.Shape.{Shape}
 use Rattle.vlog_meaning.specs.Answers.{least, earlier}
 use Rattle.vlog_meaning.specs.Integers.{bound_integer}
 use Rattle.vlog_meaning.specs.Scopes.{Names, nothing}
-use Rattle.vlog_meaning.specs.Senses.{sense, own, constant_faults, constant_integer, IsWhole}
+use Rattle.vlog_meaning.specs.Senses.{sense, constant_faults, constant_integer, IsWhole}
 use Rattle.vlog_meaning.proofs.Blanks.{left_nil}
 use Rattle.vlog_meaning.proofs.Whole.{whole_part}
 use Rattle.vlog_effects.specs.LeftSides.{Part, Select, Whole, Bit, Range, Indexed, Vector, part_vector, parts_of, select_base, select_width, vector_of}
@@ -74,14 +74,14 @@ pub indexed_index : (names : Names) (left : LeftSide) (n : Identifier) (index fo
 indexed_index names left n index form a t r (s, h, part) same e told is none =
     index_whole names n s index h (left_nil (sense names (form_of n s)).faults (target_faults names (record { name = n; select = s })) (indexed_free names left n s index form a t r h part same e told is none))
 
-index_base : (names : Names) (s : Select) (index : Expr) (v : Vector) → HasIndex s index → pos (own nothing (sense names index)) ≡ select_base names nothing v s
+index_base : (names : Names) (s : Select) (index : Expr) (v : Vector) → HasIndex s index → constant_integer (sense names index) ≡ select_base names nothing v s
 index_base names Whole index v h = absurd h
 index_base names (Range at msb lsb) index v h = absurd h
-index_base names (Bit at i) index v h = ap (λ (x : Expr). pos (own nothing (sense names x))) (sym h)
-index_base names (Indexed at base count) index v h = ap (λ (x : Expr). pos (own nothing (sense names x))) (sym h)
+index_base names (Bit at i) index v h = ap (λ (x : Expr). constant_integer (sense names x)) (sym h)
+index_base names (Indexed at base count) index v h = ap (λ (x : Expr). constant_integer (sense names x)) (sym h)
 
 pub indexed_kept : (names : Names) (old new : List Kept) (left : LeftSide) (n : Identifier) (index form : Expr) (a t r : Option Fault) (base : Bound) (size : Shape) (kept : Option Kept) → IsIndexed left n index → form ≡ same_form left → a ≡ least (sense names form).faults → t ≡ least (constant_target n.span (names n.name) ++ constant_faults (sense names index)) → r ≡ earlier a t → r ≡ None
-    → bound_integer base ≡ pos (own nothing (sense names index)) → size ≡ (sense names form).shape → IsPartOf n.span (vector_of (names n.name)) (λ v. bound_integer base) (λ v. size.width) kept → ((b : Building) → HasSignals names b → AllWithin b kept) → new ≡ old ++ listed kept → IsScanned names old new (parts_of left) t
+    → bound_integer base ≡ constant_integer (sense names index) → size ≡ (sense names form).shape → IsPartOf n.span (vector_of (names n.name)) (λ v. bound_integer base) (λ v. size.width) kept → ((b : Building) → HasSignals names b → AllWithin b kept) → new ≡ old ++ listed kept → IsScanned names old new (parts_of left) t
 indexed_kept names old new left n index form a t r base size kept (s, h, part) same e told is none at wide of within grown =
     let p : Part = record { name = n; select = s } in
     scanned_kept names old new left p t (λ v. bound_integer base) (λ v. size.width) kept part (index_target names n s index t h told) (indexed_free names left n s index form a t r h part same e told is none) of (λ v o. at ∙ index_base names s index v h) (form_size names p form size (same ∙ part.1) wide) within grown

@@ -10,7 +10,7 @@ ghost use Rattle.flat_assigns.specs.Sides.{constant_target};
 
 use crate::slice::Slice;
 use elab_proc::same_form;
-use expr_plans::{bound_of, index_of};
+use expr_plans::bound_of;
 use std::alloc::{AllocError, Global};
 use vlog_meaning::{Cause, Decl, Fault, Scope, constant_fault, earlier, fault_in, shape_of};
 use vlog_syntax::{Expr, Identifier, LeftSide};
@@ -86,7 +86,7 @@ fn indexed(
         Some(_) => Ok(target),
         None => {
             let size = shape_of(&form, scope).width;
-            keep(slices, Slice::of(scope, name, index_of(index, scope), size))?;
+            keep(slices, Slice::of(scope, name, bound_of(index, scope), size))?;
             Ok(target)
         }
     }

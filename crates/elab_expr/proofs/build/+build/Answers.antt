@@ -158,28 +158,28 @@ select-picked-requires-clause-signals t c =
 
 pub select-returns-in_ok-placed-clause-built : goal.select-returns-in_ok-placed-clause-built
 select-returns-in_ok-placed-clause-built t c =
-    place_built (names_of c.args.scope.now) c.args.name.now.name c.args.index.now c.args.span c.args.size c.args.width (bound_integer c.index_of-place.result) c.args.builder.now c.in_ok-placed.field-0 (sym c.is_constant.ensures ∙ c.if-is_constant.true) c.index_of-place.ensures.value c.in_ok-placed.ensures.holds
+    place_built (names_of c.args.scope.now) c.args.name.now.name c.args.index.now c.args.span c.args.size c.args.width (bound_integer c.bound_of-place.result) c.args.builder.now c.in_ok-placed.field-0 (sym c.is_constant.ensures ∙ c.if-is_constant.true) c.bound_of-place.ensures.value c.in_ok-placed.ensures.holds
 
 pub select-returns-in_ok-at-clause-built : goal.select-returns-in_ok-at-clause-built
 select-returns-in_ok-at-clause-built t c =
     let names = names_of c.args.scope.now in
     let x = c.args.index.now in
     let n = c.args.name.now.name in
-    IfOk-weaker c.picked.result _ _ (λ y b. pick_built names n x c.args.span c.args.size c.shape_of.result c.args.width c.args.builder.now c.build.new.builder c.picked.new.builder c.in_ok-at.at y (sym c.is_constant.ensures ∙ c.if-is_constant.false) c.requires.from_0 c.shape_of.ensures.shape c.in_ok-at.ensures.built b) c.picked.ensures.adds
+    IfOk-weaker c.picked.result _ _ (λ y b. pick_built names n x c.args.span c.args.size c.shape_of-own.result c.args.width c.args.builder.now c.build.new.builder c.picked.new.builder c.in_ok-at.at y (sym c.is_constant.ensures ∙ c.if-is_constant.false) c.requires.from_0 c.requires.one (signals_kept names c.args.builder.now c.build.new.builder c.in_ok-at.ensures.built.grows c.requires.signals n) c.requires.name c.shape_of-own.ensures.sized c.shape_of-own.ensures.shape c.in_ok-at.ensures.built b) c.picked.ensures.adds
 
 pub select-returns-in_err-at-clause-short : goal.select-returns-in_err-at-clause-short
 select-returns-in_err-at-clause-short t c =
     let names = names_of c.args.scope.now in
     let x = c.args.index.now in
     let n = c.args.name.now.name in
-    same_err c.from_residual-in_err-at.result c.in_err-at.field-0.0 _ c.from_residual-in_err-at.ensures.1 (same_short (length c.args.builder.now.cells) _ _ _ (pick_cells_are names n x c.args.span c.args.size c.shape_of.result c.shape_of.result.width (sym c.is_constant.ensures ∙ c.if-is_constant.false) c.shape_of.ensures.shape refl) (short_before _ _ _ _ c.in_err-at.ensures.short))
+    same_err c.from_residual-in_err-at.result c.in_err-at.field-0.0 _ c.from_residual-in_err-at.ensures.1 (same_short (length c.args.builder.now.cells) _ _ _ (pick_cells_are names n x c.args.span c.args.size c.shape_of-own.result (index_width c.shape_of-own.result) (sym c.is_constant.ensures ∙ c.if-is_constant.false) c.shape_of-own.ensures.shape refl) (short_before _ _ _ _ c.in_err-at.ensures.short))
 
 pub select-returns-in_ok-at-clause-short : goal.select-returns-in_ok-at-clause-short
 select-returns-in_ok-at-clause-short t c =
     let names = names_of c.args.scope.now in
     let x = c.args.index.now in
     let n = c.args.name.now.name in
-    IfErr-weaker c.picked.result _ _ (λ e h. same_short (length c.args.builder.now.cells) _ _ e (pick_cells_are names n x c.args.span c.args.size c.shape_of.result c.shape_of.result.width (sym c.is_constant.ensures ∙ c.if-is_constant.false) c.shape_of.ensures.shape refl) (short_after c.args.builder.now c.build.new.builder c.in_ok-at.at _ _ _ _ e c.in_ok-at.ensures.built h)) c.picked.ensures.short
+    IfErr-weaker c.picked.result _ _ (λ e h. same_short (length c.args.builder.now.cells) _ _ e (pick_cells_are names n x c.args.span c.args.size c.shape_of-own.result (index_width c.shape_of-own.result) (sym c.is_constant.ensures ∙ c.if-is_constant.false) c.shape_of-own.ensures.shape refl) (short_after c.args.builder.now c.build.new.builder c.in_ok-at.at _ _ _ _ e c.in_ok-at.ensures.built h)) c.picked.ensures.short
 
 pub concatenation-loop-part-init : goal.concatenation-loop-part-init
 concatenation-loop-part-init t c =
@@ -237,7 +237,7 @@ build_parts-returns-in_ok-named-in-Name-clause-built t c =
 pub build_parts-select-requires : goal.build_parts-select-requires
 build_parts-select-requires t c =
     let names = names_of c.args.scope.now in
-    (search (rules, the_lemmas), (rw c.get.ensures (whole.whole_index names c.args.expr.now c.in-BitSelect.name c.in-BitSelect.span c.in-BitSelect.index c.in-BitSelect.is c.requires.whole), (rw c.get.ensures (fact.bit_parts names c.args.expr.now c.args.context c.in-BitSelect.name c.in-BitSelect.span c.in-BitSelect.index c.in-BitSelect.is c.requires.supported).1, (rw c.get.ensures (fact.bit_parts names c.args.expr.now c.args.context c.in-BitSelect.name c.in-BitSelect.span c.in-BitSelect.index c.in-BitSelect.is c.requires.supported).0, (fact.bit_name names c.args.expr.now c.args.context c.in-BitSelect.name c.in-BitSelect.span c.in-BitSelect.index c.in-BitSelect.is c.requires.whole, (omega arith, (fact.bit_wide names c.args.expr.now c.args.context c.in-BitSelect.name c.in-BitSelect.span c.in-BitSelect.index c.in-BitSelect.is c.requires.context, (c.requires.context.narrow, c.requires.signals))))))))
+    (search (rules, the_lemmas), (rw c.get.ensures (whole.whole_index names c.args.expr.now c.in-BitSelect.name c.in-BitSelect.span c.in-BitSelect.index c.in-BitSelect.is c.requires.whole), (rw c.get.ensures (fact.bit_parts names c.args.expr.now c.args.context c.in-BitSelect.name c.in-BitSelect.span c.in-BitSelect.index c.in-BitSelect.is c.requires.supported).1, (rw c.get.ensures (fact.bit_parts names c.args.expr.now c.args.context c.in-BitSelect.name c.in-BitSelect.span c.in-BitSelect.index c.in-BitSelect.is c.requires.supported).0, ((λ signed varies. refl), (fact.bit_name names c.args.expr.now c.args.context c.in-BitSelect.name c.in-BitSelect.span c.in-BitSelect.index c.in-BitSelect.is c.requires.whole, (omega arith, (fact.bit_wide names c.args.expr.now c.args.context c.in-BitSelect.name c.in-BitSelect.span c.in-BitSelect.index c.in-BitSelect.is c.requires.context, (c.requires.context.narrow, c.requires.signals)))))))))
 
 pub build_parts-returns-in-BitSelect-clause-built : goal.build_parts-returns-in-BitSelect-clause-built
 build_parts-returns-in-BitSelect-clause-built t c =
@@ -267,7 +267,7 @@ build_parts-count_of-size-requires-clause-whole t c =
 pub build_parts-select-requires-in-IndexedPartSelect : goal.build_parts-select-requires-in-IndexedPartSelect
 build_parts-select-requires-in-IndexedPartSelect t c =
     let names = names_of c.args.scope.now in
-    (search (rules, the_lemmas), (rw c.get-in-IndexedPartSelect-2.ensures (whole.whole_indexed names c.args.expr.now c.in-IndexedPartSelect.name c.in-IndexedPartSelect.span c.in-IndexedPartSelect.base c.in-IndexedPartSelect.width c.in-IndexedPartSelect.is c.requires.whole).base, (rw c.get-in-IndexedPartSelect-2.ensures (fact.indexed_parts names c.args.expr.now c.args.context c.in-IndexedPartSelect.name c.in-IndexedPartSelect.span c.in-IndexedPartSelect.base c.in-IndexedPartSelect.width c.in-IndexedPartSelect.is c.requires.supported).1, (rw c.get-in-IndexedPartSelect-2.ensures (fact.indexed_parts names c.args.expr.now c.args.context c.in-IndexedPartSelect.name c.in-IndexedPartSelect.span c.in-IndexedPartSelect.base c.in-IndexedPartSelect.width c.in-IndexedPartSelect.is c.requires.supported).0, (fact.indexed_name names c.args.expr.now c.args.context c.in-IndexedPartSelect.name c.in-IndexedPartSelect.span c.in-IndexedPartSelect.base c.in-IndexedPartSelect.width c.in-IndexedPartSelect.is c.requires.whole, (rw (rw c.get-in-IndexedPartSelect.ensures at c.count_of-size.ensures) (whole.whole_indexed names c.args.expr.now c.in-IndexedPartSelect.name c.in-IndexedPartSelect.span c.in-IndexedPartSelect.base c.in-IndexedPartSelect.width c.in-IndexedPartSelect.is c.requires.whole).some, (rw (rw c.get-in-IndexedPartSelect.ensures at c.count_of-size.ensures) (fact.indexed_wide names c.args.expr.now c.args.context c.in-IndexedPartSelect.name c.in-IndexedPartSelect.span c.in-IndexedPartSelect.base c.in-IndexedPartSelect.width c.in-IndexedPartSelect.is c.requires.context), (c.requires.context.narrow, c.requires.signals))))))))
+    (search (rules, the_lemmas), (rw c.get-in-IndexedPartSelect-2.ensures (whole.whole_indexed names c.args.expr.now c.in-IndexedPartSelect.name c.in-IndexedPartSelect.span c.in-IndexedPartSelect.base c.in-IndexedPartSelect.width c.in-IndexedPartSelect.is c.requires.whole).base, (rw c.get-in-IndexedPartSelect-2.ensures (fact.indexed_parts names c.args.expr.now c.args.context c.in-IndexedPartSelect.name c.in-IndexedPartSelect.span c.in-IndexedPartSelect.base c.in-IndexedPartSelect.width c.in-IndexedPartSelect.is c.requires.supported).1, (rw c.get-in-IndexedPartSelect-2.ensures (fact.indexed_parts names c.args.expr.now c.args.context c.in-IndexedPartSelect.name c.in-IndexedPartSelect.span c.in-IndexedPartSelect.base c.in-IndexedPartSelect.width c.in-IndexedPartSelect.is c.requires.supported).0, (rw c.get-in-IndexedPartSelect-2.ensures (fact.indexed_one names c.args.expr.now c.args.context c.in-IndexedPartSelect.name c.in-IndexedPartSelect.span c.in-IndexedPartSelect.base c.in-IndexedPartSelect.width c.in-IndexedPartSelect.is c.count_of-size.result c.requires.supported (whole.whole_indexed names c.args.expr.now c.in-IndexedPartSelect.name c.in-IndexedPartSelect.span c.in-IndexedPartSelect.base c.in-IndexedPartSelect.width c.in-IndexedPartSelect.is c.requires.whole).base), (fact.indexed_name names c.args.expr.now c.args.context c.in-IndexedPartSelect.name c.in-IndexedPartSelect.span c.in-IndexedPartSelect.base c.in-IndexedPartSelect.width c.in-IndexedPartSelect.is c.requires.whole, (rw (rw c.get-in-IndexedPartSelect.ensures at c.count_of-size.ensures) (whole.whole_indexed names c.args.expr.now c.in-IndexedPartSelect.name c.in-IndexedPartSelect.span c.in-IndexedPartSelect.base c.in-IndexedPartSelect.width c.in-IndexedPartSelect.is c.requires.whole).some, (rw (rw c.get-in-IndexedPartSelect.ensures at c.count_of-size.ensures) (fact.indexed_wide names c.args.expr.now c.args.context c.in-IndexedPartSelect.name c.in-IndexedPartSelect.span c.in-IndexedPartSelect.base c.in-IndexedPartSelect.width c.in-IndexedPartSelect.is c.requires.context), (c.requires.context.narrow, c.requires.signals)))))))))
 
 pub build_parts-returns-in-IndexedPartSelect-clause-built : goal.build_parts-returns-in-IndexedPartSelect-clause-built
 build_parts-returns-in-IndexedPartSelect-clause-built t c =
@@ -415,12 +415,12 @@ conditional-returns-clause-laid t c =
 pub select-returns-in_ok-placed-clause-laid : goal.select-returns-in_ok-placed-clause-laid
 select-returns-in_ok-placed-clause-laid t c =
     let names = names_of c.args.scope.now in
-    net.place_laid names (names c.args.name.now.name) c.args.index.now c.args.span c.args.size c.args.width c.args.builder.now (bound_integer c.index_of-place.result) c.in_ok-placed.field-0 (sym c.is_constant.ensures ∙ c.if-is_constant.true) c.index_of-place.ensures.value c.in_ok-placed.ensures.is
+    net.place_laid names (names c.args.name.now.name) c.args.index.now c.args.span c.args.size c.args.width c.args.builder.now (bound_integer c.bound_of-place.result) c.in_ok-placed.field-0 (sym c.is_constant.ensures ∙ c.if-is_constant.true) c.bound_of-place.ensures.value c.in_ok-placed.ensures.is
 
 pub select-returns-in_ok-at-clause-laid : goal.select-returns-in_ok-at-clause-laid
 select-returns-in_ok-at-clause-laid t c =
     let names = names_of c.args.scope.now in
-    IfOk-weaker c.picked.result _ _ (λ y b. net.pick_laid names (names c.args.name.now.name) c.args.index.now c.args.span c.args.size c.args.width c.args.builder.now c.shape_of.result c.build.new.builder c.picked.new.builder c.in_ok-at.at y (sym c.is_constant.ensures ∙ c.if-is_constant.false) c.shape_of.ensures.shape c.in_ok-at.ensures.laid b) c.picked.ensures.laid
+    IfOk-weaker c.picked.result _ _ (λ y b. net.pick_laid names (names c.args.name.now.name) c.args.index.now c.args.span c.args.size c.args.width c.args.builder.now c.shape_of-own.result c.build.new.builder c.picked.new.builder c.in_ok-at.at y (sym c.is_constant.ensures ∙ c.if-is_constant.false) c.shape_of-own.ensures.shape c.in_ok-at.ensures.laid b) c.picked.ensures.laid
 
 pub concatenation-returns-clause-laid : goal.concatenation-returns-clause-laid
 concatenation-returns-clause-laid t c = rw (take_all c.loop-part.part-index c.args.parts.now (omega arith)) at c.loop-part.invariant.laid

@@ -11,10 +11,10 @@ pub shape_of-size-requires-in-None : goal.shape_of-size-requires-in-None
 shape_of-size-requires-in-None c =
     indexed_form (names_of c.args.scope.now) c.args.left.now c.args.name.now c.args.index.now c.in_ok-form.form c.fault_in.result c.index_target-target.result c.earlier.result c.requires c.in_ok-form.ensures c.fault_in.ensures c.index_target-target.ensures c.earlier.ensures.earlier c.in-None.is
 
-pub index_of-requires : goal.index_of-requires
-index_of-requires c =
+pub bound_of-requires : goal.bound_of-requires
+bound_of-requires c =
     indexed_index (names_of c.args.scope.now) c.args.left.now c.args.name.now c.args.index.now c.in_ok-form.form c.fault_in.result c.index_target-target.result c.earlier.result c.requires c.in_ok-form.ensures c.fault_in.ensures c.index_target-target.ensures c.earlier.ensures.earlier c.in-None.is
 
 pub returns : goal.returns
 returns c =
-    indexed_kept (names_of c.args.scope.now) c.args.slices.now.items c.keep.new.slices.items c.args.left.now c.args.name.now c.args.index.now c.in_ok-form.form c.fault_in.result c.index_target-target.result c.earlier.result c.index_of.result c.shape_of-size.result c.of.result c.requires c.in_ok-form.ensures c.fault_in.ensures c.index_target-target.ensures c.earlier.ensures.earlier c.in-None.is c.index_of.ensures.value c.shape_of-size.ensures.shape c.of.ensures.part c.of.ensures.inside c.in_ok-keep-in-None.ensures
+    indexed_kept (names_of c.args.scope.now) c.args.slices.now.items c.keep.new.slices.items c.args.left.now c.args.name.now c.args.index.now c.in_ok-form.form c.fault_in.result c.index_target-target.result c.earlier.result c.bound_of.result c.shape_of-size.result c.of.result c.requires c.in_ok-form.ensures c.fault_in.ensures c.index_target-target.ensures c.earlier.ensures.earlier c.in-None.is c.bound_of.ensures.value c.shape_of-size.ensures.shape c.of.ensures.part c.of.ensures.inside c.in_ok-keep-in-None.ensures
