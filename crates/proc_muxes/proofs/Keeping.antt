@@ -26,7 +26,7 @@ grows-same a b e = subst (Grows a) (sym e) (grows_not a)
 
 pub grows-index : (names : Names) (i : Option Index) (a b : Building) (index : List Bit) → BuildsIndex names i a b index → Grows a b
 grows-index names None a b index f = grows-same a b f.0
-grows-index names (Some i) a b index f = f.0.grows
+grows-index names (Some i) a b index f = f.1.grows
 
 pub grows-indices : (names : Names) (ps : List Part) (a b : Building) (indices : List (List Bit)) → BuildsIndices names ps a b indices → Grows a b
 grows-indices names [] a b indices f = grows-same a b f.0

@@ -15,7 +15,7 @@ use Rattle.vlog_effects.specs.Latches.{Target, targets, arms_targets}
 use Rattle.vlog_effects.specs.Steps.{Assigning, Test, Selection, Steps, Done, Assign, Choose, Case, Refuse, Arms, Otherwise, Arm, dont_care}
 use Rattle.net_builder.specs.Building.{Building, fresh_bits}
 use Rattle.net_builder.specs.declared.error.ElabError.{ElabError}
-use Rattle.elab_expr.specs.Laid.{Laid, showing, cell, reduced}
+use Rattle.elab_expr.specs.Laid.{Laid, showing, cell, reduced, index_bits}
 use Rattle.proc_muxes.specs.declared.change.Change.{Change}
 use Rattle.proc_muxes.specs.declared.choice.Choice.{Choice}
 use Rattle.proc_muxes.specs.Builds.{Work, held, with_held, Index, variable_index, BuildsIndex, BuildsIndices, PutsBits, PutsPart, PutsParts, BuildsAssign, BuildsBit, BuildsTest, distinct, choices, Chooses, ChoosesAll, restored, kept, mattering, BuildsEqual, BuildsLabel, BuildsMore, BuildsMatch, Builds, BuildsArms}
@@ -26,7 +26,7 @@ use Rattle.proc_muxes.specs.Working.{Built}
 
 index-laid : (names : Names) (i : Option Index) (a b : Building) (index : List Bit) → BuildsIndex names i a b index → showing b index ≡ lay_index names i a
 index-laid names None a b index f = λ j. showing (f.0 j) (f.1 j)
-index-laid names (Some i) a b index f = f.1
+index-laid names (Some i) a b index f = ap (showing b) f.3 ∙ ap (λ (l : Laid). showing l.after (index_bits (sense names i.expr).shape l.bits)) f.2
 
 abbrev laid : Building → List (List Bit) → LaidIndices
 laid b indices = record { after = b; bits = indices }

@@ -1,5 +1,5 @@
 -- The pieces of a left side, with the cells of its indices.
-use Rattle.std.proofs.Common.{◌≡◌, ℕ, zero, suc, ◌+◌, ◌<◌, ◌≤◌, pos, false, List, [], ◌∷◌, ◌++◌, map, take, length, get_or, Option, Some, None, refl, sym, ◌∙◌, ap, subst, arith, append-nil, append_assoc}
+use Rattle.std.proofs.Common.{◌≡◌, ℕ, zero, suc, ◌+◌, ◌<◌, ◌≤◌, false, List, [], ◌∷◌, ◌++◌, map, take, length, get_or, Option, Some, None, refl, sym, ◌∙◌, ap, subst, arith, append-nil, append_assoc}
 use Rattle.std.proofs.lemmas.List.{map-append}
 use Rattle.mcy_base.specs.declared.span.Span.{Span}
 use Rattle.netlist_core.specs.declared.bit.Bit.{Bit}
@@ -7,13 +7,16 @@ use Rattle.vlog_syntax.specs.declared.expr.Expr.{Expr}
 use Rattle.vlog_syntax.specs.declared.identifier.Identifier.{Identifier}
 use Rattle.vlog_syntax.specs.declared.left_side.LeftSide.{LeftSide}
 use Rattle.vlog_meaning.specs.Scopes.{Names, nothing}
-use Rattle.vlog_meaning.specs.Senses.{sense, own}
+use Rattle.vlog_meaning.specs.declared.shapes.Shape.{Shape}
+use Rattle.vlog_meaning.specs.Senses.{sense, constant_integer}
 use Rattle.vlog_effects.specs.Expressions.{is_constant}
 use Rattle.vlog_effects.specs.LeftSides.{Bit as BitOf, Indexed, Part, Vector, part_vector, parts_of, parts_width, select_base, select_width, concatenated}
-use Rattle.net_builder.specs.Building.{Building, Grows, HasSignals}
+use Rattle.net_builder.specs.Building.{AllBelow, Building, Grows, HasSignals}
 use Rattle.elab_expr.specs.Evaluates.{Evaluates}
 use Rattle.elab_expr.specs.Expressions.{refusals}
-use Rattle.expr_plans.specs.Made.{made}
+use Rattle.expr_plans.specs.Made.{made, index_width}
+use Rattle.expr_plans.proofs.Indices.{index_wide, index_narrow}
+use Rattle.elab_expr.specs.Laid.{index_bits as at_cell}
 use Rattle.net_builder.specs.Refusals.{IsShort}
 use Rattle.net_builder.specs.declared.error.ElabError.{ElabError}
 use Rattle.elab_expr.proofs.Growing.{count, more_short, signals_kept}
@@ -32,19 +35,22 @@ use Rattle.proc_muxes.proofs.Keeping.{grows-indices}
 index-some : (names : Names) (span : Span) (i : Expr) → is_constant names i ≡ false → index_at names span i ≡ Some (record { place = span; expr = i })
 index-some names span i e = rw e refl
 
-pub placed-variable : (names : Names) (span : Span) (i : Expr) (a b : Building) (bits : List Bit) → is_constant names i ≡ false → 1 ≤ (sense names i).shape.width → (sense names i).shape.width ≤ 128 → Evaluates names i (sense names i).shape a b bits → IsLaid names i (sense names i).shape a b bits → IsPlaced names span i a b (At bits span)
-placed-variable names span i a b bits e some narrow f laid =
+pub placed-variable : (names : Names) (span : Span) (i : Expr) (a b : Building) (bits index : List Bit) → is_constant names i ≡ false → 1 ≤ (sense names i).shape.width → (sense names i).shape.width ≤ 128 → Evaluates names i (sense names i).shape a b bits → IsLaid names i (sense names i).shape a b bits
+    → index ≡ at_cell (sense names i).shape bits → length index ≡ index_width (sense names i).shape → ((n : ℕ) → AllBelow n bits → AllBelow n index) → IsPlaced names span i a b (At index span)
+placed-variable names span i a b bits index e some narrow f laid shown long below =
     let j : Index = record { place = span; expr = i } in
     let is : Some j ≡ index_at names span i = sym (index-some names span i e) in
+    let s : Shape = (sense names i).shape in
+    let wide : 1 ≤ index_width s = let w = index_wide s in omega arith in
     record {
-      is = subst (λ (o : Option Index). IsPlace o (pos (own nothing (sense names i))) (At bits span)) is refl;
-      fit = λ low h. (h j (sym is), (subst (λ (n : ℕ). 1 ≤ n) (sym f.long) some, subst (λ (n : ℕ). n ≤ 128) (sym f.long) narrow, f.below));
-      built = subst (λ (o : Option Index). BuildsIndex names o a b bits) is (f, laid);
+      is = subst (λ (o : Option Index). IsPlace o (constant_integer (sense names i)) (At index span)) is refl;
+      fit = λ low h. (h j (sym is), (subst (λ (n : ℕ). 1 ≤ n) (sym long) wide, subst (λ (n : ℕ). n ≤ 128) (sym long) (index_narrow s narrow), below b.nets f.below));
+      built = subst (λ (o : Option Index). BuildsIndex names o a b index) is (bits, f, laid, shown, some);
     }
 
 pub index-counted : (names : Names) (i : Option Index) (a b : Building) (bits : List Bit) → BuildsIndex names i a b bits → length b.cells ≡ length a.cells + index_cells names i
 index-counted names None a b bits f = ap (λ (m : Building). length m.cells) f.0 ∙ omega arith
-index-counted names (Some i) a b bits f = count a b bits _ _ (made names i.expr (sense names i.expr).shape) f.0
+index-counted names (Some i) a b bits f = count a b f.0 _ _ (made names i.expr (sense names i.expr).shape) f.1
 
 -- One part.
 
@@ -55,7 +61,7 @@ pub makes : (names : Names) (p : Part) (a b : Building) (x : Piece) → CanWrite
 makes names p a b x can vector size place fit built =
     let same : can.0 ≡ vector_at x = same-vector (part_vector names p) can.0 (vector_at x) can.1.vector vector in
     record {
-      piece = record { vector = vector; size = size; place = place };
+      piece = record { vector = vector; size = size; place = place; plain = can.1.plain };
       fit = record {
         some = subst (λ (k : ℕ). 1 ≤ k) size (subst (λ (v : Vector). 1 ≤ select_width names v p.select) same can.1.some);
         narrow = subst (λ (k : ℕ). k ≤ 128) size (subst (λ (v : Vector). select_width names v p.select ≤ 128) same can.1.narrow);

@@ -1,8 +1,9 @@
 -- A put lays bits at an index.
-use Rattle.std.proofs.Common.{◌≡◌, ℕ, zero, suc, ◌+◌, ◌-◌, ◌<◌, ◌≤◌, pos, Bool, ◌&&◌, List, [], ◌∷◌, length, Some, None, nat_lt, nat_le, set, refl, sym, ◌∙◌, ap, inl, inr, arith, suc-add, add-one}
+use Rattle.std.proofs.Common.{◌≡◌, ◌⊎◌, ℕ, zero, suc, ◌+◌, ◌-◌, ◌<◌, ◌≤◌, ◌^◌, ℤ, pos, Bool, true, false, ◌&&◌, List, [], ◌∷◌, ◌++◌, length, replicate, Option, Some, None, nat_lt, nat_le, set, refl, sym, ◌∙◌, ap, inl, inr, arith, suc-add, add-one, length-append}
 use Rattle.std.specs.Prelude.{if◌then◌else◌}
 use Rattle.std.proofs.Math.Seq.{take-length}
-use Rattle.std.proofs.lemmas.List.{length-map, length-set}
+use Rattle.std.proofs.lemmas.List.{length-map, length-set, length-replicate}
+use Rattle.std.proofs.lemmas.Bool.{leb-true}
 use Rattle.std.proofs.lemmas.Bool.Decides.{leb_tells}
 use Rattle.mcy_base.specs.declared.span.Span.{Span}
 use Rattle.netlist_core.specs.declared.bit.Bit.{Bit}
@@ -10,9 +11,19 @@ use Rattle.netlist_core.specs.declared.cell.CellKind.TheVariants.{Put}
 use Rattle.netlist_core.specs.Numbers.{number}
 use Rattle.netlist_core.specs.Cells.{laid_at}
 use Rattle.netlist_core.specs.Runs.{Nets, bit_value, values}
+use Rattle.vlog_meaning.specs.declared.shapes.Shape.{Shape}
+use Rattle.vlog_meaning.specs.Integers.{is_negative, integer, extended}
+use Rattle.vlog_meaning.proofs.Powers.{power_le}
+use Rattle.vlog_meaning.proofs.Signs.{extended_negative, extended_positive, integer_negative, integer_positive}
 use Rattle.vlog_effects.specs.Expressions.{bits_of}
 use Rattle.vlog_effects.specs.LeftSides.{Vector, bit_at, bits_from, written}
+use Rattle.vlog_effects.proofs.Bools.{and-left, and-right}
 use Rattle.net_builder.specs.Building.{Building, RunsIn, fresh_bits}
+use Rattle.expr_plans.specs.Made.{index_width}
+use Rattle.expr_plans.proofs.Indices.{index_wide}
+use Rattle.elab_expr.specs.Laid.{index_bits}
+use Rattle.elab_expr.specs.Wiring.{fill_bit}
+use Rattle.elab_expr.proofs.Extensions.{extended_is}
 use Rattle.proc_muxes.specs.Builds.{AddsCell}
 use Rattle.proc_muxes.proofs.Bits.{bits_of-number}
 use Rattle.proc_muxes.proofs.Gates.{cell-values}
@@ -102,3 +113,46 @@ put-values a b xs index bits v at nets f runs long low =
     let lays : written (values nets xs) (bits_from v (pos n) (length (values nets bits))) (values nets bits) ≡ lay (values nets xs) n (values nets bits) = written-lays v (values nets xs) n (values nets bits) low wide in
     let same : length (values nets bits) ≡ length bits = length-map bits (bit_value nets) in
     cell-values a b Put (xs ∷ index ∷ bits ∷ []) v.width at nets f runs ∙ put-bits v.width (values nets xs) n (values nets bits) wide ∙ sym lays ∙ rw same refl
+
+-- An index as a cell has it names the same bits.
+
+pub index-value : (nets : Nets) (s : Shape) (bits : List Bit) → length bits ≡ s.width → 1 ≤ s.width → number (values nets (index_bits s bits)) ≡ extended s (index_width s) (number (values nets bits))
+index-value nets s bits long some =
+    let w : ℕ = index_width s in
+    let fill : Bit = fill_bit bits s.is_signed in
+    let wide : s.width ≤ w = index_wide s in
+    let whole : length (index_bits s bits) ≡ w = length-append bits (replicate (w - length bits) fill) ∙ ap (λ (k : ℕ). length bits + k) (length-replicate (w - length bits) fill) ∙ omega arith in
+    extended_is nets bits (index_bits s bits) w s.is_signed fill (omega arith) (omega arith) refl whole (ap (λ (k : ℕ). bits ++ replicate (k - length bits) fill) (sym whole))
+    ∙ ap (λ (k : ℕ). extended (record { width = k; is_signed = s.is_signed }) w (number (values nets bits))) long
+
+-- an index below 0 has a number that no vector reaches
+far : (s : Shape) (n : ℕ) → s.is_signed && nat_le (2 ^ (s.width - 1)) n ≡ true → 256 ≤ n + (2 ^ index_width s - 2 ^ s.width)
+far s n e =
+    let signed : s.is_signed ≡ true = and-left s.is_signed _ e in
+    let high : 2 ^ (s.width - 1) ≤ n = leb-true (2 ^ (s.width - 1)) n (and-right s.is_signed _ e) in
+    elim (leb_tells (suc s.width) 9) [
+      | inl a ↦
+          let small : 2 ^ s.width ≤ 2 ^ 8 = power_le s.width 8 (let h = a.1 in omega arith) in
+          let wide : index_width s ≡ 9 = rw (signed, a.0) refl in
+          rw wide (omega arith)
+      | inr a ↦
+          let great : 2 ^ 8 ≤ 2 ^ (s.width - 1) = power_le 8 (s.width - 1) (let h = a.1 in omega arith) in
+          let wide : index_width s ≡ s.width = rw (signed, a.0) refl in
+          rw wide (omega arith)
+    ]
+
+differ : (b : Bool) → b ≡ true → b ≡ false → ⊥
+differ true e f = cc
+differ false e f = cc
+
+pub shown-places : (v : Vector) (s : Shape) (n count : ℕ) → v.low ≡ 0 → v.width ≤ 128 → 1 ≤ s.width → n < 2 ^ s.width → (s.is_signed ≡ false) ⊎ (count ≡ 1) → bits_from v (pos (extended s (index_width s) n)) count ≡ bits_from v (integer s n) count
+shown-places v s n count low narrow some fits plain = go (is_negative s n) refl plain where
+  go : (b : Bool) → is_negative s n ≡ b → (s.is_signed ≡ false) ⊎ (count ≡ 1) → bits_from v (pos (extended s (index_width s) n)) count ≡ bits_from v (integer s n) count
+  go false e p = ap (λ (k : ℕ). bits_from v (pos k) count) (extended_positive s (index_width s) n e fits (index_wide s)) ∙ ap (λ (z : ℤ). bits_from v z count) (sym (integer_positive s n e))
+  go true e (inl unsigned) = absurd (differ s.is_signed (and-left s.is_signed _ e) unsigned)
+  go true e (inr one) =
+      let beyond : 256 ≤ n + (2 ^ index_width s - 2 ^ s.width) = far s n e in
+      let shown : extended s (index_width s) n ≡ n + (2 ^ index_width s - 2 ^ s.width) = extended_negative s (index_width s) n e fits (index_wide s) in
+      let outside : bit_at v (pos (extended s (index_width s) n)) ≡ None = out-of-range v.low v.width (extended s (index_width s) n) low (omega (arith, beyond, shown, narrow)) in
+      let none : bits_from v (pos (extended s (index_width s) n)) 1 ≡ None ∷ [] = ap (λ (o : Option ℕ). o ∷ []) outside in
+      ap (bits_from v (pos (extended s (index_width s) n))) one ∙ none ∙ sym (ap (bits_from v (integer s n)) one ∙ ap (λ (z : ℤ). bits_from v z 1) (integer_negative s n e fits))

@@ -1,5 +1,5 @@
 -- In every run of the builder, what it has for the variables of a process are the values of the process's effect.
-use Rattle.std.proofs.Common.{◌≡◌, ℕ, ◌+◌, ◌-◌, ◌*◌, ◌<◌, ◌≤◌, max, pos, Bool, true, false, not, ◌&&◌, ◌||◌, List, [], ◌∷◌, ◌++◌, take, drop, length, Option, Some, None, nat_eq, refl, sym, ◌∙◌, ap, subst, inl, inr, arith}
+use Rattle.std.proofs.Common.{◌≡◌, ◌⊎◌, ℕ, ◌+◌, ◌-◌, ◌*◌, ◌^◌, ◌<◌, ◌≤◌, max, pos, Bool, true, false, not, ◌&&◌, ◌||◌, List, [], ◌∷◌, ◌++◌, take, drop, length, Option, Some, None, nat_eq, refl, sym, ◌∙◌, ap, subst, inl, inr, arith}
 use Rattle.std.specs.Prelude.{if◌then◌else◌}
 use Rattle.std.specs.List.{take-map, drop-map}
 use Rattle.std.proofs.lemmas.List.{length-take-le, length-drop}
@@ -12,7 +12,8 @@ use Rattle.vlog_syntax.specs.Places.{first_token}
 use Rattle.vlog_syntax.specs.declared.expr.Expr.{Expr}
 use Rattle.vlog_meaning.specs.declared.shapes.Shape.{Shape}
 use Rattle.vlog_meaning.specs.Scopes.{Names, Store, nothing}
-use Rattle.vlog_meaning.specs.Senses.{sense, own, assigned as assigned_shape}
+use Rattle.vlog_meaning.specs.Integers.{integer, extended}
+use Rattle.vlog_meaning.specs.Senses.{sense, own, index_of, assigned as assigned_shape}
 use Rattle.vlog_effects.specs.Expressions.{width_of, is_signed_of, value, is_constant, bits_of}
 use Rattle.vlog_effects.specs.LeftSides.{Select, Whole, Bit as BitOf, Range, Indexed, Part, Vector, parts_of, part_vector, part_width, width_by, parts_width, select_width, bits_from, places, written}
 use Rattle.vlog_effects.specs.Steps.{Assigning, Test, Selection, Done, Assign, Choose, Case, Refuse, Arms, Otherwise, Arm, dont_care}
@@ -21,16 +22,18 @@ use Rattle.vlog_effects.specs.Latches.{Target, targets, arms_targets, part_targe
 use Rattle.vlog_effects.proofs.Alike.{value-constant}
 use Rattle.vlog_effects.proofs.Bools.{or-left, or-right, and-left, and-right, or-again}
 use Rattle.net_builder.specs.Building.{Building, RunsIn, Grows, AllBelow, fresh_bits, signal, store}
+use Rattle.expr_plans.specs.Made.{index_width}
 use Rattle.elab_expr.specs.Evaluates.{Evaluates}
+use Rattle.elab_expr.proofs.Bits.{number-fits}
 use Rattle.net_builder.proofs.Parts.{runs_before, store_same, below_later, grows_again}
-use Rattle.proc_muxes.specs.Builds.{Work, held, with_held, Index, variable_index, BuildsIndex, BuildsIndices, PutsBits, PutsPart, PutsParts, BuildsAssign, BuildsBit, BuildsTest, stands, distinct, choice_of, choices, Chooses, ChoosesAll, restored, kept, mattering, case_shape, BuildsLabel, BuildsMore, BuildsMatch, BuildsArms}
+use Rattle.proc_muxes.specs.Builds.{Work, held, with_held, Index, variable_index, HasPlainBase, BuildsIndex, BuildsIndices, PutsBits, PutsPart, PutsParts, BuildsAssign, BuildsBit, BuildsTest, stands, distinct, choice_of, choices, Chooses, ChoosesAll, restored, kept, mattering, case_shape, BuildsLabel, BuildsMore, BuildsMatch, BuildsArms}
 use Rattle.proc_muxes.specs.Shows.{Shows, Conforms, Keeps}
 use Rattle.proc_muxes.specs.Laws.{BuildingKeeps, BuildsTheEffect, LeavesTheEffect}
 use Rattle.proc_muxes.proofs.Bits.{number-same, values-are, take-bits_of, length-bits_of, values-written, below-take, below-drop}
 use Rattle.proc_muxes.proofs.Frames.{bit_same-true, number-true, number-false, signal-with, signal-grown, nets-added, runs-before, runs-held, stands-append, stands-distinct, held-grown, signals-grown}
 use Rattle.proc_muxes.proofs.Keeping.{grows-index, grows-indices, grows-bit, grows-equal, grows-label, grows-more, grows-match, keeps-part, keeps-parts, assigned-grows, assigned-below, keeps-choices, keeps, keeps-arms}
 use Rattle.proc_muxes.proofs.Gates.{mux-values, ror-values, equal-values, lor-values, kept-length, kept-agree}
-use Rattle.proc_muxes.proofs.Puts.{put-values}
+use Rattle.proc_muxes.proofs.Puts.{put-values, index-value, shown-places}
 
 -- Updates.
 
@@ -80,7 +83,10 @@ shows-grown nets kinds a mid s g sh = record {
 -- the bits of an index have its value
 abbrev IndexIs : Nets → Names → Values → Option Index → List Bit → Type 0
 IndexIs nets names vals None index = Unit {0}
-IndexIs nets names vals (Some i) index = number (values nets index) ≡ own (numbers vals) (sense names i.expr)
+IndexIs nets names vals (Some i) index =
+    let s = (sense names i.expr).shape in
+    let v = own (numbers vals) (sense names i.expr) in
+    (1 ≤ s.width) × (v < 2 ^ s.width) × (number (values nets index) ≡ extended s (index_width s) v)
 
 abbrev IndicesAre : Nets → Names → Values → List Part → List (List Bit) → Type 0
 IndicesAre nets names vals [] indices = Unit {0}
@@ -89,7 +95,12 @@ IndicesAre nets names vals (p ∷ ps) (index ∷ indices) = IndexIs nets names v
 
 index-is : (nets : Nets) (names : Names) (i : Option Index) (a b : Building) (index : List Bit) (vals : Values) → BuildsIndex names i a b index → RunsIn b nets → store a nets ≡ numbers vals → IndexIs nets names vals i index
 index-is nets names None a b index vals f runs same = tt
-index-is nets names (Some i) a b index vals f runs same = evaluated nets names i.expr (sense names i.expr).shape a b index vals f.0 runs same
+index-is nets names (Some i) a b index vals f runs same =
+    let s : Shape = (sense names i.expr).shape in
+    let bits : List Bit = f.0 in
+    let value : number (values nets bits) ≡ own (numbers vals) (sense names i.expr) = evaluated nets names i.expr s a b bits vals f.1 runs same in
+    let fits : number (values nets bits) < 2 ^ s.width = subst (λ (w : ℕ). number (values nets bits) < 2 ^ w) f.1.long (number-fits nets bits) in
+    (f.4, subst (λ (v : ℕ). v < 2 ^ s.width) value fits, ap (λ (l : List Bit). number (values nets l)) f.3 ∙ index-value nets s bits f.1.long f.4 ∙ ap (extended s (index_width s)) value)
 
 indices-are : (nets : Nets) (names : Names) (ps : List Part) (a b : Building) (indices : List (List Bit)) (vals : Values) → BuildsIndices names ps a b indices → RunsIn b nets → store a nets ≡ numbers vals → IndicesAre nets names vals ps indices
 indices-are nets names [] a b indices vals f runs same = tt
@@ -110,16 +121,23 @@ some-index false i j e = cc
 -- a select without index, or with a constant one, names the same bits at any values
 fixed-places : (names : Names) (v : Vector) (s : Select) (a b : Store) → variable_index names s ≡ None → places names a v s ≡ places names b v s
 fixed-places names v Whole a b e = refl
-fixed-places names v (BitOf at i) a b e = ap (λ (t : ℕ). bits_from v (pos t) 1) (value-constant names i a b (width_of names i) (is_signed_of names i) (no-index (is_constant names i) (record { place = at; expr = i }) e))
+fixed-places names v (BitOf at i) a b e = ap (λ (t : ℕ). bits_from v (integer (sense names i).shape t) 1) (value-constant names i a b (width_of names i) (is_signed_of names i) (no-index (is_constant names i) (record { place = at; expr = i }) e))
 fixed-places names v (Range at msb lsb) a b e = refl
-fixed-places names v (Indexed at base count) a b e = ap (λ (t : ℕ). bits_from v (pos t) (select_width names v (Indexed at base count))) (value-constant names base a b (width_of names base) (is_signed_of names base) (no-index (is_constant names base) (record { place = at; expr = base }) e))
+fixed-places names v (Indexed at base count) a b e = ap (λ (t : ℕ). bits_from v (integer (sense names base).shape t) (select_width names v (Indexed at base count))) (value-constant names base a b (width_of names base) (is_signed_of names base) (no-index (is_constant names base) (record { place = at; expr = base }) e))
 
 -- the places of a select with an index
-index-places : (names : Names) (v : Vector) (s : Select) (i : Index) (vals : Store) → variable_index names s ≡ Some i → places names vals v s ≡ bits_from v (pos (own vals (sense names i.expr))) (select_width names v s)
+index-places : (names : Names) (v : Vector) (s : Select) (i : Index) (vals : Store) → variable_index names s ≡ Some i → places names vals v s ≡ bits_from v (index_of vals (sense names i.expr)) (select_width names v s)
 index-places names v Whole i vals e = cc
-index-places names v (BitOf at x) i vals e = ap (λ (j : Index). bits_from v (pos (own vals (sense names j.expr))) 1) (some-index (is_constant names x) (record { place = at; expr = x }) i e)
+index-places names v (BitOf at x) i vals e = ap (λ (j : Index). bits_from v (index_of vals (sense names j.expr)) 1) (some-index (is_constant names x) (record { place = at; expr = x }) i e)
 index-places names v (Range at msb lsb) i vals e = cc
-index-places names v (Indexed at base count) i vals e = ap (λ (j : Index). bits_from v (pos (own vals (sense names j.expr))) (select_width names v (Indexed at base count))) (some-index (is_constant names base) (record { place = at; expr = base }) i e)
+index-places names v (Indexed at base count) i vals e = ap (λ (j : Index). bits_from v (index_of vals (sense names j.expr)) (select_width names v (Indexed at base count))) (some-index (is_constant names base) (record { place = at; expr = base }) i e)
+
+-- one bit is written, or the index is unsigned
+one-or-plain : (names : Names) (v : Vector) (s : Select) (i : Index) (n : ℕ) → variable_index names s ≡ Some i → HasPlainBase names s i.expr → n ≡ select_width names v s → ((sense names i.expr).shape.is_signed ≡ false) ⊎ (n ≡ 1)
+one-or-plain names v Whole i n e plain long = cc
+one-or-plain names v (BitOf at x) i n e plain long = inr long
+one-or-plain names v (Range at msb lsb) i n e plain long = cc
+one-or-plain names v (Indexed at base count) i n e plain long = inl plain
 
 -- Assignments.
 
@@ -181,8 +199,11 @@ simulates-bits nets kinds kind names v sel bits index (Some i) a b vals s is kno
     let g : Grows a.building mid = f.2.0 in
     let sh_c : Shows nets kinds c s = shows-grown nets kinds a mid s g sh in
     let same : held c kind v.number ≡ held a kind v.number = held-grown a mid kind v.number g in
-    let lays : values nets (fresh_bits a.building.nets v.width) ≡ written (values nets (held a kind v.number)) (bits_from v (pos (number (values nets index))) (length bits)) (values nets bits) = put-values a.building mid (held a kind v.number) index bits v i.place nets f.2 runs_c wide f.0 in
-    let there : values nets (fresh_bits a.building.nets v.width) ≡ written (values nets (held c kind v.number)) (places names (numbers vals) v sel) (values nets bits) = rw (same, index-places names v sel i (numbers vals) is, ← known_index, ← long) lays in
+    let lays : values nets (fresh_bits a.building.nets v.width) ≡ written (values nets (held a kind v.number)) (bits_from v (pos (number (values nets index))) (length bits)) (values nets bits) = put-values a.building mid (held a kind v.number) index bits v i.place nets f.2 runs_c wide f.0.low in
+    let from : bits_from v (pos (number (values nets index))) (length bits) ≡ bits_from v (index_of (numbers vals) (sense names i.expr)) (length bits) =
+    ap (λ (n : ℕ). bits_from v (pos n) (length bits)) known_index.2
+    ∙ shown-places v (sense names i.expr).shape (own (numbers vals) (sense names i.expr)) (length bits) f.0.low f.0.narrow known_index.0 known_index.1 (one-or-plain names v sel i (length bits) is f.0.plain long) in
+    let there : values nets (fresh_bits a.building.nets v.width) ≡ written (values nets (held c kind v.number)) (places names (numbers vals) v sel) (values nets bits) = rw (same, index-places names v sel i (numbers vals) is, ← long) (lays ∙ ap (λ (t : List (Option ℕ)). written (values nets (held a kind v.number)) t (values nets bits)) from) in
     let known_c : v.number < length mid.signals = rw (signals-grown a.building mid g) known in
     subst (λ (w : Work). Shows nets kinds w (put kind (record { number = v.number; places = places names (numbers vals) v sel; bits = values nets bits }) s)) (sym f.3)
     (shows-held nets kinds kind v.number (places names (numbers vals) v sel) (values nets bits) (fresh_bits a.building.nets v.width) c s known_c conform there sh_c)

@@ -1,5 +1,5 @@
 -- What a process adds to a builder, in the order in which it is added (IEEE 1364-2005, 9.2 to 9.5).
-use Rattle.std.specs.Prelude.{◌≡◌, ◌⊎◌, ℕ, zero, suc, ◌+◌, ◌<◌, Bool, true, false, ◌&&◌, ◌||◌, List, [], ◌∷◌, ◌++◌, map, take, drop, length, Option, Some, None, nat_eq, if◌then◌else◌}
+use Rattle.std.specs.Prelude.{◌≡◌, ◌⊎◌, ℕ, zero, suc, ◌+◌, ◌<◌, ◌≤◌, Bool, true, false, ◌&&◌, ◌||◌, List, [], ◌∷◌, ◌++◌, map, take, drop, length, Option, Some, None, nat_eq, if◌then◌else◌}
 use Rattle.mcy_base.specs.declared.span.Span.{Span}
 use Rattle.netlist_core.specs.declared.bit.Bit.{Bit}
 use Rattle.netlist_core.specs.declared.bit.Bit.TheVariants.{Fixed}
@@ -17,7 +17,7 @@ use Rattle.vlog_effects.specs.Effects.{bit_same}
 use Rattle.vlog_effects.specs.Latches.{Target, targets, arms_targets}
 use Rattle.net_builder.specs.Building.{Building, Grows, fresh_bits, signal, with_signal, with_cell}
 use Rattle.elab_expr.specs.Evaluates.{Evaluates}
-use Rattle.elab_expr.specs.Laid.{lay, showing}
+use Rattle.elab_expr.specs.Laid.{lay, showing, index_bits}
 use Rattle.proc_muxes.specs.declared.choice.Choice.{Choice}
 
 -- A builder with the bits that variables with nonblocking assignments will have at the end. The builder's own signals
@@ -57,10 +57,12 @@ variable_index names (BitOf at i) = if is_constant names i then None else Some (
 variable_index names (Range at msb lsb) = None
 variable_index names (Indexed at base count) = if is_constant names base then None else Some (record { place = at; expr = base })
 
--- the cells of an index, which is evaluated at its own width and sign
+-- the cells of an index, which is evaluated at its own width and sign, and its bits as a `put` has them
 abbrev pub BuildsIndex : Names → Option Index → Building → Building → List Bit → Type 0
 BuildsIndex names None a b index = (b ≡ a) × (index ≡ [])
-BuildsIndex names (Some i) a b index = Evaluates names i.expr (sense names i.expr).shape a b index × IsLaid names i.expr (sense names i.expr).shape a b index
+BuildsIndex names (Some i) a b index =
+    let s = (sense names i.expr).shape in
+    (bits : List Bit) × Evaluates names i.expr s a b bits × IsLaid names i.expr s a b bits × (index ≡ index_bits s bits) × (1 ≤ s.width)
 
 -- the cells of the indices of a left side, from the left; for a part without a variable index there are no bits
 abbrev pub BuildsIndices : Names → List Part → Building → Building → List (List Bit) → Type 0
@@ -73,11 +75,24 @@ BuildsIndices names (p ∷ ps) a b indices =
 abbrev pub put_fixed : Bool → Names → Vector → Select → List Bit → Work → Work
 put_fixed is_blocking names v s bits a = with_held is_blocking v.number (written (held a is_blocking v.number) (places names nothing v s) bits) a
 
--- Bits of a vector are written: at places that are known, or by a `put` at an index, where bit 0 is declared as 0.
+-- a base of `+:` that is no constant is unsigned
+abbrev pub HasPlainBase : Names → Select → Expr → Type 0
+HasPlainBase names Whole i = Unit {0}
+HasPlainBase names (BitOf at x) i = Unit {0}
+HasPlainBase names (Range at msb lsb) i = Unit {0}
+HasPlainBase names (Indexed at base count) i = (sense names i).shape.is_signed ≡ false
+
+-- what a `put` can write at this index: bits of a vector whose bit 0 is declared as 0
+pub record CanPut (names : Names) (v : Vector) (s : Select) (i : Expr) : Type 0 where
+  pub low : v.low ≡ 0
+  pub narrow : v.width ≤ 128
+  pub plain : HasPlainBase names s i
+
+-- Bits of a vector are written: at places that are known, or by a `put` at an index.
 abbrev pub PutsBits : Bool → Names → Vector → Select → List Bit → List Bit → Option Index → Work → Work → Type 0
 PutsBits is_blocking names v s bits index None a b = b ≡ put_fixed is_blocking names v s bits a
 PutsBits is_blocking names v s bits index (Some i) a b =
-    (v.low ≡ 0) × (mid : Building) × AddsCell Put (held a is_blocking v.number ∷ index ∷ bits ∷ []) v.width i.place a.building mid ×
+    CanPut names v s i.expr × (mid : Building) × AddsCell Put (held a is_blocking v.number ∷ index ∷ bits ∷ []) v.width i.place a.building mid ×
     (b ≡ with_held is_blocking v.number (fresh_bits a.building.nets v.width) (record a { building = mid }))
 
 abbrev pub PutsPart : Bool → Names → Part → Option Vector → List Bit → List Bit → Work → Work → Type 0

@@ -10,7 +10,7 @@ use Rattle.vlog_effects.specs.Latches.{Target, targets}
 use Rattle.net_builder.specs.Building.{HasSignals}
 use Rattle.elab_expr.specs.Expressions.{refusals}
 use Rattle.elab_proc.specs.Refusals.{case_faults, AreSized}
-use Rattle.proc_muxes.specs.Builds.{Work, held, Index, variable_index}
+use Rattle.proc_muxes.specs.Builds.{Work, held, Index, variable_index, HasPlainBase}
 use Rattle.proc_muxes.specs.Shows.{StandsBelow}
 
 -- the expressions of a select have shapes
@@ -20,7 +20,8 @@ IsWholeSelect names (BitOf at i) = IsWhole names i
 IsWholeSelect names (Range at msb lsb) = IsWhole names msb × IsWhole names lsb
 IsWholeSelect names (Indexed at base count) = IsWhole names base × IsWhole names count
 
--- a part that can be written: a variable index needs a vector whose lowest bit is number 0, and nothing is refused in it
+-- a part that can be written: a variable index needs a vector whose lowest bit is number 0, nothing is refused in it, and a
+-- base is unsigned
 pub record IsClearPart (names : Names) (p : Part) (v : Vector) : Type 0 where
   pub vector : part_vector names p ≡ Some v
   pub some : 1 ≤ select_width names v p.select
@@ -28,6 +29,7 @@ pub record IsClearPart (names : Names) (p : Part) (v : Vector) : Type 0 where
   pub whole : IsWholeSelect names p.select
   pub low : (i : Index) → variable_index names p.select ≡ Some i → v.low ≡ 0
   pub index : (i : Index) → variable_index names p.select ≡ Some i → refusals names i.expr (sense names i.expr).shape ≡ []
+  pub plain : (i : Index) → variable_index names p.select ≡ Some i → HasPlainBase names p.select i.expr
 
 abbrev pub CanWrite : Names → Part → Type 0
 CanWrite names p = (v : Vector) × IsClearPart names p v

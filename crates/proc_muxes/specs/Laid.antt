@@ -18,7 +18,7 @@ use Rattle.vlog_effects.specs.LeftSides.{Select, Part, Vector, parts_of, part_ve
 use Rattle.vlog_effects.specs.Steps.{Assigning, Test, Selection, Steps, Done, Assign, Choose, Case, Refuse, Arms, Otherwise, Arm, dont_care}
 use Rattle.vlog_effects.specs.Latches.{targets, arms_targets}
 use Rattle.net_builder.specs.Building.{Building}
-use Rattle.elab_expr.specs.Laid.{Laid, showing, cell, reduced, lay}
+use Rattle.elab_expr.specs.Laid.{Laid, showing, cell, reduced, lay, index_bits}
 use Rattle.proc_muxes.specs.declared.choice.Choice.{Choice}
 use Rattle.proc_muxes.specs.Builds.{Work, held, with_held, Index, variable_index, put_fixed, distinct, choices, restored, kept, mattering, case_shape}
 
@@ -35,7 +35,10 @@ showing_in is_blocking n y a = with_held is_blocking n y.bits (with_cells y.afte
 -- the index of a select; where it is a constant, or there is none, it has no cells and no bits
 abbrev pub lay_index : Names → Option Index → Building → Laid
 lay_index names None b = showing b []
-lay_index names (Some i) b = lay names i.expr (sense names i.expr).shape b
+lay_index names (Some i) b =
+    let s = (sense names i.expr).shape in
+    let l = lay names i.expr s b in
+    showing l.after (index_bits s l.bits)
 
 -- a builder in which the indices of a left side were laid, and the bits of each
 pub record LaidIndices : Type 0 where

@@ -1,11 +1,11 @@
 -- Left sides as the code has them: a piece for each part (IEEE 1364-2005, A.8.5).
-use Rattle.std.specs.Prelude.{◌≡◌, ℕ, ◌+◌, ◌<◌, ◌≤◌, ◌^◌, ℤ, pos, Bool, List, [], ◌∷◌, ◌++◌, map, length, Option, Some, None, IsTrue, if◌then◌else◌}
+use Rattle.std.specs.Prelude.{◌≡◌, ℕ, ◌+◌, ◌<◌, ◌≤◌, ◌^◌, ℤ, Bool, List, [], ◌∷◌, ◌++◌, map, length, Option, Some, None, IsTrue, if◌then◌else◌}
 use Rattle.mcy_base.specs.declared.span.Span.{Span}
 use Rattle.netlist_core.specs.declared.bit.Bit.{Bit}
 use Rattle.vlog_syntax.specs.declared.expr.Expr.{Expr}
 use Rattle.vlog_meaning.specs.Integers.{bound_integer}
 use Rattle.vlog_meaning.specs.Scopes.{Names, nothing}
-use Rattle.vlog_meaning.specs.Senses.{sense, own}
+use Rattle.vlog_meaning.specs.Senses.{sense, constant_integer}
 use Rattle.vlog_effects.specs.Expressions.{is_constant}
 use Rattle.vlog_effects.specs.LeftSides.{Part, Vector, part_vector, select_base, select_width}
 use Rattle.vlog_effects.specs.Latches.{Target}
@@ -13,7 +13,7 @@ use Rattle.net_builder.specs.Building.{Building}
 use Rattle.proc_muxes.specs.declared.piece.Piece.{Piece}
 use Rattle.proc_muxes.specs.declared.piece.Place.{Place}
 use Rattle.proc_muxes.specs.declared.piece.Place.TheVariants.{From, At}
-use Rattle.proc_muxes.specs.Builds.{Work, held, Index, variable_index, BuildsIndex, BuildsIndices}
+use Rattle.proc_muxes.specs.Builds.{Work, held, Index, variable_index, HasPlainBase, BuildsIndex, BuildsIndices}
 use Rattle.proc_muxes.specs.Working.{AreBits}
 
 -- the vector of a piece
@@ -40,6 +40,7 @@ pub record IsPiece (names : Names) (p : Part) (x : Piece) : Type 0 where
   pub vector : part_vector names p ≡ Some (vector_at x)
   pub size : select_width names (vector_at x) p.select ≡ x.size
   pub place : IsPlace (variable_index names p.select) (select_base names nothing (vector_at x) p.select) x.place
+  pub plain : (i : Index) → variable_index names p.select ≡ Some i → HasPlainBase names p.select i.expr
 
 abbrev pub ArePieces : Names → List Part → List Piece → Type 0
 ArePieces names [] [] = Unit {0}
@@ -90,7 +91,7 @@ index_at names span i = if is_constant names i then None else Some (record { pla
 
 -- An index gave a place: its cells were added, if it is no constant.
 pub record IsPlaced (names : Names) (span : Span) (i : Expr) (a b : Building) (place : Place) : Type 0 where
-  pub is : IsPlace (index_at names span i) (pos (own nothing (sense names i))) place
+  pub is : IsPlace (index_at names span i) (constant_integer (sense names i)) place
   pub fit : (low : ℕ) → ((index : Index) → index_at names span i ≡ Some index → low ≡ 0) → CanBePlaced b.nets low place
   pub built : BuildsIndex names (index_at names span i) a b (index_bits place)
 

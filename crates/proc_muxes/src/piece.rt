@@ -14,8 +14,8 @@ ghost use Rattle.proc_muxes.specs.Clear.{CanWrite, CanWriteAll};
 ghost use Rattle.proc_muxes.specs.Counts.{index_cells, indices_cells};
 ghost use Rattle.proc_muxes.specs.Pieces.{index_at, IsPlaced, MakesPiece, MakesPieces};
 
-use elab_expr::build_expr;
-use expr_plans::{bound_of, count_of, index_of, is_constant};
+use elab_expr::{build_expr, index_bits};
+use expr_plans::{bound_of, count_of, is_constant};
 use mcy_base::Span;
 use net_builder::{Builder, ElabError};
 use netlist_core::BitList;
@@ -28,7 +28,7 @@ use vlog_syntax::{Expr, Identifier, LeftSide};
 pub(crate) enum Place {
     /// From the bit with this declared number on.
     From(Bound),
-    /// From the bit on whose number the bits of an index stand for, read as unsigned; with the place of the select's `[`.
+    /// From the bit on whose number the bits of an index stand for, as a cell has them; with the place of the select's `[`.
     At(BitList, Span),
 }
 
@@ -111,11 +111,12 @@ fn place_at(
     ensures short { IfErr result (λ e. IsShort (length builder.old.cells + index_cells (names_of scope.now) (index_at (names_of scope.now) span index.now)) e) }
 {
     if is_constant(index, scope) {
-        return Ok(Place::From(index_of(index, scope)));
+        return Ok(Place::From(bound_of(index, scope)));
     }
     let shape = shape_of(index, scope);
     let bits = build_expr(builder, index, scope, shape.width, shape.is_signed)?;
-    Ok(Place::At(bits, span))
+    let shown = index_bits(builder.alloc(), bits.as_slice(), shape)?;
+    Ok(Place::At(shown, span))
 }
 
 /// A whole variable.

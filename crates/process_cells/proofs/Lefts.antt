@@ -28,7 +28,7 @@ use Rattle.vlog_effects.specs.Expressions.{is_constant}
 use Rattle.vlog_effects.specs.LeftSides.{Part, Select, Whole, Bit, Range, Indexed, Vector, vector_of, part_vector, width_by, parts_width, parts_of, parts_step, select_width, concatenated}
 use Rattle.elab_expr.specs.Expressions.{refusals}
 use Rattle.expr_plans.specs.Made.{plan, plans, all_unsupported}
-use Rattle.elab_expr.proofs.Facts.{bit_parts, indexed_parts, join_supported}
+use Rattle.elab_expr.proofs.Facts.{bit_parts, indexed_parts, indexed_one, join_supported}
 use Rattle.elab_proc.specs.Refusals.{same_form, form_step, name_refusals, part_refusals}
 use Rattle.process_latches.specs.Sound.{part_form}
 use Rattle.proc_muxes.specs.Builds.{Index}
@@ -98,6 +98,11 @@ low_zero span (Some (Signal width low is_signed number)) s w is e varies = let s
 low_zero span (Some (Constant value low is_signed)) s w is e varies = absurd cc
 low_zero span None s w is e varies = absurd cc
 
+-- a base that is no constant is unsigned, since it may have any width
+unsigned_by : (b : Bool) → (b ≡ true → 0 ≡ 1) → b ≡ false
+unsigned_by true one = let e : 0 ≡ 1 = one refl in cc
+unsigned_by false one = refl
+
 -- One part.
 
 width_at : (names : Names) (select : Select) (o : Option Vector) (w : Vector) → o ≡ Some w → width_by names select o ≡ select_width names w select
@@ -129,6 +134,7 @@ right_name names written n whole supported zeros free =
       whole = tt;
       low = λ i e. no_index _ i e;
       index = λ i e. no_index _ i e;
+      plain = λ i e. no_index _ i e;
     }) whole
 
 right_bit : (names : Names) (written : List Bool) (n : Identifier) (at : Span) (i : Expr) → IsRight names written (v.BitSelect n at i) (record { name = n; select = Bit at i } ∷ [])
@@ -147,6 +153,7 @@ right_bit names written n at i whole supported zeros free =
       whole = inner;
       low = λ j e. low_zero at (names n.name) (sense names i) s.vector s.is parts.0 (index_varies (is_constant names i) x j e).0;
       index = λ j e. subst (λ (k : Index). refusals names k.expr (sense names k.expr).shape ≡ []) (index_varies (is_constant names i) x j e).1 (clear names i (sense names i).shape inner parts.1 none);
+      plain = λ j e. tt;
     }) whole
 
 right_range : (names : Names) (written : List Bool) (n : Identifier) (at : Span) (msb lsb : Expr) → IsRight names written (v.PartSelect n at msb lsb) (record { name = n; select = Range at msb lsb } ∷ [])
@@ -162,6 +169,7 @@ right_range names written n at msb lsb whole supported zeros free =
       whole = (inner.msb, inner.lsb);
       low = λ i e. no_index _ i e;
       index = λ i e. no_index _ i e;
+      plain = λ i e. no_index _ i e;
     }) whole
 
 right_indexed : (names : Names) (written : List Bool) (n : Identifier) (at : Span) (base count : Expr) → IsRight names written (v.IndexedPartSelect n at base count) (record { name = n; select = Indexed at base count } ∷ [])
@@ -180,6 +188,7 @@ right_indexed names written n at base count whole supported zeros free =
       whole = (inner.base, inner.width);
       low = λ j e. low_zero at (names n.name) (sense names base) s.vector s.is parts.0 (index_varies (is_constant names base) x j e).0;
       index = λ j e. subst (λ (k : Index). refusals names k.expr (sense names k.expr).shape ≡ []) (index_varies (is_constant names base) x j e).1 (clear names base (sense names base).shape inner.base parts.1 none);
+      plain = λ j e. subst (λ (k : Index). (sense names k.expr).shape.is_signed ≡ false) (index_varies (is_constant names base) x j e).1 (unsigned_by (sense names base).shape.is_signed (λ signed. indexed_one names (v.IndexedPartSelect n at base count) (sense names (v.IndexedPartSelect n at base count)).shape n at base count refl 0 supported inner.base signed (index_varies (is_constant names base) x j e).0));
     }) whole
 
 -- Parts one after the other.
