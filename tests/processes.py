@@ -138,6 +138,18 @@ always @* case ($signed(a)) 0: y = 0; 1: y = 1; 2: y = b; 3: y = 0; endcase
 always @* case ($signed(a)) 2'd0: y = 0; 2'd1: y = 1; 2'd2: y = b; 2'd3: y = 0; endcase
 > accepted
 end
+# what a refused expression reads is not known, and a refused select assigns its whole name
+reg a 2 1
+reg i 1 0
+reg y 2 0
+reg z 2 1
+always @* begin y = a[y]; end
+> IndexedBase 22
+always @* begin z[i] = 1; end
+> IndexedBase 18
+always @* begin if (i) y = a[y]; end
+> Latch 1 signal 2
+end
 # a loop assigns each bit, or one bit less
 reg a 4 0
 reg y 4 0
@@ -440,13 +452,8 @@ class Pair:
         return Seen(width, value, left.faults + right.faults, left.reads | right.reads, left.signals + right.signals)
 
 
-def has_shape(seen):
-    """Whether an expression has a width: one that is only not supported has."""
-    return all(what == "IndexedBase" for _, what in seen.faults)
-
-
 def shown_reads(seen):
-    return seen.reads if has_shape(seen) else set()
+    return set() if seen.faults else seen.reads
 
 
 def constant_faults(seen):
@@ -458,12 +465,12 @@ def constant_faults(seen):
 
 
 def part_bits(names, part):
-    """What a part assigns for sure: all of its name where its select has no shape."""
+    """What a part assigns for sure: all of its name where its select is refused."""
     width, low = names.shape(part.name)
     whole = bits_of(names, part.name, range(low, low + width))
     if isinstance(part, Name):
         return whole
-    if not has_shape(part.look(names)):
+    if part.look(names).faults:
         return whole
     first = part.first.look(names)
     if part.kind == "range":
@@ -476,7 +483,7 @@ def part_bits(names, part):
 
 def index_reads(names, part):
     """What the index of a part reads."""
-    if isinstance(part, Name) or part.kind == "range" or not has_shape(part.look(names)):
+    if isinstance(part, Name) or part.kind == "range" or part.look(names).faults:
         return set()
     first = part.first.look(names)
     return first.reads if first.value is None else set()

@@ -9,7 +9,7 @@ use vlog_meaning::{Fault, Scope, Shape, earlier, fault_in, shape_of, zero_in};
 use vlog_syntax::Expr;
 
 /// What is wrong in an expression, or not supported in it.
-pub(crate) fn wrong_in(expr: &Expr, scope: &Scope) -> Option<Fault>
+pub fn wrong_in(expr: &Expr, scope: &Scope) -> Option<Fault>
     ensures { result ≡ least (wrong (names_of scope.now) expr.now) }
 {
     earlier(fault_in(expr, scope), unsupported_in(expr, scope))

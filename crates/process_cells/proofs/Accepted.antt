@@ -8,7 +8,7 @@ use Rattle.vlog_meaning.specs.declared.fault.Fault.{Fault}
 use Rattle.vlog_meaning.specs.declared.scope.Decl.{Decl}
 use Rattle.vlog_meaning.specs.declared.scope.Decl.TheVariants.{Signal, Constant}
 use Rattle.vlog_meaning.specs.Scopes.{Names}
-use Rattle.vlog_meaning.specs.Senses.{sense, fault, own_zeros, assigned, IsWhole}
+use Rattle.vlog_meaning.specs.Senses.{sense, fault, own_zeros, assigned}
 use Rattle.vlog_meaning.proofs.Blanks.{left_nil, right_nil, these_nil, those_nil}
 use Rattle.vlog_effects.specs.LeftSides.{Part, parts_of, part_vector, vector_of}
 use Rattle.vlog_effects.specs.Steps.{Assigning, Steps, Done, Assign, Choose, Case, Refuse, Arms, Otherwise, Arm, steps_of}
@@ -24,7 +24,7 @@ use Rattle.proc_muxes.specs.Builds.{Work, held}
 use Rattle.proc_muxes.specs.Clear.{CanAssign, AreHeld, IsClear, AreClear}
 use Rattle.process_cells.specs.Laws.{AcceptedAreReady}
 use Rattle.process_cells.specs.Ready.{AllWait}
-use Rattle.process_cells.proofs.Lefts.{NamesSignal, NameSignals, HaveForms, clear, left_writes}
+use Rattle.process_cells.proofs.Lefts.{NamesSignal, NameSignals, HaveForms, clear, nothing_wrong, left_writes}
 use Rattle.process_cells.proofs.Lists.{map_nil, some_known}
 
 -- how many bits each signal of a builder has
@@ -62,7 +62,7 @@ pub record Accepts (s : Assigning) : Type 0 where
   pub can : CanAssign s
   pub signals : NameSignals s.names (parts_of s.left)
   pub forms : HaveForms s.names (parts_of s.left)
-  pub right : IsWhole s.names s.right
+  pub right : wrong s.names s.right ≡ []
 
 pub accepts : (comb : Bool) (written : List Bool) (s : Assigning) → assign_refusals comb written s ≡ [] → Accepts s
 accepts comb written s e =
@@ -80,7 +80,7 @@ accepts comb written s e =
       };
       signals = w.signals;
       forms = w.forms;
-      right = f.right_whole;
+      right = nothing_wrong names s.right f.right_whole f.right_supported;
     }
 
 -- Targets.

@@ -29,7 +29,7 @@ use Rattle.vlog_effects.specs.LeftSides.{Part, Select, Whole, Bit, Range, Indexe
 use Rattle.elab_expr.specs.Expressions.{refusals}
 use Rattle.expr_plans.specs.Made.{plan, plans, all_unsupported}
 use Rattle.elab_expr.proofs.Facts.{bit_parts, indexed_parts, indexed_one, join_supported}
-use Rattle.elab_proc.specs.Refusals.{same_form, form_step, name_refusals, part_refusals}
+use Rattle.elab_proc.specs.Refusals.{wrong, same_form, form_step, name_refusals, part_refusals}
 use Rattle.process_latches.specs.Sound.{part_form}
 use Rattle.proc_muxes.specs.Builds.{Index}
 use Rattle.proc_muxes.specs.Clear.{IsClearPart, CanWriteAll}
@@ -60,10 +60,10 @@ abbrev pub NameSignals : Names → List Part → Type 0
 NameSignals names [] = Unit {0}
 NameSignals names (p ∷ ps) = NamesSignal (names p.name.name) × NameSignals names ps
 
--- the expressions of their forms have shapes
+-- nothing is wrong in the expressions of their forms
 abbrev pub HaveForms : Names → List Part → Type 0
 HaveForms names [] = Unit {0}
-HaveForms names (p ∷ ps) = IsWhole names (part_form p.name p.select) × HaveForms names ps
+HaveForms names (p ∷ ps) = (wrong names (part_form p.name p.select) ≡ []) × HaveForms names ps
 
 -- the parts can be written, and have as many bits as the expression, at most 128
 pub record Writes (names : Names) (e : Expr) (ps : List Part) : Type 0 where
@@ -108,11 +108,14 @@ unsigned_by false one = refl
 width_at : (names : Names) (select : Select) (o : Option Vector) (w : Vector) → o ≡ Some w → width_by names select o ≡ select_width names w select
 width_at names select o w e = ap (width_by names select) e
 
-one : (names : Names) (e : Expr) (p : Part) (s : NamesSignal (names p.name.name)) → (sense names e).shape.width ≡ select_width names s.vector p.select → IsClearPart names p s.vector → IsWhole names (part_form p.name p.select) → Writes names e (p ∷ [])
-one names e p s width c form =
+pub nothing_wrong : (names : Names) (x : Expr) → IsWhole names x → (plan names x).unsupported ≡ [] → wrong names x ≡ []
+nothing_wrong names x whole supported = ap (λ (fs : List Fault). fs ++ (plan names x).unsupported) whole ∙ supported
+
+one : (names : Names) (e : Expr) (p : Part) (s : NamesSignal (names p.name.name)) → (sense names e).shape.width ≡ select_width names s.vector p.select → IsClearPart names p s.vector → IsWhole names (part_form p.name p.select) → (plan names (part_form p.name p.select)).unsupported ≡ [] → Writes names e (p ∷ [])
+one names e p s width c form supported =
     let here = width_at names p.select (part_vector names p) s.vector s.is in
     let narrow = c.narrow in
-    record { width = omega (arith, width, here); narrow = omega (arith, width, narrow); can = ((s.vector, c), tt); signals = (s, tt); forms = (form, tt) }
+    record { width = omega (arith, width, here); narrow = omega (arith, width, narrow); can = ((s.vector, c), tt); signals = (s, tt); forms = (nothing_wrong names (part_form p.name p.select) form supported, tt) }
 
 signal_in : (names : Names) (written : List Bool) (p : Part) → name_faults p.name.span (names p.name.name) ≡ [] → flat_map (part_refusals names written) (p ∷ []) ≡ [] → NamesSignal (names p.name.name)
 signal_in names written p e f = names_signal written p.name.span (names p.name.name) e (left_nil (part_refusals names written p) [] f)
@@ -135,7 +138,7 @@ right_name names written n whole supported zeros free =
       low = λ i e. no_index _ i e;
       index = λ i e. no_index _ i e;
       plain = λ i e. no_index _ i e;
-    }) whole
+    }) whole supported
 
 right_bit : (names : Names) (written : List Bool) (n : Identifier) (at : Span) (i : Expr) → IsRight names written (v.BitSelect n at i) (record { name = n; select = Bit at i } ∷ [])
 right_bit names written n at i whole supported zeros free =
@@ -154,7 +157,7 @@ right_bit names written n at i whole supported zeros free =
       low = λ j e. low_zero at (names n.name) (sense names i) s.vector s.is parts.0 (index_varies (is_constant names i) x j e).0;
       index = λ j e. subst (λ (k : Index). refusals names k.expr (sense names k.expr).shape ≡ []) (index_varies (is_constant names i) x j e).1 (clear names i (sense names i).shape inner parts.1 none);
       plain = λ j e. tt;
-    }) whole
+    }) whole supported
 
 right_range : (names : Names) (written : List Bool) (n : Identifier) (at : Span) (msb lsb : Expr) → IsRight names written (v.PartSelect n at msb lsb) (record { name = n; select = Range at msb lsb } ∷ [])
 right_range names written n at msb lsb whole supported zeros free =
@@ -170,7 +173,7 @@ right_range names written n at msb lsb whole supported zeros free =
       low = λ i e. no_index _ i e;
       index = λ i e. no_index _ i e;
       plain = λ i e. no_index _ i e;
-    }) whole
+    }) whole supported
 
 right_indexed : (names : Names) (written : List Bool) (n : Identifier) (at : Span) (base count : Expr) → IsRight names written (v.IndexedPartSelect n at base count) (record { name = n; select = Indexed at base count } ∷ [])
 right_indexed names written n at base count whole supported zeros free =
@@ -189,7 +192,7 @@ right_indexed names written n at base count whole supported zeros free =
       low = λ j e. low_zero at (names n.name) (sense names base) s.vector s.is parts.0 (index_varies (is_constant names base) x j e).0;
       index = λ j e. subst (λ (k : Index). refusals names k.expr (sense names k.expr).shape ≡ []) (index_varies (is_constant names base) x j e).1 (clear names base (sense names base).shape inner.base parts.1 none);
       plain = λ j e. subst (λ (k : Index). (sense names k.expr).shape.is_signed ≡ false) (index_varies (is_constant names base) x j e).1 (unsigned_by (sense names base).shape.is_signed (λ signed. indexed_one names (v.IndexedPartSelect n at base count) (sense names (v.IndexedPartSelect n at base count)).shape n at base count refl 0 supported inner.base signed (index_varies (is_constant names base) x j e).0));
-    }) whole
+    }) whole supported
 
 -- Parts one after the other.
 

@@ -6,7 +6,7 @@ use Rattle.mcy_base.specs.declared.span.Span.{Span}
 use Rattle.vlog_syntax.specs.declared.expr.Expr.{Expr}
 use Rattle.vlog_meaning.specs.declared.fault.Fault.{Fault}
 use Rattle.vlog_meaning.specs.Scopes.{Names}
-use Rattle.vlog_meaning.specs.Senses.{Bits, no_bits, either, IsWhole, is_empty}
+use Rattle.vlog_meaning.specs.Senses.{Bits, no_bits, either, is_empty}
 use Rattle.vlog_meaning.proofs.Blanks.{left_nil, right_nil, these_nil}
 use Rattle.vlog_effects.specs.LeftSides.{Part, parts_of}
 use Rattle.vlog_effects.specs.Latches.{Target, targets, arms_targets, parts_targets, covered, arms_covered, early, arms_early, all_missed, parts_cover, missed, parts_missed, all_of, some_bit, is_latch, latches, first_of, latch_of}
@@ -22,11 +22,11 @@ use Rattle.process_cells.proofs.Labels.{AreRight, ArmsRight, HasOwnLabels, ArmsO
 use Rattle.process_cells.proofs.Lefts.{HaveForms}
 use Rattle.process_cells.proofs.Lists.{map_nil}
 
-same_expr : (names : Names) (x : Expr) → IsWhole names x → sound_expr names x ≡ x
-same_expr names x whole = rw whole refl
+same_expr : (names : Names) (x : Expr) → wrong names x ≡ [] → sound_expr names x ≡ x
+same_expr names x right = rw right refl
 
-same_part : (names : Names) (p : Part) → IsWhole names (part_form p.name p.select) → sound_part names p ≡ p
-same_part names p whole = rw whole refl
+same_part : (names : Names) (p : Part) → wrong names (part_form p.name p.select) ≡ [] → sound_part names p ≡ p
+same_part names p right = rw right refl
 
 same_parts : (names : Names) (ps : List Part) → HaveForms names ps → map (sound_part names) ps ≡ ps
 same_parts names [] h = refl
@@ -78,8 +78,8 @@ same_choice c p q more first second next x condition f s rest at = record {
 same_labels : (names : Names) (xs : List Expr) → AreRight names xs → map (sound_expr names) xs ≡ xs
 same_labels names [] e = refl
 same_labels names (x ∷ xs) e =
-    let whole : IsWhole names x = left_nil _ _ (left_nil (wrong names x) (flat_map (wrong names) xs) e) in
-    ap (λ (y : Expr). y ∷ map (sound_expr names) xs) (same_expr names x whole) ∙ ap (λ (l : List Expr). x ∷ l) (same_labels names xs (right_nil (wrong names x) (flat_map (wrong names) xs) e))
+    let right : wrong names x ≡ [] = left_nil (wrong names x) (flat_map (wrong names) xs) e in
+    ap (λ (y : Expr). y ∷ map (sound_expr names) xs) (same_expr names x right) ∙ ap (λ (l : List Expr). x ∷ l) (same_labels names xs (right_nil (wrong names x) (flat_map (wrong names) xs) e))
 
 -- arms that do the same, where the first ones stand in a case with this selector
 pub record AreSameArms (c : Selection) (x : Expr) (a b : Arms) : Type 0 where
@@ -130,8 +130,8 @@ mutual
       let f = right_nil (map Wrong (own_faults c.names c.condition)) (step_refusals comb written p ++ (step_refusals comb written q ++ step_refusals comb written more)) e in
       let g = right_nil (step_refusals comb written p) (step_refusals comb written q ++ step_refusals comb written more) f in
       let faults : own_faults c.names c.condition ≡ [] = map_nil Wrong (own_faults c.names c.condition) (left_nil _ _ e) in
-      let whole : IsWhole c.names c.condition = left_nil _ _ (these_nil (wrong c.names c.condition) _ faults) in
-      same_choice c p q more (sound p) (sound q) (sound more) (sound_expr c.names c.condition) (same_expr c.names c.condition whole)
+      let right : wrong c.names c.condition ≡ [] = these_nil (wrong c.names c.condition) _ faults in
+      same_choice c p q more (sound p) (sound q) (sound more) (sound_expr c.names c.condition) (same_expr c.names c.condition right)
       (same_steps comb written p (left_nil _ _ f) own.0) (same_steps comb written q (left_nil _ _ g) own.1)
       (same_steps comb written more (right_nil (step_refusals comb written q) (step_refusals comb written more) g) own.2) at
   same_steps comb written (Case c arms more) e own =
@@ -141,13 +141,13 @@ mutual
       let here : unless fs those ≡ [] = left_nil (unless fs those) (step_refusals comb written more) e in
       let free : fs ≡ [] = unless_free fs those here in
       let all : flat_map (wrong names) (c.selector ∷ c.labels) ≡ [] = these_nil (flat_map (wrong names) (c.selector ∷ c.labels)) _ free in
-      let whole : IsWhole names c.selector = left_nil _ _ (left_nil (wrong names c.selector) (flat_map (wrong names) c.labels) all) in
+      let right : wrong names c.selector ≡ [] = left_nil (wrong names c.selector) (flat_map (wrong names) c.labels) all in
       let labels : AreRight names c.labels = right_nil (wrong names c.selector) (flat_map (wrong names) c.labels) all in
       let x : Expr = sound_expr names c.selector in
       let rest : AreSame (sound more) more = same_steps comb written more (right_nil (unless fs those) (step_refusals comb written more) e) own.2 in
       let these : AreSameArms c x (sound_arms names arms) arms = same_arms comb written c x arms (unless_nil fs those here) (own.0 labels) own.1 in
       subst (λ (l : List Fault). AreSame (if is_empty l then Case (record c { selector = x }) (sound_arms names arms) (sound more) else Refuse Turns (sound more)) (Case c arms more)) (sym free)
-      (same_case c x arms (sound_arms names arms) more (sound more) (same_expr names c.selector whole) these rest)
+      (same_case c x arms (sound_arms names arms) more (sound more) (same_expr names c.selector right) these rest)
   same_steps comb written (Refuse x more) e own = absurd cc
 
   same_arms : (comb : Bool) (written : List Bool) (c : Selection) (x : Expr) (arms : Arms) → arm_refusals comb written arms ≡ [] → ArmsRight c.names arms → ArmsOwnLabels arms → AreSameArms c x (sound_arms c.names arms) arms

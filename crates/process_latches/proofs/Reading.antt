@@ -1,4 +1,4 @@
--- What is read of expressions, where they have no shape.
+-- What is read of expressions, where they are refused.
 use Rattle.std.proofs.Common.{◌≡◌, suc, zero, ℕ, ◌<◌, Bool, true, false, ◌||◌, List, [], ◌∷◌, refl, sym, ap, ◌∙◌, subst, arith, length, get_or, take}
 use Rattle.std.specs.Prelude.{Some, if◌then◌else◌}
 use Rattle.vlog_syntax.specs.Places.{first_token}
@@ -7,9 +7,10 @@ use Rattle.vlog_syntax.specs.declared.expr.Expr.TheVariants as v
 use Rattle.vlog_meaning.specs.declared.fault.Fault.{Fault}
 use Rattle.vlog_meaning.specs.Answers.{least}
 use Rattle.vlog_meaning.specs.Scopes.{Names}
-use Rattle.vlog_meaning.specs.Senses.{Sense, no_bits, sense, is_empty, IsWhole}
+use Rattle.vlog_meaning.specs.Senses.{Sense, no_bits, is_empty}
 use Rattle.vlog_meaning.proofs.Steps.{sense_concatenation}
 use Rattle.vlog_effects.specs.Expressions.{reads}
+use Rattle.elab_proc.specs.Refusals.{wrong}
 use Rattle.process_latches.specs.declared.marks.Marks.{Marks}
 use Rattle.process_latches.specs.Marking.{Added, sound_reads, all_sound_reads}
 use Rattle.process_latches.proofs.Adding.{or_end, or_again, and_end, added_as, added_then, added_none}
@@ -23,10 +24,10 @@ unfolding least
 some_faults [] f is = cc
 some_faults (g ∷ more) f is = refl
 
-pub whole_reads : (names : Names) (x : Expr) (a b : Marks) → IsWhole names x → Added no_bits (reads names x) [] false a b → Added no_bits (sound_reads names x) [] false a b
+pub whole_reads : (names : Names) (x : Expr) (a b : Marks) → wrong names x ≡ [] → Added no_bits (reads names x) [] false a b → Added no_bits (sound_reads names x) [] false a b
 whole_reads names x a b w = subst (λ (e : Expr). Added no_bits (reads names e) [] false a b) (sym (ap (λ (t : Bool). if t then x else v.Concatenation (first_token x) []) (no_faults _ w)))
 
-pub no_reads : (names : Names) (x : Expr) (f : Fault) (a : Marks) → Some f ≡ least (sense names x).faults → Added no_bits (sound_reads names x) [] false a a
+pub no_reads : (names : Names) (x : Expr) (f : Fault) (a : Marks) → Some f ≡ least (wrong names x) → Added no_bits (sound_reads names x) [] false a a
 no_reads names x f a some =
     let is = ap (λ (t : Bool). if t then x else v.Concatenation (first_token x) []) (some_faults _ f some) in
     added_as no_bits no_bits no_bits (sound_reads names x) [] [] false false a a (λ n i. refl) (λ n i. sym (ap (λ (e : Expr). reads names e n i) is ∙ ap (λ (t : Sense). t.reads n i) (sense_concatenation names (first_token x) []))) refl refl (added_none a)

@@ -1,5 +1,5 @@
 -- The steps of a process without what is refused in their expressions and left sides: it is answered where it stands, and makes
--- no latch. An expression that has no shape reads nothing, and a select that has none assigns all of its name.
+-- no latch. An expression that is refused reads nothing, and a select that is refused assigns all of its name.
 use Rattle.std.specs.Prelude.{Bool, true, false, ◌||◌, [], ◌∷◌, map, if◌then◌else◌}
 use Rattle.vlog_syntax.specs.declared.identifier.Identifier.{Identifier}
 use Rattle.vlog_syntax.specs.declared.expr.Expr.{Expr}
@@ -8,13 +8,13 @@ use Rattle.vlog_syntax.specs.declared.left_side.LeftSide.{LeftSide}
 use Rattle.vlog_syntax.specs.declared.left_side.LeftSide.TheVariants as l
 use Rattle.vlog_syntax.specs.Places.{first_token, left_first_token}
 use Rattle.vlog_meaning.specs.Scopes.{Names}
-use Rattle.vlog_meaning.specs.Senses.{sense, is_empty}
+use Rattle.vlog_meaning.specs.Senses.{is_empty}
 use Rattle.vlog_effects.specs.LeftSides.{Select, Whole, Bit, Range, Indexed, Part, parts_of}
 use Rattle.vlog_effects.specs.Steps.{Steps, Done, Assign, Choose, Case, Refuse, Arms, Otherwise, Arm, Flaw, Const, Lacks, Turns}
-use Rattle.elab_proc.specs.Refusals.{case_faults}
+use Rattle.elab_proc.specs.Refusals.{wrong, case_faults}
 
 abbrev pub sound_expr : Names → Expr → Expr
-sound_expr names x = if is_empty (sense names x).faults then x else v.Concatenation (first_token x) []
+sound_expr names x = if is_empty (wrong names x) then x else v.Concatenation (first_token x) []
 
 -- a select of a name, as an expression and as a left side
 abbrev pub part_form : Identifier → Select → Expr
@@ -30,7 +30,7 @@ part_left n (Range at msb lsb) = l.PartSelect n at msb lsb
 part_left n (Indexed at base count) = l.IndexedPartSelect n at base count
 
 abbrev pub sound_part : Names → Part → Part
-sound_part names p = if is_empty (sense names (part_form p.name p.select)).faults then p else record { name = p.name; select = Whole }
+sound_part names p = if is_empty (wrong names (part_form p.name p.select)) then p else record { name = p.name; select = Whole }
 
 abbrev pub left_of : Part → LeftSide
 left_of p = part_left p.name p.select

@@ -9,11 +9,11 @@ ghost use Rattle.process_latches.specs.Marking.{BitsAdded, WriteAdded, PartsAdde
 ghost use Rattle.process_latches.specs.Sound.{sound_part};
 
 use crate::marks::{Marks, Write};
-use elab_proc::same_form;
+use elab_proc::{same_form, wrong_in};
 use mcy_base::Span;
 use signal_masks::{covered_by, indices_of};
 use std::alloc::{AllocError, Global};
-use vlog_meaning::{Decl, Scope, fault_in};
+use vlog_meaning::{Decl, Scope};
 use vlog_syntax::{Identifier, LeftSide};
 
 /// How a left side is assigned: the first token of the assignment, and its kind.
@@ -48,7 +48,7 @@ fn mark_name(
     Ok(())
 }
 
-/// Adds the bits of a part of a left side, which is one of this name: without a shape it is the whole name.
+/// Adds the bits of a part of a left side, which is one of this name: where it is refused it is the whole name.
 fn mark_select(
     alloc: Global,
     left: &LeftSide,
@@ -61,7 +61,7 @@ fn mark_select(
     ensures { OnOk result ((p : Part) → IsPart left.now name.now p → BitsAdded (names_of scope.now) (sound_part (names_of scope.now) p ∷ []) marks.old marks.new) }
 {
     let form = same_form(alloc, left)?;
-    match fault_in(&form, scope) {
+    match wrong_in(&form, scope) {
         Some(_) => mark_name(alloc, name, scope, marks),
         None => mark_bits(left, scope, marks),
     }

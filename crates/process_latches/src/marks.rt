@@ -9,10 +9,11 @@ ghost use Rattle.vlog_effects.specs.Expressions.{reads};
 ghost use Rattle.signal_masks.specs.Masks.{bits_in};
 ghost use Rattle.process_latches.specs.Marking.{AreBlank, Added, Met, sound_reads, all_sound_reads};
 
+use elab_proc::wrong_in;
 use mcy_base::Span;
 use signal_masks::{Masks, reads_of};
 use std::alloc::{AllocError, Global};
-use vlog_meaning::{Scope, fault_in};
+use vlog_meaning::Scope;
 use vlog_syntax::Expr;
 
 /// A variable where it is assigned: its number and width, the place of its name, and the first token of the assignment.
@@ -74,11 +75,11 @@ impl Marks {
         Ok(())
     }
 
-    /// An expression is read. One without a shape reads nothing.
+    /// An expression is read. One that is refused reads nothing.
     pub fn read(&mut self, alloc: Global, expr: &Expr, scope: &Scope) -> Result<(), AllocError>
         ensures { OnOk result (Added no_bits (sound_reads (names_of scope.now) expr.now) [] false self.old self.new) }
     {
-        match fault_in(expr, scope) {
+        match wrong_in(expr, scope) {
             Some(_) => Ok(()),
             None => self.read_whole(alloc, expr, scope),
         }
