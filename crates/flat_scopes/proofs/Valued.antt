@@ -1,5 +1,5 @@
 -- The value of a parameter, and a word of its own width and bits.
-use Rattle.std.proofs.Common.{◌≡◌, ◌≤◌, ◌<◌, ◌%◌, ◌^◌, ℕ, Bool, Option, None, Some, refl, sym, ap, ◌∙◌, subst, arith, true≢false, mod-eq_of_lt}
+use Rattle.std.proofs.Common.{◌≡◌, ◌≤◌, ◌<◌, ◌%◌, ◌^◌, ◌||◌, ℕ, Bool, Option, None, Some, refl, sym, ap, ◌∙◌, subst, arith, true≢false, mod-eq_of_lt}
 use Rattle.std.specs.Coded.{le_prop}
 use Rattle.std.specs.Option.{option_map, is_some}
 use Rattle.vlog_syntax.specs.declared.expr.Expr.{Expr}
