@@ -106,7 +106,13 @@ fn put_signal(page: &mut Page, signal: &Signal) {
 /// The value of a constant of the scope, by its name.
 fn put_constant(page: &mut Page, scope: &Scope, name: &str) {
     match scope.get(name) {
-        Some(Decl::Constant { value, is_signed }) => {
+        Some(
+            Decl::Constant {
+                value,
+                is_signed,
+                ..
+            },
+        ) => {
             page.put(" ");
             page.put(name);
             page.put("=");
