@@ -1,6 +1,6 @@
 -- The parts of a mutant: the netlist's, where readers of the mutated bit are connected to a new one, and at most one cell more,
 -- which drives it.
-use Rattle.std.specs.Prelude.{ℕ, ◌+◌, ◌%◌, true, false, List, [], ◌∷◌, ◌++◌, map, length, slice_get, slice_set, slice_index_or, Option, None, Some, nat_eq, if◌then◌else◌}
+use Rattle.std.specs.Prelude.{◌≡◌, ℕ, ◌+◌, ◌%◌, ◌^◌, ◌<◌, ◌≤◌, true, false, List, [], ◌∷◌, ◌++◌, map, length, slice_get, slice_set, slice_index_or, Option, None, Some, nat_eq, if◌then◌else◌}
 use Rattle.mcy_base.specs.declared.span.Span.{Span}
 use Rattle.netlist_core.specs.declared.bit.Bit.{Bit}
 use Rattle.netlist_core.specs.declared.bit.Bit.TheVariants.{Fixed, Net}
@@ -10,6 +10,8 @@ use Rattle.netlist_core.specs.declared.port.Port as port
 use Rattle.netlist_core.specs.declared.port.Register.{Register as Flop}
 use Rattle.netlist_core.specs.declared.raw.RawNetlist.{RawNetlist}
 use Rattle.netlist_core.specs.Runs.{Port, Next, Outputs}
+use Rattle.netlist_core.specs.Drivers.{drivers}
+use Rattle.netlist_core.specs.Checked.{Plan}
 use Rattle.mutation_sites.specs.declared.mode.Mode.{Mode}
 use Rattle.mutation_sites.specs.declared.mode.Mode.TheVariants.{Inv, Const0, Const1, Cnot0, Cnot1}
 use Rattle.mutation_sites.specs.declared.site.Place.{Place}
@@ -104,3 +106,15 @@ parts_connected netlist readers mode bits i fresh span = record {
 
 abbrev pub mutant_of : RawNetlist → Site → ℕ → RawNetlist
 mutant_of netlist site fresh = parts_connected netlist (readers_at netlist site.place site.port site.bit) site.mode (port_at netlist site.place site.port) site.bit fresh (span_at netlist site.place)
+
+-- The number of the new net: the one past all nets that are driven, and where that is no net's number, the least that isn't driven.
+pub record IsNewNet (plan : Plan) (n : ℕ) : Type 0 where
+  pub undriven : drivers plan.raw n ≡ 0
+  pub past : plan.nets < 2 ^ 32 → n ≡ plan.nets
+  pub least : 2 ^ 32 ≤ plan.nets → (m : ℕ) → m < n → 1 ≤ drivers plan.raw m
+
+-- The parts are the mutant's at the site, with such a number.
+pub record IsMutant (plan : Plan) (site : Site) (mutant : RawNetlist) : Type 0 where
+  pub fresh : ℕ
+  pub new : IsNewNet plan fresh
+  pub is : mutant ≡ mutant_of plan.raw site fresh

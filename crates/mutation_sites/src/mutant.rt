@@ -7,7 +7,7 @@ ghost use Rattle.netlist_core.specs.declared.netlist.NetError.{NetError};
 ghost use Rattle.netlist_core.specs.declared.netlist.NetError.TheVariants.{Memory};
 ghost use Rattle.netlist_core.specs.Checked.{net_bits, IsFormed, IsRefused, IsSound};
 ghost use Rattle.mutation_sites.specs.Mutants.{IsSite, HasOneMore, HasSameNames, HasSameShapes, RunsAlike, HasEachRun};
-ghost use Rattle.mutation_sites.specs.Wiring.{mutant_of, new_bit, new_cells, cells_connected};
+ghost use Rattle.mutation_sites.specs.Wiring.{mutant_of, IsMutant, new_bit, new_cells, cells_connected};
 
 use crate::driver::Driver;
 use crate::mode::Mode;
@@ -28,6 +28,7 @@ pub fn mutate(alloc: Global, netlist: &Netlist, site: &Site) -> Result<Netlist, 
     requires cells { length netlist.now.raw.cells ≤ 65535 }
     requires bits { net_bits netlist.now.raw ≤ 1048576 }
     ensures valid { IfOk result IsSound }
+    ensures is { IfOk result (λ mutant. IsMutant netlist.now site.now mutant.raw) }
     ensures one_more { IfOk result (λ mutant. HasOneMore netlist.now.raw mutant.raw) }
     ensures names { IfOk result (λ mutant. HasSameNames netlist.now.raw mutant.raw) }
     ensures shapes { IfOk result (λ mutant. HasSameShapes netlist.now.raw mutant.raw site.now.mode) }

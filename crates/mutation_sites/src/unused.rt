@@ -1,17 +1,18 @@
 //! A number for a new net.
 //!
-//! The numbers from `Netlist::nets` on are no nets. Where that is beyond the numbers of nets, a lesser one is looked for: a
+//! The numbers from `Netlist::nets` on are no nets. Where that is beyond the numbers of nets, the least one is looked for: a
 //! netlist has at most 1,048,577 net bits, so that one of the numbers up to this is no net.
 ghost use Rattle.std.specs.Prelude.{◌≡◌, nat_lt};
-ghost use Rattle.netlist_core.specs.Checked.{IsSound};
+ghost use Rattle.netlist_core.specs.Checked.{IsSound, IsFirst};
 ghost use Rattle.netlist_core.specs.Drivers.{times, times_at, y_bits, drivers};
 ghost use Rattle.netlist_core.specs.Runs.{bits_at, q_bits, output_port};
+ghost use Rattle.mutation_sites.specs.Wiring.{IsNewNet};
 
 use netlist_core::{Bit, BitList, Cell, Netlist, Port, RawNetlist, Register};
 
-/// A number that is no net.
+/// The number of a new net.
 pub(crate) fn unused_net(netlist: &Netlist) -> u32
-    ensures unused { drivers netlist.now.raw result ≡ 0 }
+    ensures new { IsNewNet netlist.now result }
     ensures sound { IsSound netlist.now }
 {
     match u32::try_from(netlist.nets()) {
@@ -22,7 +23,7 @@ pub(crate) fn unused_net(netlist: &Netlist) -> u32
 
 /// The least number that is no net.
 fn first_unused(netlist: &Netlist) -> u32
-    ensures { drivers netlist.now.raw result ≡ 0 }
+    ensures { IsFirst (λ net. drivers netlist.now.raw net ≡ 0) result }
 {
     let raw = netlist.raw();
     let mut net = 0;

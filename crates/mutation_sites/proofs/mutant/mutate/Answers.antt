@@ -1,4 +1,4 @@
-use Rattle.std.proofs.Common.{◌≡◌, Ok, Err, sym, subst, ◌∙◌}
+use Rattle.std.proofs.Common.{◌≡◌, Ok, Err, refl, sym, subst, ◌∙◌}
 use Rattle.std.specs.Prelude.{IfOk}
 use Rattle.std.specs.declared.result.Result.{Result}
 use Rattle.netlist_core.specs.declared.raw.RawNetlist.{RawNetlist}
@@ -6,6 +6,7 @@ use Rattle.netlist_core.specs.declared.netlist.NetError.{NetError}
 use Rattle.netlist_core.specs.declared.netlist.NetError.TheVariants.{Memory}
 use Rattle.netlist_core.specs.Checked.{IsFormed, IsRefused, Plan}
 use Rattle.mutation_sites.specs.Mutants.{RunsAlike, HasEachRun, HasOneMore, HasSameNames, HasSameShapes}
+use Rattle.mutation_sites.specs.Wiring.{IsMutant}
 use Rattle.mutation_sites.proofs.Alike.{runs-alike}
 use Rattle.mutation_sites.proofs.Back.{has-each-run}
 use Rattle.mutation_sites.proofs.More.{has-one-more, has-same-names}
@@ -25,7 +26,10 @@ checked-requires-clause-formed c = subst IsFormed (sym c.in_ok-parts.ensures) (m
 pub checked-requires-clause-accepted : goal.checked-requires-clause-accepted
 checked-requires-clause-accepted c =
     let P : RawNetlist → Type 0 = λ parts. (error : NetError) → IsRefused parts error → error ≡ Memory in
-    subst P (sym c.in_ok-parts.ensures) (refused-memory c.args.netlist.now c.unused_net-net.ensures.sound c.args.site.now c.unused_net-net.result c.unused_net-net.ensures.unused c.requires.cells c.requires.bits)
+    subst P (sym c.in_ok-parts.ensures) (refused-memory c.args.netlist.now c.unused_net-net.ensures.sound c.args.site.now c.unused_net-net.result c.unused_net-net.ensures.new.undriven c.requires.cells c.requires.bits)
+
+pub returns-clause-is : goal.returns-clause-is
+returns-clause-is c = checked-has (IsMutant c.args.netlist.now c.args.site.now) c.in_ok-parts.parts _ c.checked.result c.in_ok-parts.ensures (record { fresh = c.unused_net-net.result; new = c.unused_net-net.ensures.new; is = refl }) c.checked.ensures.parts
 
 pub returns-clause-one_more : goal.returns-clause-one_more
 returns-clause-one_more c = checked-has (HasOneMore c.args.netlist.now.raw) c.in_ok-parts.parts _ c.checked.result c.in_ok-parts.ensures (has-one-more c.args.netlist.now.raw c.args.site.now c.unused_net-net.result) c.checked.ensures.parts
@@ -40,4 +44,4 @@ pub returns-clause-alike : goal.returns-clause-alike
 returns-clause-alike c = checked-has (λ (mutant : RawNetlist). RunsAlike c.args.netlist.now.raw mutant c.args.site.now) c.in_ok-parts.parts _ c.checked.result c.in_ok-parts.ensures (runs-alike c.args.netlist.now.raw c.args.site.now c.unused_net-net.result) c.checked.ensures.parts
 
 pub returns-clause-each_run : goal.returns-clause-each_run
-returns-clause-each_run c = checked-has (λ (mutant : RawNetlist). HasEachRun c.args.netlist.now.raw mutant c.args.site.now) c.in_ok-parts.parts _ c.checked.result c.in_ok-parts.ensures (has-each-run c.args.netlist.now c.unused_net-net.ensures.sound c.args.site.now c.unused_net-net.result c.unused_net-net.ensures.unused) c.checked.ensures.parts
+returns-clause-each_run c = checked-has (λ (mutant : RawNetlist). HasEachRun c.args.netlist.now.raw mutant c.args.site.now) c.in_ok-parts.parts _ c.checked.result c.in_ok-parts.ensures (has-each-run c.args.netlist.now c.unused_net-net.ensures.sound c.args.site.now c.unused_net-net.result c.unused_net-net.ensures.new.undriven) c.checked.ensures.parts
