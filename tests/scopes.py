@@ -353,6 +353,19 @@ def put_head(rng, source):
     return ports, lambda scope: [part(scope) for part in parts], []
 
 
+# Sources and what is printed of them, worked out by hand: selects of parameters with ranges, and system functions.
+BY_HAND = [
+    (
+        "module m #(parameter [11:4] p = 8'h5a, parameter [3:0] q = p[7:4], parameter [3:0] r = p[11:8], parameter a = p[5], parameter b = p[0], parameter [7:0] c = p[2 +: 8], parameter integer i = 6, parameter j = i[1])(input x); endmodule",
+        " u.x[0+:1]i p=8'90 q=4'10 r=4'5 a=1'1 b=1'0 c=8'104 i=32's6 j=1'1; declares 0",
+    ),
+    (
+        'module m #(parameter a = $foo(1), parameter [3:0] b = 1 + $clog2(1, 2), parameter c = $clog2($foo))(input x); endmodule',
+        " u.x[0+:1]i a=32's0 b=4'0 c=32's0; SystemFunction 1:26; SystemFunction 1:59; SystemFunction 1:94; declares 0",
+    ),
+]
+
+
 def shown(scope, parameters):
     """What is printed of a scope."""
     page = ""
@@ -401,7 +414,7 @@ def case(rng):
 
 def main():
     rng = random.Random(16)
-    cases = [case(rng) for _ in range(CASES)]
+    cases = [case(rng) for _ in range(CASES)] + BY_HAND
     tables.save("scope_cases", "".join(f"{text}\n" for text, _ in cases), "".join(f"{text}\n{page}\n" for text, page in cases))
 
 

@@ -507,6 +507,30 @@ module top(input [4:1] a, input [1:0] i, output y);
 endmodule
 elaborate top
 > Unsupported IndexedBase 2:15
+# a parameter with a range counts by it, and a variable index into it is none that is supported
+module top(input [3:0] a, output [3:0] y, output z);
+  parameter [11:4] P = 8'h5a;
+  assign y = a ^ P[7:4];
+  assign z = a[0] & P[5] | P[0];
+endmodule
+elaborate top
+step 0
+> outputs 10 0
+step 15
+> outputs 5 1
+module top(input [1:0] i, output y);
+  parameter [4:1] P = 5;
+  assign y = P[i];
+endmodule
+elaborate top
+> Unsupported IndexedBase 3:15
+# a system function where a constant is wanted
+module top(output y);
+  parameter P = $stime;
+  assign y = P;
+endmodule
+elaborate top
+> Unsupported SystemFunction 2:17
 # a bit with two writers, and a variable
 module top(input a, output [1:0] y);
   assign y[1] = a;
