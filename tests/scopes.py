@@ -363,6 +363,10 @@ BY_HAND = [
         'module m #(parameter a = $foo(1), parameter [3:0] b = 1 + $clog2(1, 2), parameter c = $clog2($foo))(input x); endmodule',
         " u.x[0+:1]i a=32's0 b=4'0 c=32's0; SystemFunction 1:26; SystemFunction 1:59; SystemFunction 1:94; declares 0",
     ),
+    (
+        "module m #(parameter signed [7:0] w = 8'h96, parameter signed [2:0] n = -1, parameter [3:0] e = w[n +: 4], parameter f = w[n], parameter [3:0] g = w[6 +: 4], parameter h = w[n + 3'sd2])(input x); endmodule",
+        " u.x[0+:1]i w=8's150 n=3's7 e=4'12 f=1'0 g=4'2 h=1'1; declares 0",
+    ),
 ]
 
 

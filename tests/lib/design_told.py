@@ -230,15 +230,43 @@ netlist sat
 '''
 
 OUTPUTS = '''
-# an index is read as unsigned at its own width
+# a signed index below 0 selects nothing
 module top(input [3:0] a, input signed [1:0] i, output y);
   assign y = a[i];
 endmodule
 elaborate top
 step 8 3
-> outputs 1
+> outputs 0
 step 7 3
 > outputs 0
+step 2 1
+> outputs 1
+step 13 1
+> outputs 0
+module top(input [127:0] a, input signed [7:0] i, output y);
+  assign y = a[i];
+endmodule
+elaborate top
+step 340282366920938463463374607431768211455 128
+> outputs 0
+step 340282366920938463463374607431768211455 255
+> outputs 0
+step 170141183460469231731687303715884105728 127
+> outputs 1
+# from a constant base below 0 on the bits that exist are read, and a signed base that is no constant is not supported
+module top(input [7:0] a, output [3:0] y);
+  assign y = a[-1 +: 4];
+endmodule
+elaborate top
+step 5
+> outputs 10
+step 255
+> outputs 14
+module top(input [7:0] a, input signed [2:0] i, output [3:0] y);
+  assign y = a[i +: 4];
+endmodule
+elaborate top
+> Unsupported IndexedBase 2:15
 # what lies outside reads 0, and a write there does nothing
 module top(input clk, input [2:0] a, input [2:0] i, output y, output [4:0] z, output [2:0] v);
   reg [4:0] r = 31;
