@@ -17,7 +17,7 @@ use Rattle.vlog_meaning.specs.declared.shapes.Shape.{Shape}
 use Rattle.vlog_meaning.specs.Functions.{function_of}
 use Rattle.vlog_meaning.specs.Integers.{natural}
 use Rattle.vlog_meaning.specs.Operators.{sizing, left_context, right_context, result_width, operand_context, is_reduction}
-use Rattle.vlog_meaning.specs.Scopes.{Names, decl_low}
+use Rattle.vlog_meaning.specs.Scopes.{Names, nothing, decl_low}
 use Rattle.vlog_meaning.specs.Senses.{Sense, sense, is_empty, constant_integer}
 use Rattle.net_builder.specs.Building.{Building}
 use Rattle.elab_expr.specs.Evaluates.{takes_sign}

@@ -12,7 +12,7 @@ use Rattle.vlog_meaning.specs.Senses.{sense, senses, total_width, joined}
 use Rattle.vlog_meaning.proofs.Contexts.{own_context, context_sized}
 use Rattle.vlog_meaning.proofs.Whole as whole
 use Rattle.vlog_meaning.proofs.Whole.{element_whole}
-use Rattle.expr_plans.specs.Made.{plans, all_cells}
+use Rattle.expr_plans.specs.Made.{index_width, plans, all_cells}
 use Rattle.elab_expr.proofs.Growing.{folded_evaluates, held, signals_kept, short_before, short_after}
 use Rattle.elab_expr.proofs.Operands.{sized_as, operand_is, left_is, right_is, right_fits, element_supported, both_ok, place_built}
 use Rattle.net_builder.proofs.Handed.{same_err}

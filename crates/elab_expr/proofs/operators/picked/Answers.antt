@@ -14,3 +14,6 @@ returns-clause-adds c = IfOk-weaker c.pick_bits.result _ _ (λ y b. picked_adds 
 
 pub returns-clause-laid : goal.returns-clause-laid
 returns-clause-laid c = IfOk-weaker c.pick_bits.result _ _ (λ y b. picked_shown c.args.builder.now c.pick_bits.new.builder c.in_ok-a.a (index_bits c.args.own c.args.index) c.in_ok-at.at y c.args.size c.args.width c.args.span _ c.in_ok-a.ensures.is (rw c.as_slice.ensures at c.in_ok-at.ensures.is) b) c.pick_bits.ensures.laid
+
+pub pick_bits-requires-clause-below : goal.pick_bits-requires-clause-below
+pick_bits-requires-clause-below c = (rw c.as_slice.ensures at c.in_ok-at.ensures.below) c.args.builder.now.nets c.requires.below
