@@ -16,4 +16,6 @@ mod wiring;
 
 pub use expression::build_expr;
 pub use nodes::{binary_cell, mux_cell, pick_cell, put_cell, ror_cell, unary_cell};
-pub use wiring::{constant_bits, extended_bits, index_bits, joined_bits, repeated_bits, window_bits};
+pub use wiring::{
+    constant_bits, extended_bits, index_bits, joined_bits, repeated_bits, window_bits,
+};
