@@ -69,7 +69,8 @@ def left(rng):
 
 def main():
     rng = random.Random(20)
-    cases = ["a = b", "b = a", "{a, b} = 16'h1234", "a[9] = 1'b0", "a[1] = 1'b1", "a[10] = 1'b1", "{a[5:2], a[7:4]} = 8'h5a", "d[c +: 8] = 8'hff", "{c, c[1:0]} = 6'd36"]
+    cases = ["a = b", "b = a", "{a, b} = 16'h1234", "a[9] = 1'b0", "a[1] = 1'b1", "a[10] = 1'b1", "{a[5:2], a[7:4]} = 8'h5a", "d[c +: 8] = 8'hff", "{c, c[1:0]} = 6'd36",
+             "a[b +: 7] = 7'h5a", "d[b +: 8] = 8'hff", "d[b +: 3] = 3'd7", "c[b + 2 +: 3] = 3'd5", "{c[0], d[b +: 8]} = 9'h15a", "{a[b +: 8], d[b +: 4]} = 12'h9a5"]
     while len(cases) < 300:
         cases.append(f"{left(rng)} = {value(rng)}")
     body = "\n".join(f"{START} {case}; $display(\"%0d\\n%0d\\n%0d\\n%0d\", a, $unsigned(b), c, d);" for case in cases)
