@@ -231,6 +231,12 @@ def two_calls_build_once(it):
     assert len(it.calls()) == 1, it.calls()
 
 
+def a_limit_on_files_ends_nothing(it):
+    it.passes('[ $# = 0 ] && exit 2; ulimit -f 1; head -c 4096 /dev/zero >"$NOTES/large"; exit $?')
+    told = it.call("nothing")
+    assert told[0] == 1 and (it.notes / "large").stat().st_size < 4096, told
+
+
 def a_terminal_is_told_how_far_it_is(it):
     os.environ.update(it.around("slow"))
     status, text, seen, _ = on_terminal(it.link, ["status", "two words"], it.link.parent)
@@ -256,6 +262,7 @@ CASES = (
     an_interrupted_build_leaves_nothing,
     the_script_alone_is_ended,
     two_calls_build_once,
+    a_limit_on_files_ends_nothing,
     a_terminal_is_told_how_far_it_is,
 )
 
