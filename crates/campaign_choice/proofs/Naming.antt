@@ -2,8 +2,8 @@
 use Rattle.std.proofs.Common.{◌≡◌, ℕ, ◌+◌, ◌<◌, List, [], ◌∷◌, ◌++◌, length, take, get_or, add-one, take-suc, ap, sym, ◌∙◌, append_assoc, append-nil}
 use Rattle.std.specs.List.{flat_map}
 use Rattle.project_file.specs.declared.project.TestPlan.{TestPlan}
-use Rattle.project_file.specs.Paths.{with_name, with_names}
-use Rattle.project_file.proofs.Reading as r
+use Rattle.project_lines.specs.Paths.{with_name, with_names}
+use Rattle.project_lines.proofs.Reading as r
 use Rattle.project_limits.specs.Files.{kind_files}
 
 pub names_none : (names : List (List ℕ)) → with_names names [] ≡ names

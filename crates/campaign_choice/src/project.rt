@@ -1,7 +1,7 @@
 //! A project with its tag script and its report, and the files that it reads.
 ghost use Rattle.std.specs.Prelude.{◌≡◌, ◌≢◌, ◌↔◌, IfErr, IfOk, IsTrue, OnOk, map};
-ghost use Rattle.project_file.specs.Words.{is_among};
-ghost use Rattle.project_file.specs.Paths.{with_name, with_names};
+ghost use Rattle.project_lines.specs.Words.{is_among};
+ghost use Rattle.project_lines.specs.Paths.{with_name, with_names};
 ghost use Rattle.project_file.specs.declared.project.TestKind.TheVariants.{Eq};
 ghost use Rattle.tag_script.specs.Checks.{Reads};
 ghost use Rattle.project_limits.specs.Files.{all_files, kind_files};
@@ -68,7 +68,7 @@ fn is_among(name: &str, names: &[&str]) -> bool
 }
 
 /// Adds a file's name, if it is not there.
-#[tactic(auto, unfolding(project_file::specs::Paths::with_name))]
+#[tactic(auto, unfolding(project_lines::specs::Paths::with_name))]
 fn add_name<'a>(names: &mut Vec<&'a str>, name: &'a str) -> Result<(), AllocError>
     ensures { OnOk result (map (λ n. n.now) names.new.items ≡ with_name (map (λ n. n.now) names.old.items) name.now) }
 {

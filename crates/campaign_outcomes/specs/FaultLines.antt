@@ -5,10 +5,10 @@ use Rattle.result_book.specs.declared.check.RowFault.{RowFault}
 use Rattle.result_book.specs.declared.check.RowFault.TheVariants.{Seq}
 use Rattle.result_book.specs.declared.check.BookError.{BookError}
 use Rattle.result_book.specs.declared.check.BookError.TheVariants.{Meta, Mutation, Row, Stray, Memory as NoMemory}
-use Rattle.project_file.specs.declared.error.ProjectError.{ProjectError}
-use Rattle.project_file.specs.declared.error.ProjectError.TheVariants.{NotUtf8, BadLine, UnknownKey, Repeated, OutOfRange, UnsupportedCommand, Missing as Lacking, Memory as NoMemoryFor}
-use Rattle.project_file.specs.declared.error.What.{What}
-use Rattle.project_file.specs.declared.error.What.TheVariants.{Script, Read, Top, Logic, Kind as TestKind, Pass}
+use Rattle.project_lines.specs.declared.error.ProjectError.{ProjectError}
+use Rattle.project_lines.specs.declared.error.ProjectError.TheVariants.{NotUtf8, BadLine, UnknownKey, Repeated, OutOfRange, UnsupportedCommand, Missing as Lacking, Memory as NoMemoryFor}
+use Rattle.project_lines.specs.declared.error.What.{What}
+use Rattle.project_lines.specs.declared.error.What.TheVariants.{Script, Read, Top, Logic, Kind as TestKind, Pass}
 use Rattle.tag_script.specs.declared.script.ScriptError.{ScriptError}
 use Rattle.tag_script.specs.declared.script.ScriptError.TheVariants as script
 use Rattle.source_faults.specs.Lines.{source_line}

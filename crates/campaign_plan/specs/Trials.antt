@@ -8,7 +8,7 @@ use Rattle.source_faults.specs.declared.fault.SourceError.{SourceError}
 use Rattle.project_file.specs.declared.project.TestKind.{TestKind}
 use Rattle.project_file.specs.declared.project.TestKind.TheVariants.{Eq, Sim}
 use Rattle.project_file.specs.declared.project.TestPlan.{TestPlan}
-use Rattle.project_file.specs.Words.{is_among}
+use Rattle.project_lines.specs.Words.{is_among}
 use Rattle.project_sources.specs.declared.netlist.NetlistError.{NetlistError}
 use Rattle.project_sources.specs.declared.netlist.NetlistError.TheVariants.{Source as Refused, Memory}
 use Rattle.flat_items.specs.Tops.{IsTop}

@@ -6,8 +6,8 @@ use Rattle.std.proofs.lemmas.Str.{utf8_valid_len-IsValidUpTo}
 use Rattle.std.proofs.lemmas.List.Elements.{All-head, All-tail}
 use Rattle.mcy_base.specs.declared.file.SourceFile.{SourceFile}
 use Rattle.mcy_outside.specs.Files.{Held, Gives}
-use Rattle.project_file.specs.declared.error.ProjectError.{ProjectError}
-use Rattle.project_file.specs.declared.error.ProjectError.TheVariants.{NotUtf8}
+use Rattle.project_lines.specs.declared.error.ProjectError.{ProjectError}
+use Rattle.project_lines.specs.declared.error.ProjectError.TheVariants.{NotUtf8}
 use Rattle.project_file.specs.declared.project.Project.{Project}
 use Rattle.project_file.specs.Projects.{IsCut, IsFault, IsProject}
 use Rattle.campaign_reading.specs.declared.refusal.Refusal.{Refusal}

@@ -5,8 +5,8 @@ use Rattle.project_file.specs.declared.project.TestKind.{TestKind}
 use Rattle.project_file.specs.declared.project.TestKind.TheVariants.{Sim}
 use Rattle.project_benches.specs.Benches.{HasNoBench}
 use Rattle.project_file.specs.declared.project.TestPlan.{TestPlan}
-use Rattle.project_file.specs.Words.{is_among}
-use Rattle.project_file.proofs.Faults.{mapped_drop, mapped_end}
+use Rattle.project_lines.specs.Words.{is_among}
+use Rattle.project_lines.proofs.Faults.{mapped_drop, mapped_end}
 use Rattle.source_faults.specs.declared.fault.SourceError.{SourceError}
 use Rattle.project_sources.specs.declared.netlist.NetlistError.{NetlistError}
 use Rattle.project_sources.specs.declared.netlist.NetlistError.TheVariants.{Source as Refused, Memory}

@@ -1,6 +1,6 @@
 //! From the tests of a project to tests that can be run: the bench of each simulation is read.
 ghost use Rattle.std.specs.Prelude.{◌≡◌, ◌≤◌, length, IfOk, IfErr};
-ghost use Rattle.project_file.specs.Words.{is_among};
+ghost use Rattle.project_lines.specs.Words.{is_among};
 ghost use Rattle.campaign_choice.specs.Campaigns.{names_of};
 ghost use Rattle.campaign_plan.specs.Trials.{numbers_in, AreTrials, IsTrial, HasNoTrialFor, HasNoTrials, reading_of};
 

@@ -1,10 +1,3 @@
-pub mod Lines
-pub mod Words
-pub mod Numbers
-pub mod Checks
-pub mod Sections
-pub mod Paths
 pub mod Options
-pub mod Scripts
 pub mod Tests
 pub mod Projects

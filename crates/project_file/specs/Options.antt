@@ -1,14 +1,14 @@
 -- The section `[options]`: a key and its words on each line.
 use Rattle.std.specs.Prelude.{ℕ, ◌==◌, ◌-◌, ◌^◌, Bool, true, ◌||◌, List, [], Option, None, Some, bytes_eq, codes, length, nat_le, if◌then◌else◌, slice_index_or}
-use Rattle.project_file.specs.declared.error.ProjectError.{ProjectError}
-use Rattle.project_file.specs.declared.error.ProjectError.TheVariants.{BadLine, UnknownKey, Repeated, OutOfRange}
+use Rattle.project_lines.specs.declared.error.ProjectError.{ProjectError}
+use Rattle.project_lines.specs.declared.error.ProjectError.TheVariants.{BadLine, UnknownKey, Repeated, OutOfRange}
 use Rattle.project_file.specs.declared.options.OptionKey.{OptionKey}
 use Rattle.project_file.specs.declared.options.OptionKey.TheVariants.{Size, Tags, Seed, Modes, Pick, Conflicts, Cycles}
 use Rattle.project_file.specs.declared.options.Settings.{Settings}
 use Rattle.project_file.specs.declared.project.ModeFlags.{ModeFlags}
-use Rattle.project_file.specs.Lines.{key_of, args_of, is_said, find_line, has_line}
-use Rattle.project_file.specs.Words.{is_name, is_among, are_all, is_one}
-use Rattle.project_file.specs.Numbers.{is_number, is_within, value_within}
+use Rattle.project_lines.specs.Lines.{key_of, args_of, is_said, find_line, has_line}
+use Rattle.project_lines.specs.Words.{is_name, is_among, are_all, is_one}
+use Rattle.project_lines.specs.Numbers.{is_number, is_within, value_within}
 
 unfoldable pub option_key : List ℕ → Option OptionKey
 option_key word =

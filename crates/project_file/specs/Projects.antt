@@ -3,19 +3,19 @@ use Rattle.std.specs.Prelude.{◌≡◌, ◌⊎◌, ℕ, ◌+◌, Bool, false, �
 use Rattle.std.specs.Str.{IsUtf8, IsValidUpTo}
 use Rattle.std.specs.Str.Lines.{lines}
 use Rattle.mcy_base.specs.declared.file.Line.{Line}
-use Rattle.project_file.specs.declared.error.ProjectError.{ProjectError}
-use Rattle.project_file.specs.declared.error.ProjectError.TheVariants.{NotUtf8, BadLine, Repeated, OutOfRange, Missing}
-use Rattle.project_file.specs.declared.error.What.TheVariants as what
+use Rattle.project_lines.specs.declared.error.ProjectError.{ProjectError}
+use Rattle.project_lines.specs.declared.error.ProjectError.TheVariants.{NotUtf8, BadLine, Repeated, OutOfRange, Missing}
+use Rattle.project_lines.specs.declared.error.What.TheVariants as what
 use Rattle.project_file.specs.declared.project.Project.{Project}
 use Rattle.project_file.specs.declared.project.TestPlan.{TestPlan}
-use Rattle.project_file.specs.declared.section.Title.{Title}
-use Rattle.project_file.specs.declared.section.Title.TheVariants.{Options, Script, Files, Test}
-use Rattle.project_file.specs.Checks.{first_fault, first_of_two}
-use Rattle.project_file.specs.Lines.{is_said, has_line}
-use Rattle.project_file.specs.Sections.{Part, lead, parts_of, title_of, name_in, has_header, find_part, lines_in, tests_in}
-use Rattle.project_file.specs.Paths.{Known, find_path, files_fault, with_names, gather}
+use Rattle.project_lines.specs.declared.section.Title.{Title}
+use Rattle.project_lines.specs.declared.section.Title.TheVariants.{Options, Script, Files, Test}
+use Rattle.project_lines.specs.Checks.{first_fault, first_of_two}
+use Rattle.project_lines.specs.Lines.{is_said, has_line}
+use Rattle.project_lines.specs.Sections.{Part, lead, parts_of, title_of, name_in, has_header, find_part, lines_in, tests_in}
+use Rattle.project_lines.specs.Paths.{Known, find_path, files_fault, with_names, gather}
 use Rattle.project_file.specs.Options.{option_fault, size_in, tags_in, seed_in, modes_in, is_even_in, conflicts_in, cycles_in}
-use Rattle.project_file.specs.Scripts.{script_fault, script_reads, first_top}
+use Rattle.project_lines.specs.Scripts.{script_fault, script_reads, first_top}
 use Rattle.project_file.specs.Tests.{test_fault, test_reads, plan_of, is_sim, has_kind}
 
 -- Faults.

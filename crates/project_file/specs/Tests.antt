@@ -1,16 +1,16 @@
 -- The sections `[test NAME]`.
 use Rattle.std.specs.Prelude.{ℕ, ◌+◌, Bool, true, false, not, ◌&&◌, ◌||◌, List, [], ◌∷◌, Option, None, Some, bytes_eq, codes, drop, slice_index_or, if◌then◌else◌}
-use Rattle.project_file.specs.declared.error.ProjectError.{ProjectError}
-use Rattle.project_file.specs.declared.error.ProjectError.TheVariants.{BadLine, UnknownKey, Repeated, UnsupportedCommand}
+use Rattle.project_lines.specs.declared.error.ProjectError.{ProjectError}
+use Rattle.project_lines.specs.declared.error.ProjectError.TheVariants.{BadLine, UnknownKey, Repeated, UnsupportedCommand}
 use Rattle.project_file.specs.declared.project.TestPlan.{TestPlan}
 use Rattle.project_file.specs.declared.project.TestKind.{TestKind}
 use Rattle.project_file.specs.declared.project.TestKind.TheVariants as kind
 use Rattle.project_file.specs.declared.test_plan.TestKey.{TestKey}
 use Rattle.project_file.specs.declared.test_plan.TestKey.TheVariants.{Run, Eq, Sim, Pass, Fail, Expect, MaxBatchSize}
-use Rattle.project_file.specs.Lines.{key_of, args_of, text_of, is_said, find_line, has_line}
-use Rattle.project_file.specs.Words.{is_name, is_among, are_all, is_one}
-use Rattle.project_file.specs.Numbers.{is_number}
-use Rattle.project_file.specs.Paths.{with_names, count_fault, gather}
+use Rattle.project_lines.specs.Lines.{key_of, args_of, text_of, is_said, find_line, has_line}
+use Rattle.project_lines.specs.Words.{is_name, is_among, are_all, is_one}
+use Rattle.project_lines.specs.Numbers.{is_number}
+use Rattle.project_lines.specs.Paths.{with_names, count_fault, gather}
 use Rattle.project_file.specs.Options.{args_in}
 
 unfoldable pub test_key : List ℕ → Option TestKey

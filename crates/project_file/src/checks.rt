@@ -1,18 +1,16 @@
 //! The checks of a project file: each line behind the lines before it, so that the first bad one is told.
 ghost use Rattle.std.specs.Prelude.{◌≡◌, ◌<◌, ◌+◌, ◌-◌, ◌^◌, [], IfOk, OnOk, Some, length, map};
-ghost use Rattle.project_file.specs.Checks.{Checks, first_fault};
-ghost use Rattle.project_file.specs.Paths.{paths_in, with_names};
+ghost use Rattle.project_lines.specs.Checks.{Checks, first_fault};
+ghost use Rattle.project_lines.specs.Paths.{paths_in, with_names};
 ghost use Rattle.project_file.specs.Projects.{fault_of, header_fault, is_test_too_many, lead_fault, lines_fault, missing, missing_behind_script, missing_in_script, missing_in_tests, missing_kind, missing_pass, part_at, part_fault, part_reads, parts_fault, reads_in};
-ghost use Rattle.project_file.specs.Sections.{lead, parts_of, seen, tests_in, title_of};
+ghost use Rattle.project_lines.specs.Sections.{lead, parts_of, seen, tests_in, title_of};
 
-use crate::error::{ProjectError, What};
-use crate::lines::{has_line, is_said};
 use crate::options::check_options;
-use crate::paths::{Paths, ReadFiles, check_files};
-use crate::script::{check_script, first_top};
-use crate::section::{Section, Title};
-use crate::sections::{find_section, has_header, lead, lines_in, tests_in, title_of};
 use crate::test_plan::{check_test, has_kind, lacks_pass};
+use project_lines::{
+    Paths, ProjectError, ReadFiles, Section, Title, What, check_files, check_script, find_section,
+    first_top, has_header, has_line, is_said, lead, lines_in, tests_in, title_of,
+};
 use std::alloc::{AllocError, Global};
 
 /// The most tests of a project.
@@ -70,7 +68,7 @@ fn check_header(
 }
 
 /// Checks the lines of a section, which are numbered from here on, and reads their files.
-#[tactic(auto, unfolding(crate::specs::Paths::with_names))]
+#[tactic(auto, unfolding(project_lines::specs::Paths::with_names))]
 fn check_lines<'a>(
     alloc: Global,
     paths: &Paths<'a>,
@@ -109,7 +107,7 @@ fn check_section<'a>(
 }
 
 /// Checks sections in order.
-#[tactic(auto, unfolding(crate::specs::Paths::with_names, crate::specs::Paths::gather))]
+#[tactic(auto, unfolding(project_lines::specs::Paths::with_names, project_lines::specs::Paths::gather))]
 fn check_sections<'a>(
     alloc: Global,
     paths: &Paths<'a>,
@@ -175,7 +173,7 @@ fn check_script_lines(alloc: Global, lines: &[&str]) -> Result<(), ProjectError>
 }
 
 /// Checks that nothing is missing beside the section of the script.
-#[tactic(auto, using(crate::proofs::Few::few_tests))]
+#[tactic(auto, using(project_lines::proofs::Few::few_tests))]
 fn check_behind_script(alloc: Global, sections: &[Section<'_, '_>]) -> Result<(), ProjectError>
     requires { length sections.now < 2 ^ 32 }
     ensures { Checks result (missing_behind_script (map seen sections.now)) }
@@ -211,7 +209,7 @@ fn check_parts(alloc: Global, sections: &[Section<'_, '_>]) -> Result<(), Projec
 }
 
 /// Checks a file: its lines, and its sections.
-#[tactic(auto, using(crate::proofs::Few::few_sections), unfolding(crate::specs::Projects::fault_of))]
+#[tactic(auto, using(project_lines::proofs::Few::few_sections), unfolding(crate::specs::Projects::fault_of))]
 pub fn check_file(
     alloc: Global,
     lines: &[&str],

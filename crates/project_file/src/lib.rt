@@ -8,22 +8,11 @@
 #![tactic(auto)]
 
 mod checks;
-mod error;
-mod lines;
-mod numbers;
 mod options;
-mod paths;
 mod project;
 mod read;
-mod script;
-mod section;
-mod sections;
 mod test_plan;
-mod words;
 
-pub use error::{ProjectError, What};
-pub use lines::is_blank;
-pub use numbers::is_digit;
 pub use project::{ModeFlags, Project, TestKind, TestPlan, TestPlanList};
+pub use project_lines::{ProjectError, What};
 pub use read::read_project;
-pub use words::{is_name_byte, is_name_start};

@@ -1,17 +1,17 @@
 //! The section `[options]`.
 ghost use Rattle.std.specs.Prelude.{◌≡◌, ◌<◌, ◌≤◌, ◌+◌, ◌^◌, [], IfOk, length, map};
 ghost use Rattle.std.specs.List.{list_all};
-ghost use Rattle.project_file.specs.Checks.{Checks, first_fault};
-ghost use Rattle.project_file.specs.Numbers.{is_within};
-ghost use Rattle.project_file.specs.Words.{are_all, is_name, is_one};
+ghost use Rattle.project_lines.specs.Checks.{Checks, first_fault};
+ghost use Rattle.project_lines.specs.Numbers.{is_within};
+ghost use Rattle.project_lines.specs.Words.{are_all, is_name, is_one};
 ghost use Rattle.project_file.specs.Options.{args_in, conflicts_in, cycles_in, flags_of, is_even_in, is_mode, is_option_form, is_option_range, is_pick, known_option_fault, modes_in, number_in, option_args_fault, option_fault, option_key, option_key_fault, seed_in, settings_in, size_in, tags_in};
 
-use crate::error::ProjectError;
-use crate::lines::{args_of, find_line, has_line, is_said, key_of};
-use crate::numbers::{is_one_number, number_or, number_within};
 use crate::project::ModeFlags;
-use crate::words::{are_names, is_among, texts_of};
 use mcy_base::TextList;
+use project_lines::{
+    ProjectError, are_names, args_of, find_line, has_line, is_among, is_one_number, is_said,
+    key_of, number_or, number_within, texts_of,
+};
 use std::alloc::{AllocError, Global};
 
 /// The keys of options.

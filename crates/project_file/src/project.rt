@@ -2,8 +2,8 @@
 ghost use Rattle.std.specs.Prelude.{◌≡◌, IfOk, map};
 ghost use Rattle.project_file.specs.Projects.{design_files};
 
-use crate::paths::names_once;
 use mcy_base::{Bytes, Items, LineList, Text, TextList};
+use project_lines::names_once;
 use std::alloc::{AllocError, Global};
 
 /// For each mode of mutation, whether it is asked for.

@@ -3,20 +3,17 @@ ghost use Rattle.std.specs.Prelude.{◌≡◌, ◌≢◌, ◌<◌, ◌+◌, ◌^
 ghost use Rattle.std.specs.Str.{IsUtf8, IsValidUpTo};
 ghost use Rattle.std.specs.Str.Lines.{lines};
 ghost use Rattle.project_file.specs.Projects.{IsFault, IsProject, design_in, numbered, project_of, raw_lines, test_of, top_in};
-ghost use Rattle.project_file.specs.Sections.{seen, tests_in};
+ghost use Rattle.project_lines.specs.Sections.{seen, tests_in};
 
 use crate::checks::check_file;
-use crate::error::ProjectError;
-use crate::lines::lines;
 use crate::options::{settings_in, tags_in};
-use crate::paths::Paths;
 use crate::project::{Project, TestPlan, TestPlanList};
-use crate::script::{all_reads, first_top};
-use crate::section::Section;
-use crate::sections::{find_section, lines_in, name_in, sections, tests_in};
 use crate::test_plan::plan_of;
-use crate::words::texts_of;
 use mcy_base::{Line, LineList, Text, TextList};
+use project_lines::{
+    Paths, ProjectError, Section, all_reads, all_sections, find_section, first_top, lines_in,
+    name_in, tests_in, text_lines, texts_of,
+};
 use std::alloc::{AllocError, Global};
 use std::str::from_utf8;
 
@@ -24,15 +21,15 @@ use std::str::from_utf8;
 ///
 /// It refuses the first bad line in the order of the file, and where no line is bad the first thing that is missing. A file
 /// that is no UTF-8 is refused before that.
-#[tactic(auto, using(crate::proofs::Few::few_lines))]
+#[tactic(auto, using(project_lines::proofs::Few::few_lines))]
 pub fn read_project(alloc: Global, bytes: &[u8]) -> Result<Project, ProjectError>
     requires { length bytes.now < 2 ^ 31 }
     ensures project { IfOk result (λ project. IsProject bytes.now project) }
     ensures refused { IfErr result (λ e. e ≢ ProjectError.Memory → IsFault bytes.now e) }
 {
     let text = utf8(bytes)?;
-    let lines = lines(alloc, text)?;
-    let sections = sections(alloc, &lines)?;
+    let lines = text_lines(alloc, text)?;
+    let sections = all_sections(alloc, &lines)?;
     check_file(alloc, &lines, &sections)?;
     Ok(project_of(alloc, &sections)?)
 }

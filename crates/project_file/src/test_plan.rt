@@ -4,21 +4,20 @@
 //! not go with the kind, the later line is bad.
 ghost use Rattle.std.specs.Prelude.{◌≡◌, ◌<◌, ◌≤◌, ◌+◌, ◌^◌, ◌&&◌, [], IfOk, OnOk, Some, length, map};
 ghost use Rattle.std.specs.List.{list_all};
-ghost use Rattle.project_file.specs.Lines.{args_of, has_line};
-ghost use Rattle.project_file.specs.Words.{are_all, is_among};
-ghost use Rattle.project_file.specs.Checks.{Checks, first_fault};
-ghost use Rattle.project_file.specs.Paths.{count_fault, gather, with_names};
+ghost use Rattle.project_lines.specs.Lines.{args_of, has_line};
+ghost use Rattle.project_lines.specs.Words.{are_all, is_among};
+ghost use Rattle.project_lines.specs.Checks.{Checks, first_fault};
+ghost use Rattle.project_lines.specs.Paths.{count_fault, gather, with_names};
 ghost use Rattle.project_file.specs.Projects.{lacks_pass};
 ghost use Rattle.project_file.specs.Tests.{all_words, bit_if, expects, files_by, formed_fault, has_kind, is_answer, is_clash, is_eq, is_kind, is_none, is_sim, is_sim_form, is_test_form, known_test_fault, kind_by, kind_in, mask_in, mask_of, plan_of, test_at, test_fault, test_key, test_reads, text_in};
 
-use crate::error::ProjectError;
-use crate::lines::{args_of, find_line, has_line, is_said, key_of, text_of};
-use crate::numbers::is_one_number;
 use crate::options::args_in;
-use crate::paths::ReadFiles;
 use crate::project::{TestKind, TestPlan};
-use crate::words::{is_among, is_name, texts_of};
 use mcy_base::{Bytes, Text};
+use project_lines::{
+    ProjectError, ReadFiles, args_of, find_line, has_line, is_among, is_name, is_one_number,
+    is_said, key_of, text_of, texts_of,
+};
 use std::alloc::{AllocError, Global};
 
 /// The keys of tests.
@@ -195,7 +194,7 @@ fn check_formed<'a>(
 }
 
 /// Checks a line behind the lines before it, and reads its files.
-#[tactic(auto, unfolding(crate::specs::Tests::test_at, crate::specs::Tests::test_reads, crate::specs::Paths::with_names))]
+#[tactic(auto, unfolding(crate::specs::Tests::test_at, crate::specs::Tests::test_reads, project_lines::specs::Paths::with_names))]
 fn check_line<'a>(
     alloc: Global,
     read: &mut ReadFiles<'a>,
@@ -222,7 +221,7 @@ fn check_line<'a>(
 }
 
 /// Checks the lines of the section, which are numbered from here on, and reads their files.
-#[tactic(auto, unfolding(crate::specs::Paths::with_names, crate::specs::Paths::gather))]
+#[tactic(auto, unfolding(project_lines::specs::Paths::with_names, project_lines::specs::Paths::gather))]
 pub fn check_test<'a>(
     alloc: Global,
     read: &mut ReadFiles<'a>,

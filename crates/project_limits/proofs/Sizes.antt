@@ -3,10 +3,10 @@ use Rattle.std.proofs.Common.{◌≡◌, ℕ, ◌≤◌, Bool, true, false, ◌&
 use Rattle.std.proofs.lemmas.Bool.Decides.{nat_tests}
 use Rattle.std.specs.Str.Lines.{lines}
 use Rattle.project_file.specs.declared.project.Project.{Project}
-use Rattle.project_file.specs.Numbers.{is_number, is_within, value, value_within}
+use Rattle.project_lines.specs.Numbers.{is_number, is_within, value, value_within}
 use Rattle.project_file.specs.Options.{conflicts_in, number_in, size_in}
 use Rattle.project_file.specs.Projects.{IsProject, project_of}
-use Rattle.project_file.specs.Sections.{Part, parts_of}
+use Rattle.project_lines.specs.Sections.{Part, parts_of}
 
 -- a number is in a range
 abbrev IsFrom : (least most number : ℕ) → Type 0

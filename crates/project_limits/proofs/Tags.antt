@@ -3,19 +3,19 @@ use Rattle.std.proofs.Common.{◌≡◌, ℕ, ◌+◌, ◌≤◌, Bool, true, fa
 use Rattle.std.proofs.lemmas.Bool.Decides.{nat_tests}
 use Rattle.std.proofs.lemmas.Slice.Eq.{bytes_eq-Decides}
 use Rattle.std.specs.Str.Lines.{lines}
-use Rattle.project_file.specs.declared.error.ProjectError.{ProjectError}
-use Rattle.project_file.specs.declared.error.ProjectError.TheVariants.{BadLine, Repeated, OutOfRange}
+use Rattle.project_lines.specs.declared.error.ProjectError.{ProjectError}
+use Rattle.project_lines.specs.declared.error.ProjectError.TheVariants.{BadLine, Repeated, OutOfRange}
 use Rattle.project_file.specs.declared.options.OptionKey.{OptionKey}
 use Rattle.project_file.specs.declared.options.OptionKey.TheVariants.{Tags}
 use Rattle.project_file.specs.declared.project.Project.{Project}
-use Rattle.project_file.specs.declared.section.Title.{Title}
-use Rattle.project_file.specs.declared.section.Title.TheVariants.{Options}
-use Rattle.project_file.specs.Checks.{first_fault}
-use Rattle.project_file.specs.Lines.{args_of, find_line, has_line, is_said, key_of}
+use Rattle.project_lines.specs.declared.section.Title.{Title}
+use Rattle.project_lines.specs.declared.section.Title.TheVariants.{Options}
+use Rattle.project_lines.specs.Checks.{first_fault}
+use Rattle.project_lines.specs.Lines.{args_of, find_line, has_line, is_said, key_of}
 use Rattle.project_file.specs.Options.{args_in, is_option_form, is_option_range, option_fault, option_key, option_key_fault, tags_in}
-use Rattle.project_file.specs.Paths.{Known, find_path, gather, with_names}
+use Rattle.project_lines.specs.Paths.{Known, find_path, gather, with_names}
 use Rattle.project_file.specs.Projects.{lines_fault, part_fault, part_reads, project_of, IsProject}
-use Rattle.project_file.specs.Sections.{Part, find_part, lines_in, parts_of, title_of}
+use Rattle.project_lines.specs.Sections.{Part, find_part, lines_in, parts_of, title_of}
 use Rattle.project_limits.proofs.Headers.{header_good, header_of_word, lines_good, sections_good}
 use Rattle.project_limits.proofs.Lines.{found_good}
 

@@ -6,11 +6,11 @@ use Rattle.std.proofs.lemmas.List.Elements.{filter-append}
 use Rattle.std.proofs.lemmas.Slice.Eq.{bytes_eq-Decides}
 use Rattle.std.specs.Str.Lines.{lines}
 use Rattle.project_file.specs.declared.project.Project.{Project}
-use Rattle.project_file.specs.Checks.{first_fault}
-use Rattle.project_file.specs.Lines.{key_of}
-use Rattle.project_file.specs.Paths.{Known, find_path}
+use Rattle.project_lines.specs.Checks.{first_fault}
+use Rattle.project_lines.specs.Lines.{key_of}
+use Rattle.project_lines.specs.Paths.{Known, find_path}
 use Rattle.project_file.specs.Projects.{part_fault, project_of, test_of, IsProject}
-use Rattle.project_file.specs.Sections.{Part, is_test, lines_in, parts_of, tests_in}
+use Rattle.project_lines.specs.Sections.{Part, is_test, lines_in, parts_of, tests_in}
 use Rattle.project_limits.proofs.Headers.{header_good, room_for_test, sections_good}
 use Rattle.project_limits.proofs.Lines.{head_good, tail_good}
 

@@ -4,7 +4,7 @@ use Rattle.std.specs.List.{flat_map}
 use Rattle.project_file.specs.declared.project.Project.{Project}
 use Rattle.project_file.specs.declared.project.TestKind.{TestKind}
 use Rattle.project_file.specs.declared.project.TestKind.TheVariants.{Eq, Sim}
-use Rattle.project_file.specs.Paths.{with_names}
+use Rattle.project_lines.specs.Paths.{with_names}
 use Rattle.project_file.specs.Projects.{design_files}
 
 -- the files of a test

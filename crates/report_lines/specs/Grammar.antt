@@ -5,7 +5,7 @@ use Rattle.std.specs.Prelude.{ℕ, zero, suc, ◌==◌, ◌+◌, ◌*◌, ◌^�
 use Rattle.script_lines.specs.declared.keyword.Keyword.TheVariants as key
 use Rattle.script_lines.specs.declared.token.Token.{Token}
 use Rattle.script_lines.specs.declared.token.Token.TheVariants as token
-use Rattle.project_file.specs.Numbers.{value}
+use Rattle.project_lines.specs.Numbers.{value}
 use Rattle.tag_lines.specs.Grammar.{argument_of, before_symbol, is_symbol, open_behind, place_of}
 use Rattle.report_lines.specs.declared.expr.Expr.{Expr}
 use Rattle.report_lines.specs.declared.expr.Expr.TheVariants as e

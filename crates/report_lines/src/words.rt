@@ -1,6 +1,6 @@
 //! Expressions of one token, and the counts of tags.
 ghost use Rattle.std.specs.Prelude.{◌≡◌, ◌≤◌, ◌+◌, ◌^◌, ◌*◌, IfOk, length, min};
-ghost use Rattle.project_file.specs.Numbers.{value};
+ghost use Rattle.project_lines.specs.Numbers.{value};
 ghost use Rattle.report_lines.specs.Grammar.{capped, counted, decimal_number, number, place_unit, single};
 
 use crate::expr::Expr;
@@ -12,7 +12,7 @@ use tag_lines::{argument_of, place_in_texts};
 const CAP: u64 = 1_000_000_000_001;
 
 /// The value of decimal digits, or the cap where it is the cap or more.
-#[tactic(auto, unfolding(project_file::specs::Numbers::value, crate::specs::Grammar::capped))]
+#[tactic(auto, unfolding(project_lines::specs::Numbers::value, crate::specs::Grammar::capped))]
 fn capped(digits: &[u8]) -> u64
     ensures value { result ≡ capped digits.now }
     ensures small { result ≤ 10 ^ 12 + 1 }

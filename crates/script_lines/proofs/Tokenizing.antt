@@ -6,9 +6,9 @@ use Rattle.std.proofs.lemmas.List.{take_all}
 use Rattle.script_lines.specs.declared.class.Class.TheVariants as class
 use Rattle.script_lines.specs.declared.token.Cut.{Cut}
 use Rattle.script_lines.specs.declared.token.Token.{Token}
-use Rattle.project_file.specs.Lines.{from_word, is_blank}
-use Rattle.project_file.specs.Numbers.{is_digit}
-use Rattle.project_file.specs.Words.{is_name_start}
+use Rattle.project_lines.specs.Lines.{from_word, is_blank}
+use Rattle.project_lines.specs.Numbers.{is_digit}
+use Rattle.project_lines.specs.Words.{is_name_start}
 use Rattle.script_lines.specs.Classes.{is_in}
 use Rattle.script_lines.specs.Tokens.{and_then, front_token, is_end, number_token, quoted_token, sign, sign_by, token_run, tokens, tokens_within, word_token}
 

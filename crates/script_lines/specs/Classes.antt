@@ -2,9 +2,9 @@
 use Rattle.std.specs.Prelude.{ℕ, ◌==◌, Bool, ◌&&◌, not}
 use Rattle.script_lines.specs.declared.class.Class.{Class}
 use Rattle.script_lines.specs.declared.class.Class.TheVariants.{Blank, NameByte, Digit, Inside}
-use Rattle.project_file.specs.Lines.{is_blank}
-use Rattle.project_file.specs.Numbers.{is_digit}
-use Rattle.project_file.specs.Words.{is_name_byte}
+use Rattle.project_lines.specs.Lines.{is_blank}
+use Rattle.project_lines.specs.Numbers.{is_digit}
+use Rattle.project_lines.specs.Words.{is_name_byte}
 
 -- a byte between these quotes: another one, and no backslash (92)
 unfoldable pub is_inside : ℕ → ℕ → Bool

@@ -2,7 +2,7 @@
 use Rattle.std.specs.Prelude.{ℕ, ◌==◌, Bool, List, [], ◌∷◌, ◌++◌, Option, None, Some, take, if◌then◌else◌}
 use Rattle.std.specs.List.{list_all, prefix_len}
 use Rattle.mcy_base.specs.declared.file.Line.{Line}
-use Rattle.project_file.specs.Lines.{from_word}
+use Rattle.project_lines.specs.Lines.{from_word}
 use Rattle.script_lines.specs.declared.class.Class.TheVariants.{Blank}
 use Rattle.script_lines.specs.declared.row.Row.{Row}
 use Rattle.script_lines.specs.Classes.{is_in}

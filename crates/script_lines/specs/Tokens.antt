@@ -9,9 +9,9 @@ use Rattle.script_lines.specs.declared.keyword.Keyword.TheVariants as key
 use Rattle.script_lines.specs.declared.token.Cut.{Cut}
 use Rattle.script_lines.specs.declared.token.Token.{Token}
 use Rattle.script_lines.specs.declared.token.Token.TheVariants as token
-use Rattle.project_file.specs.Lines.{from_word}
-use Rattle.project_file.specs.Numbers.{is_digit}
-use Rattle.project_file.specs.Words.{is_name_start}
+use Rattle.project_lines.specs.Lines.{from_word}
+use Rattle.project_lines.specs.Numbers.{is_digit}
+use Rattle.project_lines.specs.Words.{is_name_start}
 use Rattle.script_lines.specs.Classes.{is_in}
 
 unfoldable pub connective : List ℕ → Option Keyword

@@ -1,10 +1,10 @@
 //! Bytes by what they may stand for in a script.
 ghost use Rattle.std.specs.Prelude.{◌≡◌, ◌≤◌, length};
 ghost use Rattle.std.specs.List.{prefix_len};
-ghost use Rattle.project_file.specs.Lines.{from_word};
+ghost use Rattle.project_lines.specs.Lines.{from_word};
 ghost use Rattle.script_lines.specs.Classes.{is_in, is_inside};
 
-use project_file::{is_blank, is_digit, is_name_byte};
+use project_lines::{is_blank, is_digit, is_name_byte};
 
 /// What a run of bytes is made of.
 #[derive(Clone, Copy)]

@@ -7,7 +7,7 @@ ghost use Rattle.script_lines.specs.Tokens.{front_token, is_end, number_token, p
 use crate::class::{Class, from_word, run_len};
 use crate::keyword::{Keyword, keyword_of};
 use mcy_base::{Bytes, Items};
-use project_file::{is_digit, is_name_start};
+use project_lines::{is_digit, is_name_start};
 use std::alloc::{AllocError, Global};
 
 /// A token of a script.

@@ -11,7 +11,7 @@ use Rattle.tag_lines.specs.declared.expr.Expr.{Expr}
 use Rattle.tag_lines.specs.declared.expr.Expr.TheVariants as e
 use Rattle.tag_lines.specs.declared.parting.Separator.{Separator}
 use Rattle.tag_lines.specs.declared.parting.Separator.TheVariants as sep
-use Rattle.project_file.specs.Numbers.{value}
+use Rattle.project_lines.specs.Numbers.{value}
 
 -- the tests of the project, and the names of the script as far as it was read
 pub record Words : Type 0 where

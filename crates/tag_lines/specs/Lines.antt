@@ -7,7 +7,7 @@ use Rattle.script_lines.specs.declared.token.Token.TheVariants as token
 use Rattle.tag_lines.specs.declared.expr.Expr.{Expr}
 use Rattle.tag_lines.specs.declared.head.Head.{Head}
 use Rattle.tag_lines.specs.declared.head.Head.TheVariants as head
-use Rattle.project_file.specs.Paths.{with_name}
+use Rattle.project_lines.specs.Paths.{with_name}
 use Rattle.tag_lines.specs.Grammar.{Reader, argument_of, before_symbol, is_function, is_symbol, place_of}
 
 abbrev pub with_expr : (Expr → Head) → Option Expr → Option Head

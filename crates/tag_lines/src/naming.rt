@@ -1,7 +1,7 @@
 //! The names of a line.
 ghost use Rattle.std.specs.Prelude.{◌≡◌, OnOk};
-ghost use Rattle.project_file.specs.Paths.{with_name};
-ghost use Rattle.project_file.specs.Words.{is_among};
+ghost use Rattle.project_lines.specs.Paths.{with_name};
+ghost use Rattle.project_lines.specs.Words.{is_among};
 ghost use Rattle.tag_lines.specs.Lines.{names_behind, with_token};
 
 use crate::words::is_function;
@@ -16,7 +16,7 @@ fn is_among_names(word: &[u8], names: &[Bytes]) -> bool
 }
 
 /// Adds a name, which stands there once.
-#[tactic(auto, unfolding(project_file::specs::Paths::with_name))]
+#[tactic(auto, unfolding(project_lines::specs::Paths::with_name))]
 fn add_name(alloc: Global, names: &mut BytesList, name: &[u8]) -> Result<(), AllocError>
     ensures { OnOk result (names.new ≡ with_name names.old name.now) }
 {

@@ -1,6 +1,6 @@
 //! Words, and expressions of one token.
 ghost use Rattle.std.specs.Prelude.{◌≡◌, ◌≤◌, ◌^◌, ◌-◌, IfOk, IsTrue, bytes_eq, length, min, option_map, slice_get};
-ghost use Rattle.project_file.specs.Numbers.{value};
+ghost use Rattle.project_lines.specs.Numbers.{value};
 ghost use Rattle.tag_lines.specs.Grammar.{argument_of, is_function, is_last, number_of, place_of, single};
 
 use crate::expr::Expr;
@@ -54,7 +54,7 @@ pub fn place_in_names(word: &[u8], names: &[Bytes]) -> usize
 }
 
 /// The value of decimal digits, or the limit where it is the limit or more.
-#[tactic(auto, unfolding(project_file::specs::Numbers::value))]
+#[tactic(auto, unfolding(project_lines::specs::Numbers::value))]
 fn value(digits: &[u8]) -> u64
     ensures { result ≡ min (value digits.now) (2 ^ 31) }
 {

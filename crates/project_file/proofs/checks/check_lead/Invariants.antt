@@ -1,5 +1,5 @@
 use Rattle.std.proofs.Common.{◌≡◌, ◌+◌, [], drop, map, take}
-use Rattle.project_file.specs.Checks.{first_fault}
+use Rattle.project_lines.specs.Checks.{first_fault}
 use Rattle.project_file.specs.Projects.{lead_fault}
 use Rattle.project_file.proofs.checks.check_lead.Given as goal
 

@@ -1,8 +1,8 @@
 use Rattle.std.proofs.Common.{◌≡◌, ◌+◌, [], drop, map, take}
-use Rattle.project_file.specs.Checks.{first_fault}
-use Rattle.project_file.specs.Paths.{gather, paths_in, with_names}
+use Rattle.project_lines.specs.Checks.{first_fault}
+use Rattle.project_lines.specs.Paths.{gather, paths_in, with_names}
 use Rattle.project_file.specs.Projects.{part_fault, part_reads}
-use Rattle.project_file.specs.Sections.{seen}
+use Rattle.project_lines.specs.Sections.{seen}
 use Rattle.project_file.proofs.checks.check_sections.Given as goal
 
 abbrev pub invariant-loop-i : goal.invariant-loop-i

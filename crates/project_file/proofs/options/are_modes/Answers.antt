@@ -2,7 +2,7 @@ use Rattle.std.proofs.Common.{List, ℕ, Bor, rules, tests, sym, ◌∙◌}
 use Rattle.std.proofs.lemmas.Iterator.{YieldsList-from_slice}
 use Rattle.std.proofs.lemmas.Iterator.Search.{all_from_yields_List}
 use Rattle.project_file.specs.Options.{is_mode}
-use Rattle.project_file.proofs.Maps.{all_map}
+use Rattle.project_lines.proofs.Maps.{all_map}
 use Rattle.project_file.proofs.options.are_modes.Goals as goal
 
 pub returns : goal.returns

@@ -1,5 +1,5 @@
 use Rattle.std.proofs.Common.{◌≡◌, ◌+◌, [], drop, map, take}
-use Rattle.project_file.specs.Checks.{first_fault}
+use Rattle.project_lines.specs.Checks.{first_fault}
 use Rattle.project_file.specs.Options.{option_fault}
 use Rattle.project_file.proofs.options.check_options.Given as goal
 

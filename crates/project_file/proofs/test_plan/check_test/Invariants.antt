@@ -1,6 +1,6 @@
 use Rattle.std.proofs.Common.{◌≡◌, ◌+◌, [], drop, map, take}
-use Rattle.project_file.specs.Checks.{first_fault}
-use Rattle.project_file.specs.Paths.{gather, with_names}
+use Rattle.project_lines.specs.Checks.{first_fault}
+use Rattle.project_lines.specs.Paths.{gather, with_names}
 use Rattle.project_file.specs.Tests.{test_fault, test_reads}
 use Rattle.project_file.proofs.test_plan.check_test.Given as goal
 

@@ -1,5 +1,5 @@
 use Rattle.std.proofs.Common.{◌≡◌, ◌+◌, ◌^◌, min, take}
-use Rattle.project_file.specs.Numbers.{value}
+use Rattle.project_lines.specs.Numbers.{value}
 use Rattle.report_lines.proofs.words.capped.Given as goal
 
 abbrev pub invariant-loop-digit : goal.invariant-loop-digit

@@ -1,5 +1,5 @@
 use Rattle.std.proofs.Common.{◌≡◌, ◌++◌, ◌∷◌, [], false, true, None, rules, tests, sym, ◌∙◌, subst}
-use Rattle.project_file.specs.Lines.{from_word}
+use Rattle.project_lines.specs.Lines.{from_word}
 use Rattle.script_lines.specs.Tokens.{front_token, is_end}
 use Rattle.script_lines.proofs.Tokenizing.{Whole, behind_is, less_left, whole_bad, whole_end, whole_first, whole_more}
 use Rattle.script_lines.proofs.token.tokens.Goals as goal

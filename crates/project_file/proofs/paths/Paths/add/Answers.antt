@@ -1,5 +1,0 @@
-use Rattle.project_file.proofs.Finding.{paths_updated}
-use Rattle.project_file.proofs.paths.Paths.add.Goals as goal
-
-pub returns : goal.returns
-returns c = paths_updated _ _ _ _ (c.in_ok-insert.ensures).updates

@@ -1,5 +1,0 @@
-use Rattle.project_file.proofs.Finding.{paths_empty}
-use Rattle.project_file.proofs.paths.Paths.new.Goals as goal
-
-pub returns : goal.returns
-returns c = paths_empty _ c.new.ensures.empty

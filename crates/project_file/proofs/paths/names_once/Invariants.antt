@@ -1,6 +1,0 @@
-use Rattle.std.proofs.Common.{◌≡◌, [], take}
-use Rattle.project_file.specs.Paths.{with_names}
-use Rattle.project_file.proofs.paths.names_once.Given as goal
-
-abbrev pub invariant-loop-name : goal.invariant-loop-name
-invariant-loop-name l = l.read ≡ with_names [] (take l.name-index l.names)

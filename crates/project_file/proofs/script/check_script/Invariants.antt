@@ -1,8 +1,0 @@
-use Rattle.std.proofs.Common.{◌≡◌, ◌+◌, [], drop, map, option_map, take}
-use Rattle.project_file.specs.Checks.{first_fault}
-use Rattle.project_file.specs.Paths.{gather, paths_in, with_names}
-use Rattle.project_file.specs.Scripts.{first_top, script_fault, script_reads}
-use Rattle.project_file.proofs.script.check_script.Given as goal
-
-abbrev pub invariant-loop-i : goal.invariant-loop-i
-invariant-loop-i l = (first_fault (script_fault (paths_in l.paths) l.fn.read) (map (λ line. line.now) (take l.i l.lines)) (l.number + l.i) (map (λ line. line.now) (drop l.i l.lines)) ≡ first_fault (script_fault (paths_in l.paths) l.fn.read) [] l.number (map (λ line. line.now) l.lines)) × (l.read ≡ with_names l.fn.read (gather (script_reads (paths_in l.paths)) (map (λ line. line.now) (take l.i l.lines)))) × (option_map (λ name. name.now) l.top ≡ first_top (map (λ line. line.now) (take l.i l.lines)))

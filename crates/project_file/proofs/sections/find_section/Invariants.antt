@@ -1,6 +1,0 @@
-use Rattle.std.proofs.Common.{◌≡◌, drop, map}
-use Rattle.project_file.specs.Sections.{find_part, seen}
-use Rattle.project_file.proofs.sections.find_section.Given as goal
-
-abbrev pub invariant-loop-section : goal.invariant-loop-section
-invariant-loop-section l = find_part l.word (map seen (drop l.section-index l.sections)) ≡ find_part l.word (map seen l.sections)

@@ -1,6 +1,0 @@
-use Rattle.std.proofs.Common.{◌≡◌, drop, map}
-use Rattle.project_file.specs.Sections.{has_header, seen}
-use Rattle.project_file.proofs.sections.has_header.Given as goal
-
-abbrev pub invariant-loop-section : goal.invariant-loop-section
-invariant-loop-section l = has_header l.header (map seen (drop l.section-index l.sections)) ≡ has_header l.header (map seen l.sections)

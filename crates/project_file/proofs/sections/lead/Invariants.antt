@@ -1,6 +1,0 @@
-use Rattle.std.proofs.Common.{◌≡◌, ◌++◌, drop, map, take}
-use Rattle.project_file.specs.Sections.{lead}
-use Rattle.project_file.proofs.sections.lead.Given as goal
-
-abbrev pub invariant-loop-i : goal.invariant-loop-i
-invariant-loop-i l = map (λ line. line.now) (take l.i l.lines) ++ lead (map (λ line. line.now) (drop l.i l.lines)) ≡ lead (map (λ line. line.now) l.lines)

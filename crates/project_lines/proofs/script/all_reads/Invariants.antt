@@ -1,0 +1,7 @@
+use Rattle.std.proofs.Common.{◌≡◌, ◌++◌, drop, map}
+use Rattle.project_lines.specs.Paths.{gather, paths_in}
+use Rattle.project_lines.specs.Scripts.{script_reads}
+use Rattle.project_lines.proofs.script.all_reads.Given as goal
+
+abbrev pub invariant-loop-line : goal.invariant-loop-line
+invariant-loop-line l = map (λ file. file.now) l.files.items ++ gather (script_reads (paths_in l.paths)) (map (λ line. line.now) (drop l.line-index l.lines)) ≡ gather (script_reads (paths_in l.paths)) (map (λ line. line.now) l.lines)
