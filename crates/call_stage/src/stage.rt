@@ -4,6 +4,7 @@
 //! |---|---|
 //! | `new` | There are no files, the book is empty, and nothing fails. |
 //! | `hold NAME TEXT` | There is this file; `~` stands for the end of a line. |
+//! | `spread NAME COUNT TEXT\UNIT\TEXT ..` | There is this file, with so many of each unit; in one `#` stands for its number, from 1, and `?` for the number before, and `%` everywhere for the end of a line. |
 //! | `fill NAME BYTE COUNT` | There is this file, of so many equal bytes. |
 //! | `bytes NAME BYTE ..` | There is this file, of these bytes. |
 //! | `wide NAME INPUTS AGAIN` | There is this file, a source with so many inputs, one of them twice where AGAIN is 1. |
@@ -151,7 +152,7 @@ impl Stage {
             "new" => self.begin(),
             "forget" => self.forget(),
             "unrow" => self.unrow(),
-            "hold" | "fill" | "bytes" | "wide" => return self.hold_file(verb, rest),
+            "hold" | "spread" | "fill" | "bytes" | "wide" => return self.hold_file(verb, rest),
             _ => return self.list(verb, rest),
         }
         Ok(true)

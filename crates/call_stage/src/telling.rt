@@ -31,15 +31,24 @@ pub fn tell_text<R: Print + AllocGlobal>(rt: &R, text: &[u8]) -> io::Result<()> 
     println!(rt; "{} bytes", text.len())
 }
 
-/// Prints how many items the book has, and its rows.
+/// Prints rows.
+fn tell_rows<R: Print + AllocGlobal>(rt: &R, rows: &[Entry]) -> io::Result<()> {
+    for row in rows {
+        tell_row(rt, row)?;
+    }
+    Ok(())
+}
+
+/// Prints how many items the book has, and its rows; of more than a hundred only how many they are.
 pub fn tell_book<R: Print + AllocGlobal>(rt: &R, book: &Book) -> io::Result<()> {
     let meta = book.meta.as_slice().len();
     let mutations = book.mutations.as_slice().len();
     println!(rt; "{meta} items, {mutations} mutations")?;
-    for row in book.journal.as_slice() {
-        tell_row(rt, row)?;
+    let rows = book.journal.as_slice();
+    if rows.len() > 100 {
+        return println!(rt; "{} rows", rows.len());
     }
-    Ok(())
+    tell_rows(rt, rows)
 }
 
 /// Prints a list of texts.
