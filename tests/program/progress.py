@@ -9,9 +9,11 @@ Calls that are refused for what the database holds write a second line on a term
 Ends with the line 'progress: N lines', or tells what is wrong.
 """
 
+import contextlib
 import os
 import pty
 import re
+import signal
 import subprocess
 import sys
 import tempfile
@@ -42,8 +44,9 @@ SOURCE = f"""module g(input [{WIDTH - 1}:0] a, input [{WIDTH - 1}:0] b, output [
   assign z = y == a;
 endmodule
 """
-LINE = re.compile(rb"mcy: (\d+) of (\d+) finished, (\d+) tests a second(?:, (\d+) s left)?\x1b\[K")
-CLEARED = b"\r\x1b[K"
+# A line in the place of the one before, which the terminal does not go on on another; the cursor waits below it.
+LINE = re.compile(rb"(\x1b\[A)?\r\x1b\[K\x1b\[\?7lmcy: (\d+) of (\d+) finished, (\d+) tests a second(?:, (\d+) s left)?\x1b\[\?7h\r\n")
+CLEARED = b"\x1b[A\r\x1b[K"
 NO_CAMPAIGN = "no campaign", "run or init begins one"
 BEGUN = "campaign already begun", "run goes on with it"
 CHANGED = "database: meta 2", "config.mcy, a source or mcy.db has changed: undo that, or move mcy.db and mcy.db-wal away to begin anew"
@@ -79,15 +82,33 @@ def on_terminal(program, words, here):
 
 
 def check_lines(seen, spent):
-    pieces = seen.split(b"\r")
-    assert pieces[0] == b"" and pieces[-1] == CLEARED[1:], ("the line is not cleared", seen[-80:])
-    lines = [LINE.fullmatch(piece) for piece in pieces[1:-1]]
-    assert all(lines), ("a line is none", pieces[:3])
-    counts = [int(line[1]) for line in lines]
-    assert counts == sorted(counts) and len({line[2] for line in lines}) == 1, ("the numbers do not fit", counts)
-    assert all(int(line[1]) < int(line[2]) for line in lines), "a line tells too many"
+    assert seen.endswith(CLEARED), ("the line is not cleared", seen[-80:])
+    lines = [*LINE.finditer(seen)]
+    assert b"".join(line[0] for line in lines) + CLEARED == seen, ("a line is none", seen[:200])
+    assert [bool(line[1]) for line in lines] == [False] + [True] * (len(lines) - 1), "a line is not in the place of the one before"
+    counts = [int(line[2]) for line in lines]
+    assert counts == sorted(counts) and len({line[3] for line in lines}) == 1, ("the numbers do not fit", counts)
+    assert all(int(line[2]) < int(line[3]) for line in lines), "a line tells too many"
+    assert all(line[5] is None or int(line[5]) > 0 for line in lines), "a line tells that nothing is left"
     assert len(lines) <= spent * 10 + 1, ("too many lines", len(lines), spent)
     return len(lines)
+
+
+def check_cut_off(program, here):
+    """A call that is cut off leaves its last line whole, and the cursor below it."""
+    ours, theirs = pty.openpty()
+    child = subprocess.Popen([program, "run"], cwd=here, stdout=subprocess.DEVNULL, stderr=theirs, stdin=subprocess.DEVNULL)
+    os.close(theirs)
+    seen = b""
+    while not LINE.search(seen):
+        seen += os.read(ours, 65536)
+    child.send_signal(signal.SIGINT)
+    child.wait(timeout=60)
+    with contextlib.suppress(OSError):
+        while piece := os.read(ours, 65536):
+            seen += piece
+    os.close(ours)
+    assert b"".join(line[0] for line in LINE.finditer(seen)) == seen != b"", ("a line is not whole", seen[-80:])
 
 
 def check_refusal(program, word, here, status, lines):
@@ -118,6 +139,8 @@ def main():
         again = on_terminal(program, ["run"], here)
         assert again[:3] == (0, text, b""), ("a finished campaign is told of", again)
         assert on_terminal(program, ["list"], here)[2] == b"", "a list is told of"
+    with folder() as here:
+        check_cut_off(program, here)
     with folder() as here:
         stopped = on_terminal(program, ["run", "--stop-after", "3"], here)
         assert stopped[0] == 1 and stopped[2].endswith(CLEARED), stopped

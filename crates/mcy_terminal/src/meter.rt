@@ -1,7 +1,8 @@
 //! How far a running campaign is, told on standard error where that is a terminal, at most ten times a second.
 //!
-//! It is one line, which is written over itself and cleared after the last row, before the call writes its text. Nothing else
-//! depends on it: it is told of the rows that were added, reads the clock, and passes over what goes wrong with either.
+//! It is one line, which is written over itself and cleared after the last row, before the call writes its text. The cursor waits below
+//! it, so that a call which is cut off leaves a whole line. Nothing else depends on it: it is told of the rows that were added, reads
+//! the clock, and passes over what goes wrong with either.
 use mcy_base::BytesList;
 use mcy_keeper::{Book, Entry};
 use std::io;
@@ -11,6 +12,9 @@ use watched_keeper::Watcher;
 
 /// For how many milliseconds the line stands at least.
 const PAUSE: u64 = 100;
+
+/// Leads from below the line back to it.
+const BACK: &str = "\x1b[A";
 
 /// When rows began to be added, how many mutations were finished then, and when the line was written last, if it was.
 #[derive(Clone, Copy)]
@@ -86,24 +90,30 @@ impl<R: Eprint + Clock> Meter<R> {
         self.finished >= self.mutations || self.stop_after == Some(self.tests)
     }
 
-    /// How many seconds are left, as far as the mutations that were finished in this call tell it.
+    /// How many seconds are left at most, as far as the mutations that were finished in this call tell it.
     fn seconds_left(&self, pace: Pace, spent: u64) -> Option<u64> {
         let left = self.mutations.saturating_sub(self.finished);
         let done = self.finished.saturating_sub(pace.finished);
-        left.saturating_mul(spent / 1000).checked_div(done)
+        let millis = left.saturating_mul(spent).checked_div(done)?;
+        Some(millis / 1000 + 1)
     }
 
-    /// Writes the line.
+    /// Writes the line in the place of the one before, and goes below it. The terminal cuts it at its width, since it begins no
+    /// line by itself meanwhile.
     fn write(&self, pace: Pace, now: Instant) -> io::Result<()> {
         let spent = millis(now.duration_since(pace.begun));
         let tests = (self.tests as u64).saturating_mul(1000).checked_div(spent);
         let speed = tests.unwrap_or(0);
         let (finished, mutations) = (self.finished, self.mutations);
-        eprint!(self.rt; "\rmcy: {finished} of {mutations} finished, {speed} tests a second")?;
-        if let Some(seconds) = self.seconds_left(pace, spent) {
-            eprint!(self.rt; ", {seconds} s left")?;
+        let back = if pace.written.is_some() { BACK } else { "" };
+        match self.seconds_left(pace, spent) {
+            Some(seconds) => eprint!(self.rt;
+                "{back}\r\x1b[K\x1b[?7lmcy: {finished} of {mutations} finished, {speed} tests a second, {seconds} s left\x1b[?7h\n"
+            ),
+            None => eprint!(self.rt;
+                "{back}\r\x1b[K\x1b[?7lmcy: {finished} of {mutations} finished, {speed} tests a second\x1b[?7h\n"
+            ),
         }
-        eprint!(self.rt; "\x1b[K")
     }
 
     /// Writes the line, where the last one has stood long enough.
@@ -128,7 +138,7 @@ impl<R: Eprint + Clock> Meter<R> {
             },
         ) = self.pace.take()
         {
-            let _written = eprint!(self.rt; "\r\x1b[K");
+            let _written = eprint!(self.rt; "{BACK}\r\x1b[K");
         }
     }
 }
