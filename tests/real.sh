@@ -393,6 +393,18 @@ fi
 new_folder && : >mcy.db && chmod 666 mcy.db
 ends 0 "$finished" "" run
 
+# Files that may not grow, as on a full disk: each call tells so, and with room again the campaign goes on.
+for kilobytes in 8 40 260; do
+    new_folder
+    for call in first second; do
+        (trap '' XFSZ && ulimit -f "$kilobytes" && exec "$mcy" run >"$room/text" 2>"$room/lines")
+        [ $? = 12 ] && [ "$(cat "$room/lines")" = "$no_access" ]
+        case_is $? "the $call call with $kilobytes KB of room: $(cat "$room/lines")"
+    done
+    chmod 666 mcy.db*
+    ends 0 "$finished" "" run
+done
+
 # Calls that are given little memory, from so little that the program cannot begin to as much as it wants. Some end with
 # status 14, and none with that of another refusal but a database that the want of memory has shut. What they leave goes on.
 if has_tool prlimit "no call finds no memory"; then

@@ -1,5 +1,6 @@
 -- What the opening of a database may find.
-use Rattle.std.specs.Prelude.{◌≡◌, ◌⊎◌, ℕ, Bool, false, IsTrue, Option, Some, None}
+use Rattle.std.specs.Prelude.{◌≡◌, ◌⊎◌, ℕ, Bool, false, IsTrue, [], Option, Some, None}
+use Rattle.sqlite.specs.Schema.{Schema}
 use Rattle.sqlite.specs.Tree.{Trees}
 use Rattle.sqlite.specs.Store.{Ghosts}
 use Rattle.sqlite.specs.Held.{Held, state}
@@ -20,3 +21,7 @@ pub record IsFresh {S : Type 0} (g : Ghosts S) (found : Trees → Type 0) (conne
   pub finds : (c : Held S) → connection ≡ Some c → Finds found (state g c)
   pub unsettled : settled ≡ false
   pub uncounted : faults ≡ 0
+
+-- a database without tables and views
+abbrev pub HasNoTables : Schema → Type 0
+HasNoTables schema = (schema.tables ≡ []) × (schema.views ≡ [])

@@ -9,7 +9,7 @@ ghost use Rattle.sqlite.specs.Tree.{Trees};
 ghost use Rattle.sqlite.specs.Held.{state};
 ghost use Rattle.mcy_keeper.specs.declared.book.Book.{Book as Pages};
 ghost use Rattle.mcy_keeper.specs.Books.{TellsNone};
-ghost use Rattle.keeper_opening.specs.Found.{Finds, MayBeFound};
+ghost use Rattle.keeper_opening.specs.Found.{Finds, HasNoTables, MayBeFound};
 ghost use Rattle.keeper_opening.specs.Places.{connection_in, fault_of, is_settled, faults, PlaceTells, PlaceHolds, PlaceLeaves, Opens, place_one, place_survives, place_told};
 
 use keeper_sqlite::SqlKeeper;
@@ -63,6 +63,20 @@ pub struct OpeningKeeper<S: Alter + Drop, O: Opener<S>> {
     fault: Option<DatabaseFault>,
 }
 
+/// Why a load over this connection is a fault, if it is one: of a database without tables, that they cannot be made, and of
+/// another one that it holds no book.
+fn fault_of_load<S: Alter>(connection: &Connection<S>) -> DatabaseFault
+    ensures no_access { HasNoTables (state S.Store connection.now).now.schema → result ≡ DatabaseFault.NoAccess }
+    ensures no_book { (HasNoTables (state S.Store connection.now).now.schema → ⊥) → result ≡ DatabaseFault.NoBook }
+{
+    let schema = connection.schema();
+    if schema.tables.is_empty() && schema.views.is_empty() {
+        DatabaseFault::NoAccess
+    } else {
+        DatabaseFault::NoBook
+    }
+}
+
 impl<S: Alter + Drop, O: Opener<S>> Place<S, O> {
     /// The keeper after the opening, and why a load of it answers a fault.
     fn opened(self, alloc: Global) -> Result<(SqlKeeper<S>, DatabaseFault), AllocError>
@@ -72,10 +86,10 @@ impl<S: Alter + Drop, O: Opener<S>> Place<S, O> {
         match self {
             Place::Opened(keeper) => Ok((keeper, DatabaseFault::NoBook)),
             Place::Closed(opener) => match opener.open() {
-                Ok(connection) => Ok((
-                    SqlKeeper::adopt(alloc, Some(connection)),
-                    DatabaseFault::NoBook,
-                )),
+                Ok(connection) => {
+                    let fault = fault_of_load(&connection);
+                    Ok((SqlKeeper::adopt(alloc, Some(connection)), fault))
+                }
                 Err(OpenError::Memory) => Err(AllocError),
                 Err(OpenError::Refused(fault)) => Ok((SqlKeeper::adopt(alloc, None), fault)),
             },
