@@ -120,14 +120,6 @@ def bench_cases():
     yield "# and a phase of a bench 100,000 statements.", given, run([False] * 3, "bench", "HANG", 4)
 
 
-def clause_case():
-    """The seed takes the second input of the or, which changes nothing, and the first one of the and."""
-    source = "module g(input a, input b, input [127:0] c, output [127:0] y); wire s = a & (a | b); assign y = {128{s}} ^ c; endmodule"
-    yield "# A clause has a literal for each of 128 outputs, with a difference at them and with none.", (
-        [*equality(2, ["modes inv", "seed 3588"]), f"hold g.v {source}"]
-    ), run([False, True])
-
-
 def nesting_case():
     patterns = [
         (199, "module g(input a, output y); assign y = \\(\\ ~a \\)\\; endmodule"),
@@ -158,7 +150,7 @@ def script_cases():
 
 
 def main():
-    makers = (bytes_case, files_case, tokens_case, turns_cases, sizes_cases, bench_cases, clause_case, nesting_case, script_cases)
+    makers = (bytes_case, files_case, tokens_case, turns_cases, sizes_cases, bench_cases, nesting_case, script_cases)
     given, answers = [], []
     for title, before, answer in (case for maker in makers for case in maker()):
         given += [title, *before, "call run"]
