@@ -1,7 +1,8 @@
-use Rattle.std.proofs.Common.{◌≡◌, ◌≤◌, length, sym, ◌∙◌, subst}
+use Rattle.std.proofs.Common.{◌≡◌, ◌≤◌, length, sym, ◌∙◌, ap, subst}
 use Rattle.vlog_meaning.specs.declared.shapes.Shape.{Shape}
 use Rattle.vlog_meaning.specs.Scopes.{names_of}
 use Rattle.expr_plans.specs.Made.{index_width}
+use Rattle.net_builder.specs.Building.{AllBelow}
 use Rattle.elab_expr.specs.Evaluates.{Evaluates}
 use Rattle.elab_expr.specs.Laid.{index_bits}
 use Rattle.proc_muxes.specs.Builds.{IsLaid}
@@ -16,6 +17,6 @@ returns-clause-placed c =
     (subst (λ (s : Shape). s.width ≤ 128) c.shape_of-shape.ensures.shape c.shape_of-shape.ensures.sized.narrow)
     (subst (λ (s : Shape). Evaluates (names_of c.args.scope.now) c.args.index.now s c.args.builder.now c.build_expr.new.builder c.in_ok-bits.bits) c.shape_of-shape.ensures.shape c.in_ok-bits.ensures.built)
     (subst (λ (s : Shape). IsLaid (names_of c.args.scope.now) c.args.index.now s c.args.builder.now c.build_expr.new.builder c.in_ok-bits.bits) c.shape_of-shape.ensures.shape c.in_ok-bits.ensures.laid)
-    (subst (λ (s : Shape). c.in_ok-shown.shown ≡ index_bits s c.in_ok-bits.bits) c.shape_of-shape.ensures.shape c.in_ok-shown.ensures.is)
+    (subst (λ (s : Shape). c.in_ok-shown.shown ≡ index_bits s c.in_ok-bits.bits) c.shape_of-shape.ensures.shape (c.in_ok-shown.ensures.is ∙ ap (index_bits c.shape_of-shape.result) c.as_slice.ensures))
     (subst (λ (s : Shape). length c.in_ok-shown.shown ≡ index_width s) c.shape_of-shape.ensures.shape c.in_ok-shown.ensures.long)
-    c.in_ok-shown.ensures.below
+    (λ n below. c.in_ok-shown.ensures.below n (subst (AllBelow n) (sym c.as_slice.ensures) below))
