@@ -99,9 +99,9 @@ low_zero span (Some (Constant value low is_signed)) s w is e varies = absurd cc
 low_zero span None s w is e varies = absurd cc
 
 -- a base that is no constant is unsigned, since it may have any width
-unsigned_by : (b : Bool) → (b ≡ true → 0 ≡ 1) → b ≡ false
-unsigned_by true one = let e : 0 ≡ 1 = one refl in cc
-unsigned_by false one = refl
+unsigned_by : (b : Bool) (n : ℕ) → n ≡ 0 → (b ≡ true → n ≡ 1) → b ≡ false
+unsigned_by true n none one = absurd (let e : n ≡ 1 = one refl in omega arith)
+unsigned_by false n none one = refl
 
 -- One part.
 
@@ -191,7 +191,7 @@ right_indexed names written n at base count whole supported zeros free =
       whole = (inner.base, inner.width);
       low = λ j e. low_zero at (names n.name) (sense names base) s.vector s.is parts.0 (index_varies (is_constant names base) x j e).0;
       index = λ j e. subst (λ (k : Index). refusals names k.expr (sense names k.expr).shape ≡ []) (index_varies (is_constant names base) x j e).1 (clear names base (sense names base).shape inner.base parts.1 none);
-      plain = λ j e. subst (λ (k : Index). (sense names k.expr).shape.is_signed ≡ false) (index_varies (is_constant names base) x j e).1 (unsigned_by (sense names base).shape.is_signed (λ signed. indexed_one names (v.IndexedPartSelect n at base count) (sense names (v.IndexedPartSelect n at base count)).shape n at base count refl 0 supported inner.base signed (index_varies (is_constant names base) x j e).0));
+      plain = λ j e. subst (λ (k : Index). (sense names k.expr).shape.is_signed ≡ false) (index_varies (is_constant names base) x j e).1 (unsigned_by (sense names base).shape.is_signed 0 refl (λ signed. indexed_one names (v.IndexedPartSelect n at base count) (sense names (v.IndexedPartSelect n at base count)).shape n at base count refl 0 supported inner.base signed (index_varies (is_constant names base) x j e).0));
     }) whole supported
 
 -- Parts one after the other.
