@@ -16,11 +16,14 @@ import re
 import subprocess
 import tempfile
 
-from lib import saturating
+from lib import bench_standard, saturating
 from random_values import Words
 
 from lib import tables
 COUNT = 300
+
+# benches that select by signed indices
+STANDARD = 50
 
 
 def lines(*texts):
@@ -325,7 +328,7 @@ FUNCTION = """
 """
 
 
-def simulated(text, seed):
+def simulated(text, seed, year=2005):
     """What Icarus Verilog prints, or None where it does not end, or some bit is unknown."""
     words = Words(seed)
     source = text.replace("$random", "pcg_word(1'b0)")
@@ -333,7 +336,7 @@ def simulated(text, seed):
     with tempfile.TemporaryDirectory() as work:
         with open(f"{work}/m.v", "w") as out:
             out.write(source)
-        made = subprocess.run(["iverilog", "-g2005", "-s", "bench", "-o", f"{work}/m.vvp", f"{work}/m.v"], capture_output=True, text=True)
+        made = subprocess.run(["iverilog", f"-g{year}", "-s", "bench", "-o", f"{work}/m.vvp", f"{work}/m.v"], capture_output=True, text=True)
         if made.returncode:
             raise SystemExit(made.stderr + source)
         try:
@@ -401,6 +404,11 @@ def main():
         source, seed, answer = drawn(k)
         cases.append(f"{source}simulate bench dut {seed} 2000\n")
         answers.append(f"{answer}finished\n")
+    for source, given in bench_standard.benches(STANDARD):
+        answer = simulated(given, 1, 2012)
+        if answer is not None and not re.search("[xz]", answer):
+            cases.append(f"{source}simulate bench dut 1 2000\n")
+            answers.append(f"{answer}finished\n")
     tables.save("bench_cases", "".join(cases), "".join(answers))
 
 

@@ -4,7 +4,8 @@
     tests/designs.py [FOLDER]      the table of crates/design_cases; needs iverilog and vvp
 
 What design_told.py says is worked out by hand. The outputs of the other designs over 20 cycles are those of Icarus Verilog: the
-designs of design_hand.py are written by hand, those of design_draw.py drawn by a seeded generator.
+designs of design_hand.py are written by hand, those of design_draw.py drawn by a seeded generator. So are those of design_standard.py,
+of which a latch is told by it too, and which run over 12 cycles.
 """
 
 import itertools
@@ -18,13 +19,17 @@ from lib.design_draw import Draw, Signal
 from lib.design_hand import DESIGNS, PROCESSES
 from lib.design_runs import Unknown, outputs_of
 from lib.design_told import told
-from lib import tables
+from lib import design_standard, tables
 
 CYCLES = 20
+SHORT = 12
 
 # drawn designs of one module, and of several
 ONE_MODULE = 40
 SEVERAL = 100
+
+# drawn cases without a default, parameters with a range, and signed indices
+STANDARD = [(design_standard.cases, 64), (design_standard.parameters, 45), (design_standard.indices, 45)]
 
 # the most lines of a drawn design
 LONGEST = 80
@@ -46,14 +51,14 @@ def hand(text):
         yield lines[0], lines[1:]
 
 
-def inputs_for(inputs, seed):
+def inputs_for(inputs, seed, count=CYCLES):
     """The inputs of each cycle. They are 0 or all ones now and then."""
     rng = random.Random(seed)
 
     def value(width):
         return rng.choice([0, (1 << width) - 1]) if rng.random() < 0.2 else rng.randrange(1 << width)
 
-    return [[value(s.width) for s in inputs] for _ in range(CYCLES)]
+    return [[value(s.width) for s in inputs] for _ in range(count)]
 
 
 def case(name, lines, seed, is_drawn=True):
@@ -63,6 +68,22 @@ def case(name, lines, seed, is_drawn=True):
     rows = outputs_of(lines, inputs, outputs, cycles, has_clock, is_drawn)
     given = [name] + lines + ["elaborate top"] + ["step " + " ".join(map(str, values)) for values in cycles]
     return given, [name] + [f"outputs {row}" for row in rows], rows
+
+
+def standard():
+    """Where the standard is easily missed: what is printed, or refused."""
+    for seed, (name, lines, selects, refused) in enumerate(itertools.chain(*(make(count) for make, count in STANDARD))):
+        if refused:
+            yield [name] + lines + ["elaborate top"], [name, refused]
+            continue
+        inputs, outputs, has_clock = ports_of(lines)
+        cycles = inputs_for(inputs, seed, SHORT)
+        try:
+            rows = outputs_of(lines, inputs, outputs, cycles, has_clock, True, selects)
+        except Unknown:
+            continue
+        given = [name] + lines + ["elaborate top"] + ["step " + " ".join(map(str, values)) for values in cycles]
+        yield given, [name] + [f"outputs {row}" for row in rows]
 
 
 def is_lively(rows):
@@ -90,7 +111,7 @@ def main():
     by_hand = [case(name, source, seed, False)[:2] for seed, (name, source) in enumerate(itertools.chain(hand(PROCESSES), hand(DESIGNS)))]
     one = itertools.islice(drawn("a drawn module", Draw.process_design), ONE_MODULE)
     several = itertools.islice(drawn("drawn modules", Draw.whole_design), SEVERAL)
-    for given, shown in itertools.chain(by_hand, one, several):
+    for given, shown in itertools.chain(by_hand, one, several, standard()):
         lines += given
         wanted += shown
     tables.save("design_cases", lines, wanted)

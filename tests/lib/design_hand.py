@@ -518,4 +518,28 @@ module top(input [3:0] a, output [3:0] y, output [3:0] z);
   assign y = m;
   assign z = m & k;
 endmodule
+
+# a sum that no label names takes no item, and the register keeps its value
+module top(input clk, input [1:0] s, input [3:0] a, output reg [3:0] y);
+  initial y = 5;
+  always @(posedge clk)
+    case (s + 2'd1)
+      0: y <= a;
+      1: y <= a + 1;
+      2: y <= ~a;
+      3: y <= y + 1;
+    endcase
+endmodule
+
+# a write at a signed index below 0 does nothing
+module top(input clk, input signed [2:0] i, input b, output reg [3:0] y);
+  initial y = 0;
+  always @(posedge clk) y[i] <= b;
+endmodule
+
+# the same with an index of more than 9 bits, and with one of a single bit
+module top(input clk, input signed [9:0] i, input signed j, input b, output reg [127:0] y, output reg [1:0] z);
+  initial begin y = 0; z = 0; end
+  always @(posedge clk) begin y[i] <= b; z[j] <= b; end
+endmodule
 '''

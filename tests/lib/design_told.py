@@ -581,6 +581,24 @@ module top(input a, input b);
 endmodule
 elaborate top
 > TwoWriters 2:10 a
+# a signed base that is no constant
+module top(input clk, input signed [2:0] i, input [1:0] b, output reg [7:0] y);
+  always @(posedge clk) y[i +: 2] <= b;
+endmodule
+elaborate top
+> Unsupported IndexedBase 2:26
+# a selector that can be greater than its labels makes a latch
+module top(input [1:0] s, input a, input b, output reg y);
+  always @*
+    case (~s)
+      0: y = a;
+      1: y = b;
+      2: y = a;
+      3: y = 1;
+    endcase
+endmodule
+elaborate top
+> Latch 2:3 y
 # a path that assigns nothing
 module top(input a, input b, output reg y);
   always @* if (a) y = b;
