@@ -169,6 +169,7 @@ end
 # assigns, in which nothing is drawn
 reg a 8 0
 reg b 8 0
+reg v 8 2
 reg w 128 0
 constant K 3
 constant Z 0
