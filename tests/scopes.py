@@ -360,7 +360,7 @@ BY_HAND = [
         " u.x[0+:1]i p=8'90 q=4'10 r=4'5 a=1'1 b=1'0 c=8'104 i=32's6 j=1'1; declares 0",
     ),
     (
-        'module m #(parameter a = $foo(1), parameter [3:0] b = 1 + $clog2(1, 2), parameter c = $clog2($foo))(input x); endmodule',
+        'module m #(parameter a = $foo(1), parameter [3:0] b = 1 + $other(1, 2), parameter c = $clog2($foo))(input x); endmodule',
         " u.x[0+:1]i a=32's0 b=4'0 c=32's0; SystemFunction 1:26; SystemFunction 1:59; SystemFunction 1:94; declares 0",
     ),
     (
