@@ -284,11 +284,11 @@ step 7 1
 > outputs 1 15 3
 step 7 0
 > outputs 1 9 7
-# a select of a constant counts from 0, and a scalar has a bit 0
+# a select of a constant counts by its range, and a scalar has a bit 0
 module top(input a, output y, output [1:0] z, output v);
   parameter [7:4] P = 4'b0110;
-  assign y = P[1];
-  assign z = P[2:1];
+  assign y = P[5];
+  assign z = P[6:5];
   assign v = a[0];
 endmodule
 elaborate top
