@@ -95,7 +95,7 @@ def check_lines(seen, spent):
 
 
 def check_cut_off(program, here):
-    """A call that is cut off leaves its last line whole, and the cursor below it."""
+    """A call that is cut off leaves its last line whole, and the cursor below it. One that ended before has cleared it."""
     ours, theirs = pty.openpty()
     child = subprocess.Popen([program, "run"], cwd=here, stdout=subprocess.DEVNULL, stderr=theirs, stdin=subprocess.DEVNULL)
     os.close(theirs)
@@ -103,11 +103,12 @@ def check_cut_off(program, here):
     while not LINE.search(seen):
         seen += os.read(ours, 65536)
     child.send_signal(signal.SIGINT)
-    child.wait(timeout=60)
+    status = child.wait(timeout=60)
     with contextlib.suppress(OSError):
         while piece := os.read(ours, 65536):
             seen += piece
     os.close(ours)
+    seen = seen.removesuffix(CLEARED) if status == 0 else seen
     assert b"".join(line[0] for line in LINE.finditer(seen)) == seen != b"", ("a line is not whole", seen[-80:])
 
 
