@@ -60,8 +60,8 @@ declared_signals names after b name span width low is_signed k is e h = subst (�
 
 -- A constant.
 
-pub constant_signals : (names after : Names) (b : Building) (name : List ℕ) (value : Word) (is_signed : Bool) → after ≡ with_name names name (Some (Constant value low is_signed)) → HasSignals names b → HasSignals after b
-constant_signals names after b name value is_signed e h = subst (λ (n : Names). HasSignals n b) (sym e) (λ other. go other (bytes_eq name other)) where
+pub constant_signals : (names after : Names) (b : Building) (name : List ℕ) (value : Word) (low : ℕ) (is_signed : Bool) → after ≡ with_name names name (Some (Constant value low is_signed)) → HasSignals names b → HasSignals after b
+constant_signals names after b name value low is_signed e h = subst (λ (n : Names). HasSignals n b) (sym e) (λ other. go other (bytes_eq name other)) where
   go : (other : List ℕ) (same : Bool) → IsSignal b (if same then Some (Constant value low is_signed) else names other)
   go other true = tt
   go other false = h other
