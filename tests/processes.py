@@ -17,7 +17,7 @@ CASES = 75
 STARTS = 15
 MOST_PATHS = 400
 MOST_TURNS = 4096
-KINDS = ["Unknown", "NotConstant", "DivideByZero", "TooWide", "RangeForm", "IndexedBase", "feature", "TwoWriters", "Latch"]
+KINDS = ["Unknown", "NotConstant", "DivideByZero", "TooWide", "RangeForm", "IndexedBase", "feature", "TwoWriters", "Latch", "LoopTurns"]
 
 HAND = """\
 # a latch, at the process, and none where a value stands before
@@ -181,7 +181,7 @@ always @* begin if (b) y = 0; for (i = 0; a < 2; i = i + 1) y = 1; end
 always @* begin if (b) y = 0; for (i = 0; i < 2; y = y + 1) y = 1; end
 > NotConstant 50
 always @* begin if (b) y = 0; for (i = 0; i < 2; i = i - 0) y = 1; end
-> LoopTurns
+> LoopTurns 31
 always @* begin if (b) y = 0; case (a) q: y = 0; endcase end
 > Unknown 40
 always @* begin if (b) y = 0; case (q) 1: y = 0; endcase end
@@ -497,7 +497,7 @@ class Walk:
 
     def __init__(self, bench, is_combinational):
         self.bench, self.is_combinational = bench, is_combinational
-        self.refused, self.assigned, self.is_stopped, self.has_limit = [], [], False, False
+        self.refused, self.assigned, self.is_stopped = [], [], False
 
     def refuse(self, faults):
         self.refused += faults
@@ -593,8 +593,8 @@ class Case:
 
 
 class For:
-    def __init__(self, name, column, start, condition, step_name, step_column, step, body):
-        self.name, self.column, self.start, self.condition = name, column, start, condition
+    def __init__(self, place, name, column, start, condition, step_name, step_column, step, body):
+        self.place, self.name, self.column, self.start, self.condition = place, name, column, start, condition
         self.step_name, self.step_column, self.step, self.body = step_name, step_column, step, body
 
     def walk(self, walk, names):
@@ -626,8 +626,7 @@ class For:
                 walk.stop([min(constant_faults(step))])
                 return steps
             if step.value % 2**width == value:
-                walk.has_limit = True
-                walk.is_stopped = True
+                walk.stop([(self.place, "LoopTurns")])
                 return steps
             value = step.value % 2**width
         return steps
@@ -724,7 +723,7 @@ def answer(bench, is_combinational, events, body):
         if len(same) > 1 and all(KINDS.index(what) < KINDS.index("feature") for what in same if what in KINDS):
             return None
         return told(*first)
-    return "LoopTurns" if walk.has_limit else "accepted"
+    return "accepted"
 
 
 # What is drawn.
@@ -851,7 +850,7 @@ class Drawn:
         return Case(word, selector, items)
 
     def loop(self, loops, kind):
-        self.source.put("for (")
+        place = self.source.put("for (")
         name = self.rng.choices(["i", "j", "q", "P"], [10, 10, 0.3, 0.3])[0]
         column = self.source.put(name)
         self.source.put(" = ")
@@ -869,7 +868,7 @@ class Drawn:
         step = Pair("+", operator, left, self.number([1, 1, 1, 1, 1, 1, 2, 2, 0] if self.rng.random() < 0.3 else [1]))
         self.source.put(") ")
         inner = loops + [name] if name in "ij" and name not in loops else loops
-        return For(name, column, start, condition, step_name, step_column, step, self.statement(inner, kind))
+        return For(place, name, column, start, condition, step_name, step_column, step, self.statement(inner, kind))
 
     def block(self, loops, kind):
         self.source.put("begin ")

@@ -89,7 +89,7 @@ refusal_answer signals (found.Wrong fault) = fault_answer fault.span fault.cause
 refusal_answer signals (found.Unsupported span x) = Unsupported span x
 refusal_answer signals (found.TwoWriters span number) = TwoWriters span (name_of signals number)
 refusal_answer signals (found.Latch span number) = Latch span (name_of signals number)
-refusal_answer signals found.LoopTurns = TooMany LoopTurns
+refusal_answer signals (found.LoopTurns span) = TooMany LoopTurns
 
 abbrev pub reason_answer : List Signal → Reason → ElabError
 reason_answer signals (Listed error) = item_answer error

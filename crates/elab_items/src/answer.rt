@@ -164,7 +164,7 @@ fn refusal_answer(
         Refusal::Latch(span, number) => {
             Ok(ElabError::Latch(span, name_of(alloc, signals, number)?))
         }
-        Refusal::LoopTurns => Ok(ElabError::TooMany(Kind::LoopTurns)),
+        Refusal::LoopTurns(_) => Ok(ElabError::TooMany(Kind::LoopTurns)),
     }
 }
 

@@ -8,7 +8,7 @@ use Rattle.vlog_meaning.specs.declared.fault.Fault.{Fault}
 use Rattle.vlog_meaning.specs.Answers.{least, earlier as earlier_fault, precedes as fault_precedes}
 use Rattle.elab_proc.specs.declared.refusal.Refusal.{Refusal}
 use Rattle.elab_proc.specs.declared.refusal.Refusal.TheVariants.{Wrong}
-use Rattle.elab_proc.specs.Order.{limit, place, rank, detail, precedes, earlier, IsAmong, NoneBefore, IsFirst}
+use Rattle.elab_proc.specs.Order.{place, rank, detail, precedes, earlier, IsAmong, NoneBefore, IsFirst}
 
 lex_later : (a b c : ℕ) (p q r : Bool) → (p ≡ false → q ≡ false → r ≡ false) → (if b == a then p else nat_lt b a) ≡ false → (if c == b then q else nat_lt c b) ≡ false → (if c == a then r else nat_lt c a) ≡ false
 lex_later a b c p q r inner e f = grind (arith, nat_tests)
@@ -24,10 +24,10 @@ number_sooner a b c e f = grind (arith, nat_tests)
 
 -- what does not come before does not come before what comes after
 later : (f g h : Refusal) → precedes g f ≡ false → precedes h g ≡ false → precedes h f ≡ false
-later f g h = lex_later (limit f) (limit g) (limit h) _ _ _ (lex_later (place f).file (place g).file (place h).file _ _ _ (lex_later (place f).line (place g).line (place h).line _ _ _ (lex_later (place f).col (place g).col (place h).col _ _ _ (lex_later (rank f) (rank g) (rank h) _ _ _ (number_later (detail f) (detail g) (detail h))))))
+later f g h = lex_later (place f).file (place g).file (place h).file _ _ _ (lex_later (place f).line (place g).line (place h).line _ _ _ (lex_later (place f).col (place g).col (place h).col _ _ _ (lex_later (rank f) (rank g) (rank h) _ _ _ (number_later (detail f) (detail g) (detail h)))))
 
 sooner : (f g h : Refusal) → precedes g f ≡ true → precedes h g ≡ true → precedes h f ≡ true
-sooner f g h = lex_sooner (limit f) (limit g) (limit h) _ _ _ (lex_sooner (place f).file (place g).file (place h).file _ _ _ (lex_sooner (place f).line (place g).line (place h).line _ _ _ (lex_sooner (place f).col (place g).col (place h).col _ _ _ (lex_sooner (rank f) (rank g) (rank h) _ _ _ (number_sooner (detail f) (detail g) (detail h))))))
+sooner f g h = lex_sooner (place f).file (place g).file (place h).file _ _ _ (lex_sooner (place f).line (place g).line (place h).line _ _ _ (lex_sooner (place f).col (place g).col (place h).col _ _ _ (lex_sooner (rank f) (rank g) (rank h) _ _ _ (number_sooner (detail f) (detail g) (detail h)))))
 
 number_self : (a : ℕ) → nat_lt a a ≡ false
 number_self a = grind (arith, nat_tests)
@@ -36,7 +36,7 @@ lex_self : (a : ℕ) (p : Bool) → p ≡ false → (if a == a then p else nat_l
 lex_self a p e = grind (arith, nat_tests)
 
 none_itself : (f : Refusal) → precedes f f ≡ false
-none_itself f = lex_self (limit f) _ (lex_self (place f).file _ (lex_self (place f).line _ (lex_self (place f).col _ (lex_self (rank f) _ (number_self (detail f))))))
+none_itself f = lex_self (place f).file _ (lex_self (place f).line _ (lex_self (place f).col _ (lex_self (rank f) _ (number_self (detail f)))))
 
 -- what comes before neither one nor, so, what comes before that
 nor : (f g h : Refusal) (b : Bool) → precedes h g ≡ b → precedes g f ≡ true → precedes h f ≡ false → precedes h g ≡ false

@@ -12,7 +12,7 @@ use Rattle.elab_proc.specs.declared.refusal.Refusal.{Refusal}
 use Rattle.elab_proc.specs.declared.refusal.Refusal.TheVariants as r
 use Rattle.elab_proc.specs.Features.{feature_rank}
 use Rattle.elab_proc.specs.Laws.{FirstIsOne}
-use Rattle.elab_proc.specs.Order.{limit, place, rank, detail, precedes, IsAmong, NoneBefore}
+use Rattle.elab_proc.specs.Order.{place, rank, detail, precedes, IsAmong, NoneBefore}
 
 -- A cause and a feature are told by their place in their order.
 
@@ -85,7 +85,7 @@ told (r.Wrong x) (r.Wrong y) at kind d =
 told (r.Unsupported s x) (r.Unsupported t y) at kind d = ap (λ (z : Span). r.Unsupported z x) at ∙ ap (r.Unsupported t) (feature_same x y d)
 told (r.TwoWriters s n) (r.TwoWriters t m) at kind d = ap (λ (z : Span). r.TwoWriters z n) at ∙ ap (r.TwoWriters t) d
 told (r.Latch s n) (r.Latch t m) at kind d = ap (λ (z : Span). r.Latch z n) at ∙ ap (r.Latch t) d
-told r.LoopTurns r.LoopTurns at kind d = refl
+told (r.LoopTurns s) (r.LoopTurns t) at kind d = ap r.LoopTurns at
 told x y at kind d = absurd (omega (arith, kind))
 
 -- Where neither of two comes before the other.
@@ -118,14 +118,8 @@ by_line s a d t b e = if s.line == t.line then by_col s a d t b e else nat_lt s.
 abbrev by_place : Span → (a d : ℕ) → Span → (b e : ℕ) → Bool
 by_place s a d t b e = if s.file == t.file then by_line s a d t b e else nat_lt s.file t.file
 
-abbrev by_all : ℕ → Span → (a d : ℕ) → ℕ → Span → (b e : ℕ) → Bool
-by_all l s a d m t b e = if l == m then by_place s a d t b e else nat_lt l m
-
-neither : (l m : ℕ) (s t : Span) (a d b e : ℕ) → by_all l s a d m t b e ≡ false → by_all m t b e l s a d ≡ false → (s ≡ t) × (a ≡ b) × (d ≡ e)
-neither l m s t a d b e i j =
-    let is : l ≡ m = lex_same l m (by_place s a d t b e) (by_place t b e s a d) i j in
-    let i1 : by_place s a d t b e ≡ false = lex_inner l m (by_place s a d t b e) is i in
-    let j1 : by_place t b e s a d ≡ false = lex_inner m l (by_place t b e s a d) (sym is) j in
+neither : (s t : Span) (a d b e : ℕ) → by_place s a d t b e ≡ false → by_place t b e s a d ≡ false → (s ≡ t) × (a ≡ b) × (d ≡ e)
+neither s t a d b e i1 j1 =
     let file : s.file ≡ t.file = lex_same s.file t.file (by_line s a d t b e) (by_line t b e s a d) i1 j1 in
     let i2 : by_line s a d t b e ≡ false = lex_inner s.file t.file (by_line s a d t b e) file i1 in
     let j2 : by_line t b e s a d ≡ false = lex_inner t.file s.file (by_line t b e s a d) (sym file) j1 in
@@ -140,7 +134,7 @@ neither l m s t a d b e i j =
 
 one : (x y : Refusal) → precedes x y ≡ false → precedes y x ≡ false → x ≡ y
 one x y e h =
-    let same : (place x ≡ place y) × (rank x ≡ rank y) × (detail x ≡ detail y) = neither (limit x) (limit y) (place x) (place y) (rank x) (detail x) (rank y) (detail y) e h in
+    let same : (place x ≡ place y) × (rank x ≡ rank y) × (detail x ≡ detail y) = neither (place x) (place y) (rank x) (detail x) (rank y) (detail y) e h in
     told x y same.0 same.1 same.2
 
 -- one of a list does not come before what none of it comes before

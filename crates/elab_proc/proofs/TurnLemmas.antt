@@ -8,6 +8,7 @@ use Rattle.std.proofs.Math.Nat.{mod-mod, mod-eq_of_lt}
 use Rattle.std.specs.Coded.{le_prop}
 use Rattle.std.proofs.lemmas.Bool.{lt-ltb, le-leb}
 use Rattle.std.proofs.lemmas.Bool.Decides.{nat_tests}
+use Rattle.mcy_base.specs.declared.span.Span.{Span}
 use Rattle.mcy_base.specs.declared.word.Word.{Word}
 use Rattle.vlog_syntax.specs.declared.identifier.Identifier.{Identifier}
 use Rattle.vlog_syntax.specs.declared.expr.Expr.{Expr}
@@ -99,8 +100,8 @@ next_goes loop here later o is none stands =
     ap (λ (xs : List Flaw). stepped xs (constant_of here loop.width loop.step.value) flaws later) (flaw_none _ (sym is ∙ none)) ∙ ap (λ (v : Option ℕ). stepped [] v flaws later) (constant_stands here loop.width loop.step.value stands)
 
 -- what comes after the last turn
-pub limit_first : (comb : Bool) (w : List Bool) → IsFirst (step_refusals comb w (Refuse Turns Done)) (Some LoopTurns)
-limit_first comb w = first_alone LoopTurns
+pub limit_first : (comb : Bool) (w : List Bool) (at : Span) → IsFirst (step_refusals comb w (Refuse (Turns at) Done)) (Some (LoopTurns at))
+limit_first comb w at = first_alone (LoopTurns at)
 
 -- Words.
 
@@ -136,12 +137,12 @@ turns_one : (most : ℕ) (loop : Loop) (body : InNames) (names : Names) (v : ℕ
 unfolding turns
 turns_one most loop body names v = refl
 
-turns_last : (loop : Loop) (body : InNames) (names : Names) (v : ℕ) → turns zero loop body names v ≡ tested (constant_of (turn_names loop names v) 1 loop.condition) (flaws_of (constant_faults (turn_names loop names v) 1 loop.condition)) (Refuse Turns Done)
+turns_last : (loop : Loop) (body : InNames) (names : Names) (v : ℕ) → turns zero loop body names v ≡ tested (constant_of (turn_names loop names v) 1 loop.condition) (flaws_of (constant_faults (turn_names loop names v) 1 loop.condition)) (Refuse (Turns loop.place) Done)
 unfolding turns
 turns_last loop body names v = refl
 
 turns_by_bits : (most : ℕ) (loop : Loop) (body : InNames) (names : Names) (v : ℕ) → turns most loop body names (v % 2 ^ loop.width) ≡ turns most loop body names v
-turns_by_bits zero loop body names v = turns_last loop body names (v % 2 ^ loop.width) ∙ ap (λ (here : Names). tested (constant_of here 1 loop.condition) (flaws_of (constant_faults here 1 loop.condition)) (Refuse Turns Done)) (names_by_bits loop names v) ∙ sym (turns_last loop body names v)
+turns_by_bits zero loop body names v = turns_last loop body names (v % 2 ^ loop.width) ∙ ap (λ (here : Names). tested (constant_of here 1 loop.condition) (flaws_of (constant_faults here 1 loop.condition)) (Refuse (Turns loop.place) Done)) (names_by_bits loop names v) ∙ sym (turns_last loop body names v)
 turns_by_bits (suc most) loop body names v = turns_one most loop body names (v % 2 ^ loop.width) ∙ ap (λ (here : Names). turn_steps loop body here (λ next. turns most loop body names next)) (names_by_bits loop names v) ∙ sym (turns_one most loop body names v)
 
 -- the turns from a word on, of which there are some
@@ -149,8 +150,8 @@ pub turns_first : (n : ℕ) (loop : Loop) (body : InNames) (names : Names) (word
 turns_first zero loop body names word some e = absurd (omega arith)
 turns_first (suc most) loop body names word some e = let m : suc most - 1 ≡ most = omega arith in rw m (turns_one most loop body names word.bits ∙ ap (λ (here : Names). turn_steps loop body here (λ next. turns most loop body names next)) (names_by_word loop names word e))
 
-pub turns_none : (loop : Loop) (body : InNames) (names : Names) (word : Word) → word.width ≡ loop.width → turns zero loop body names word.bits ≡ tested (constant_of (with_name names loop.name.name (Some (Constant word 0 loop.is_signed))) 1 loop.condition) (flaws_of (constant_faults (with_name names loop.name.name (Some (Constant word 0 loop.is_signed))) 1 loop.condition)) (Refuse Turns Done)
-turns_none loop body names word e = turns_last loop body names word.bits ∙ ap (λ (here : Names). tested (constant_of here 1 loop.condition) (flaws_of (constant_faults here 1 loop.condition)) (Refuse Turns Done)) (names_by_word loop names word e)
+pub turns_none : (loop : Loop) (body : InNames) (names : Names) (word : Word) → word.width ≡ loop.width → turns zero loop body names word.bits ≡ tested (constant_of (with_name names loop.name.name (Some (Constant word 0 loop.is_signed))) 1 loop.condition) (flaws_of (constant_faults (with_name names loop.name.name (Some (Constant word 0 loop.is_signed))) 1 loop.condition)) (Refuse (Turns loop.place) Done)
+turns_none loop body names word e = turns_last loop body names word.bits ∙ ap (λ (here : Names). tested (constant_of here 1 loop.condition) (flaws_of (constant_faults here 1 loop.condition)) (Refuse (Turns loop.place) Done)) (names_by_word loop names word e)
 
 pub turns_next : (n : ℕ) (loop : Loop) (body : InNames) (names : Names) (word : Word) (v : ℕ) → word.bits ≡ v % 2 ^ loop.width → turns n loop body names v ≡ turns n loop body names word.bits
 turns_next n loop body names word v is = sym (ap (turns n loop body names) is ∙ turns_by_bits n loop body names v)
@@ -206,10 +207,10 @@ module _ (comb : Bool) (w : List Bool) (loop : Loop) (body : InNames) where
   left_ends names here word k o h e is ends = subst (λ (s : Steps). IsFirst (step_refusals comb w s) o) (sym (turn_by_turn names here word k h e is)) (ends (λ v. turns (max_turns - (k + 1)) loop body names v))
 
   -- no turn more
-  pub left_none : (names here : Names) (word : Word) (k : ℕ) (o : Option Refusal) → max_turns ≤ k → word.width ≡ loop.width → here ≡ with_name names loop.name.name (Some (Constant word 0 loop.is_signed)) → IsFirst (step_refusals comb w (tested (constant_of here 1 loop.condition) (flaws_of (constant_faults here 1 loop.condition)) (Refuse Turns Done))) o → IsFirst (turns_left names (max_turns - k) word) o
+  pub left_none : (names here : Names) (word : Word) (k : ℕ) (o : Option Refusal) → max_turns ≤ k → word.width ≡ loop.width → here ≡ with_name names loop.name.name (Some (Constant word 0 loop.is_signed)) → IsFirst (step_refusals comb w (tested (constant_of here 1 loop.condition) (flaws_of (constant_faults here 1 loop.condition)) (Refuse (Turns loop.place) Done))) o → IsFirst (turns_left names (max_turns - k) word) o
   left_none names here word k o h e is i =
       let m : max_turns - k ≡ 0 = omega arith in
-      subst (λ (s : Steps). IsFirst (step_refusals comb w s) o) (sym (ap (λ (n : ℕ). turns n loop body names word.bits) m ∙ turns_none loop body names word e ∙ ap (λ (n : Names). tested (constant_of n 1 loop.condition) (flaws_of (constant_faults n 1 loop.condition)) (Refuse Turns Done)) (sym is))) i
+      subst (λ (s : Steps). IsFirst (step_refusals comb w s) o) (sym (ap (λ (n : ℕ). turns n loop body names word.bits) m ∙ turns_none loop body names word e ∙ ap (λ (n : Names). tested (constant_of n 1 loop.condition) (flaws_of (constant_faults n 1 loop.condition)) (Refuse (Turns loop.place) Done)) (sym is))) i
 
 -- One turn.
 
@@ -229,5 +230,5 @@ module _ (comb : Bool) (w : List Bool) (loop : Loop) (body : InNames) (here : Na
 
 -- Starts.
 
-pub loop_by_name : (start : Assignment) (condition : Expr) (step : Assignment) (body : InNames) (names : Names) (n : Identifier) → start.left ≡ lv.Name n → loop_steps start condition step body names (name_alone (out-LeftSide start.left)) ≡ looped start condition step body names n (names n.name)
-loop_by_name start condition step body names n is = ap (λ (l : LeftSide). loop_steps start condition step body names (name_alone (out-LeftSide l))) is ∙ ap (λ (o : Option Identifier). loop_steps start condition step body names o) (ap name_alone (out-name n))
+pub loop_by_name : (at : Span) (start : Assignment) (condition : Expr) (step : Assignment) (body : InNames) (names : Names) (n : Identifier) → start.left ≡ lv.Name n → loop_steps at start condition step body names (name_alone (out-LeftSide start.left)) ≡ looped at start condition step body names n (names n.name)
+loop_by_name at start condition step body names n is = ap (λ (l : LeftSide). loop_steps at start condition step body names (name_alone (out-LeftSide l))) is ∙ ap (λ (o : Option Identifier). loop_steps at start condition step body names o) (ap name_alone (out-name n))

@@ -50,7 +50,7 @@ module _ (comb : Bool) (w : List Bool) (names : Names) where
       let by_items : List CaseItem → List Refusal = λ z. step_refusals comb w (case_steps kind selector (map item_steps z) names) in
       subst (λ (l : List Refusal). IsFirst l o) (ap by_selector same_selector ∙ ap by_items same_items ∙ sym (ap (λ (y : Stmt). step_refusals comb w (steps_of y names)) is ∙ ap (step_refusals comb w) (steps-case at kind selector items names))) i
 
-  pub loop_first : (x : Stmt) (at : Span) (start : Assignment) (condition : Expr) (step : Assignment) (body : Stmt) (o : Option Refusal) → x ≡ s.For at start condition step body → IsFirst (step_refusals comb w (loop_steps start condition step (steps_of body) names (name_alone (out-LeftSide start.left)))) o → IsFirst (step_refusals comb w (steps_of x names)) o
+  pub loop_first : (x : Stmt) (at : Span) (start : Assignment) (condition : Expr) (step : Assignment) (body : Stmt) (o : Option Refusal) → x ≡ s.For at start condition step body → IsFirst (step_refusals comb w (loop_steps at start condition step (steps_of body) names (name_alone (out-LeftSide start.left)))) o → IsFirst (step_refusals comb w (steps_of x names)) o
   loop_first x at start condition step body o is i = subst (λ (l : List Refusal). IsFirst l o) (sym (ap (λ (y : Stmt). step_refusals comb w (steps_of y names)) is ∙ ap (step_refusals comb w) (steps-loop at start condition step body names))) i
 
   -- an `if`, whose parts are looked at in scopes that are the same
@@ -74,19 +74,19 @@ module _ (comb : Bool) (w : List Bool) (names : Names) where
   out_of_box x y o is i = subst (λ (z : Stmt). IsFirst (step_refusals comb w (steps_of z names)) o) is i
 
   -- loops whose start is a constant, or none
-  module _ (start : Assignment) (condition : Expr) (step : Assignment) (body : InNames) (n : Identifier) (d : Option Decl) (width low : ℕ) (sign : Bool) (number : ℕ) (by_name : start.left ≡ lv.Name n) (declared : d ≡ names n.name) (signal : d ≡ Some (Signal width low sign number)) where
-    loop_is : loop_steps start condition step body names (name_alone (out-LeftSide start.left)) ≡ all_turns (record { name = n; width = width; is_signed = sign; condition = condition; step = step }) body names (constant_of names width start.value) (flaws_of (constant_faults names width start.value))
-    loop_is = loop_by_name start condition step body names n by_name ∙ ap (looped start condition step body names n) (sym declared ∙ signal)
+  module _ (at : Span) (start : Assignment) (condition : Expr) (step : Assignment) (body : InNames) (n : Identifier) (d : Option Decl) (width low : ℕ) (sign : Bool) (number : ℕ) (by_name : start.left ≡ lv.Name n) (declared : d ≡ names n.name) (signal : d ≡ Some (Signal width low sign number)) where
+    loop_is : loop_steps at start condition step body names (name_alone (out-LeftSide start.left)) ≡ all_turns (record { place = at; name = n; width = width; is_signed = sign; condition = condition; step = step }) body names (constant_of names width start.value) (flaws_of (constant_faults names width start.value))
+    loop_is = loop_by_name at start condition step body names n by_name ∙ ap (looped at start condition step body names n) (sym declared ∙ signal)
 
-    pub loop_fails : (e : ConstError) (x : Expr) → x ≡ start.value → Some e ≡ option_map const_error (least (faults_at names width x)) → IsFirst (step_refusals comb w (loop_steps start condition step body names (name_alone (out-LeftSide start.left)))) (Some (const_refusal e))
+    pub loop_fails : (e : ConstError) (x : Expr) → x ≡ start.value → Some e ≡ option_map const_error (least (faults_at names width x)) → IsFirst (step_refusals comb w (loop_steps at start condition step body names (name_alone (out-LeftSide start.left)))) (Some (const_refusal e))
     loop_fails e x is fails =
-        let loop : Loop = record { name = n; width = width; is_signed = sign; condition = condition; step = step } in
+        let loop : Loop = record { place = at; name = n; width = width; is_signed = sign; condition = condition; step = step } in
         let at_start : Some e ≡ option_map const_error (least (faults_at names width start.value)) = subst (λ (y : Expr). Some e ≡ option_map const_error (least (faults_at names width y))) is fails in
         subst (λ (l : Steps). IsFirst (step_refusals comb w l) (Some (const_refusal e))) (sym loop_is) (failing comb w names width start.value e (λ (o : Option ℕ). all_turns loop body names o (flaws_of (constant_faults names width start.value))) refl at_start)
 
-    pub loop_goes : (x : Expr) (word : Word) (o : Option Refusal) → x ≡ start.value → None ≡ option_map const_error (least (faults_at names width x)) → word.bits ≡ (sense names x).value nothing (assigned (sense names x) width) % 2 ^ width → IsFirst (step_refusals comb w (turns max_turns (record { name = n; width = width; is_signed = sign; condition = condition; step = step }) body names word.bits)) o → IsFirst (step_refusals comb w (loop_steps start condition step body names (name_alone (out-LeftSide start.left)))) o
+    pub loop_goes : (x : Expr) (word : Word) (o : Option Refusal) → x ≡ start.value → None ≡ option_map const_error (least (faults_at names width x)) → word.bits ≡ (sense names x).value nothing (assigned (sense names x) width) % 2 ^ width → IsFirst (step_refusals comb w (turns max_turns (record { place = at; name = n; width = width; is_signed = sign; condition = condition; step = step }) body names word.bits)) o → IsFirst (step_refusals comb w (loop_steps at start condition step body names (name_alone (out-LeftSide start.left)))) o
     loop_goes x word o is stands bits i =
-        let loop : Loop = record { name = n; width = width; is_signed = sign; condition = condition; step = step } in
+        let loop : Loop = record { place = at; name = n; width = width; is_signed = sign; condition = condition; step = step } in
         let v : Expr → ℕ = λ y. (sense names y).value nothing (assigned (sense names y) width) in
         let at_start : None ≡ option_map const_error (least (faults_at names width start.value)) = subst (λ (y : Expr). None ≡ option_map const_error (least (faults_at names width y))) is stands in
         let by_bits : word.bits ≡ v start.value % 2 ^ width = bits ∙ ap (λ (y : Expr). v y % 2 ^ width) is in

@@ -6,17 +6,12 @@ use Rattle.elab_proc.specs.declared.refusal.Refusal.{Refusal}
 use Rattle.elab_proc.specs.declared.refusal.Refusal.TheVariants as r
 use Rattle.elab_proc.specs.Features.{feature_rank}
 
--- a limit has no place, and comes after all that has one
-abbrev pub limit : Refusal → ℕ
-limit r.LoopTurns = 1
-limit other = 0
-
 abbrev pub place : Refusal → Span
 place (r.Wrong f) = f.span
 place (r.Unsupported span feature) = span
 place (r.TwoWriters span number) = span
 place (r.Latch span number) = span
-place r.LoopTurns = record { file = 0; line = 0; col = 0 }
+place (r.LoopTurns span) = span
 
 -- the order of kinds at one place
 abbrev pub rank : Refusal → ℕ
@@ -24,7 +19,7 @@ rank (r.Wrong f) = 0
 rank (r.Unsupported span feature) = 1
 rank (r.TwoWriters span number) = 2
 rank (r.Latch span number) = 3
-rank r.LoopTurns = 4
+rank (r.LoopTurns span) = 4
 
 -- the order of those of one kind at one place: by cause, feature or signal
 abbrev pub detail : Refusal → ℕ
@@ -32,20 +27,18 @@ detail (r.Wrong f) = cause_rank f.cause
 detail (r.Unsupported span feature) = feature_rank feature
 detail (r.TwoWriters span number) = number
 detail (r.Latch span number) = number
-detail r.LoopTurns = 0
+detail (r.LoopTurns span) = 0
 
--- f comes before g: a place before a limit, then by file, line, column, kind and what is told of it
+-- f comes before g: by file, line, column, kind and what is told of it
 abbrev pub precedes : Refusal → Refusal → Bool
 precedes f g =
-    if limit f == limit g
-    then (if (place f).file == (place g).file
+    if (place f).file == (place g).file
     then (if (place f).line == (place g).line
     then (if (place f).col == (place g).col
     then (if rank f == rank g then nat_lt (detail f) (detail g) else nat_lt (rank f) (rank g))
     else nat_lt (place f).col (place g).col)
     else nat_lt (place f).line (place g).line)
-    else nat_lt (place f).file (place g).file)
-    else nat_lt (limit f) (limit g)
+    else nat_lt (place f).file (place g).file
 
 -- the earlier of two
 unfoldable pub earlier : Option Refusal → Option Refusal → Option Refusal

@@ -106,7 +106,7 @@ const_refusal (k.SystemFunction span) = Wrong (fault cause.SystemFunction span)
 abbrev pub flaw_refusal : Flaw → Refusal
 flaw_refusal (Const error) = const_refusal error
 flaw_refusal (Lacks span feature) = Unsupported span feature
-flaw_refusal Turns = LoopTurns
+flaw_refusal (Turns span) = LoopTurns span
 
 -- these, or where there are none those
 abbrev pub unless : List Fault → List Refusal → List Refusal

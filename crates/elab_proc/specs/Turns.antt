@@ -19,7 +19,7 @@ use Rattle.elab_proc.specs.Order.{IsFirst}
 use Rattle.elab_proc.specs.Refusals.{flaw_refusal, own_faults, step_refusals}
 
 abbrev pub loop_of : Header → Loop
-loop_of h = record { name = h.name.now; width = h.width; is_signed = h.is_signed; condition = h.condition.now; step = h.step.now }
+loop_of h = record { place = h.place; name = h.name.now; width = h.width; is_signed = h.is_signed; condition = h.condition.now; step = h.step.now }
 
 -- the refusal of the first flaw
 abbrev pub flaw_among : List Flaw → Option Refusal

@@ -1,7 +1,7 @@
 //! Why a process is refused, and which of several reasons is answered.
 ghost use Rattle.std.specs.Prelude.{◌≡◌, ◌++◌, List};
 ghost use Rattle.elab_proc.specs.declared.refusal.Refusal.{Refusal as Reason};
-ghost use Rattle.elab_proc.specs.Order.{limit, place, rank, detail, precedes, earlier, IsFirst};
+ghost use Rattle.elab_proc.specs.Order.{place, rank, detail, precedes, earlier, IsFirst};
 
 use crate::detail::{cause_rank, feature_rank};
 use mcy_base::Span;
@@ -19,25 +19,12 @@ pub enum Refusal {
     TwoWriters(Span, u32),
     /// The signal of this number would be a latch; the place is that of the process.
     Latch(Span, u32),
-    /// A loop has more than 4,096 turns.
-    LoopTurns,
+    /// A loop has more than 4,096 turns; the place is that of its `for`.
+    LoopTurns(Span),
 }
 
 impl Refusal {
-    /// 1 for a limit, which has no place.
-    fn limit(self) -> u8
-        ensures { result ≡ limit self }
-    {
-        match self {
-            Refusal::LoopTurns => 1,
-            Refusal::Wrong(_)
-            | Refusal::Unsupported(..)
-            | Refusal::TwoWriters(..)
-            | Refusal::Latch(..) => 0,
-        }
-    }
-
-    /// The place, and that of no token for a limit.
+    /// The place.
     fn place(self) -> Span
         ensures { result ≡ place self }
     {
@@ -45,12 +32,8 @@ impl Refusal {
             Refusal::Wrong(fault) => fault.span,
             Refusal::Unsupported(span, _)
             | Refusal::TwoWriters(span, _)
-            | Refusal::Latch(span, _) => span,
-            Refusal::LoopTurns => Span {
-                file: 0,
-                line: 0,
-                col: 0,
-            },
+            | Refusal::Latch(span, _)
+            | Refusal::LoopTurns(span) => span,
         }
     }
 
@@ -63,7 +46,7 @@ impl Refusal {
             Refusal::Unsupported(..) => 1,
             Refusal::TwoWriters(..) => 2,
             Refusal::Latch(..) => 3,
-            Refusal::LoopTurns => 4,
+            Refusal::LoopTurns(_) => 4,
         }
     }
 
@@ -75,19 +58,17 @@ impl Refusal {
             Refusal::Wrong(fault) => cause_rank(fault.cause),
             Refusal::Unsupported(_, feature) => feature_rank(feature),
             Refusal::TwoWriters(_, number) | Refusal::Latch(_, number) => number,
-            Refusal::LoopTurns => 0,
+            Refusal::LoopTurns(_) => 0,
         }
     }
 
-    /// Whether it comes before another: a place before a limit, then by file, line, column, kind and what is told of it.
+    /// Whether it comes before another: by file, line, column, kind and what is told of it.
     fn precedes(self, other: Refusal) -> bool
         ensures { result ≡ precedes self other }
     {
         let this = self.place();
         let that = other.place();
-        if self.limit() != other.limit() {
-            self.limit() < other.limit()
-        } else if this.file != that.file {
+        if this.file != that.file {
             this.file < that.file
         } else if this.line != that.line {
             this.line < that.line

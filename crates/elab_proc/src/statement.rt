@@ -110,8 +110,8 @@ pub fn statement_refusal(
         Stmt::Case(_, kind, selector, items) => {
             case_refusal(walk, *kind, items.as_slice(), selector.get(), scope)
         }
-        Stmt::For(_, start, condition, step, body) => {
-            loop_refusal(walk, start, condition.get(), step, body.get(), scope)
+        Stmt::For(span, start, condition, step, body) => {
+            loop_refusal(walk, *span, start, condition.get(), step, body.get(), scope)
         }
         Stmt::While(span, ..)
         | Stmt::Repeat(span, ..)
@@ -215,10 +215,11 @@ fn default_refusal(
     Ok(None)
 }
 
-/// What is refused first in a loop.
+/// What is refused first in a loop with its `for` at this place.
 #[cycle(walk)]
 fn loop_refusal(
     walk: &ProcessRules<'_>,
+    place: Span,
     start: &Assignment,
     condition: &Expr,
     step: &Assignment,
@@ -226,7 +227,7 @@ fn loop_refusal(
     scope: &mut Scope,
 ) -> Result<Option<Refusal>, AllocError>
     requires { AreSized (names_of scope.old) }
-    ensures first { IfOk result (λ o. IsFirst (step_refusals walk.now.is_combinational walk.now.written.now (loop_steps start.now condition.now step.now (steps_of body.now) (names_of scope.old) (name_alone (out-LeftSide start.now.left)))) o) }
+    ensures first { IfOk result (λ o. IsFirst (step_refusals walk.now.is_combinational walk.now.written.now (loop_steps place start.now condition.now step.now (steps_of body.now) (names_of scope.old) (name_alone (out-LeftSide start.now.left)))) o) }
     ensures kept { OnOk result (names_of scope.new ≡ names_of scope.old) }
 {
     let LeftSide::Name(name) = &start.left else {
@@ -248,6 +249,7 @@ fn loop_refusal(
             Err(error) => Ok(Some(of_const(error))),
             Ok(first) => {
                 let header = Header {
+                    place,
                     name,
                     width,
                     is_signed,
@@ -315,7 +317,7 @@ fn each_turn_refusal(
         }
     }
     scope.replace(header.name.name.as_str(), header.variable(word));
-    Ok(earlier(found, last_test(header.condition, scope)))
+    Ok(earlier(found, last_test(header.place, header.condition, scope)))
 }
 
 /// What is refused first in a turn in which the loop's variable has this value.

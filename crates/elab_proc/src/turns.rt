@@ -18,9 +18,10 @@ use mcy_base::{Span, Word};
 use vlog_meaning::{Cause, ConstError, Decl, Fault, Scope, constant_at, shape_of, value_of};
 use vlog_syntax::{Assignment, Expr, Identifier, LeftSide};
 
-/// A loop without its start and its body: its variable, of this width and sign, its condition and its step.
+/// A loop without its start and its body: the place of its `for`, its variable, of this width and sign, its condition and its step.
 #[derive(Drop)]
 pub struct Header<'a> {
+    pub place: Span,
     pub name: &'a Identifier,
     pub width: u8,
     pub is_signed: bool,
@@ -113,13 +114,13 @@ pub fn next_word(header: &Header<'_>, scope: &Scope) -> Result<Word, Refusal>
     }
 }
 
-/// What is refused where a loop has had all turns that it may have.
-pub(crate) fn last_test(condition: &Expr, scope: &Scope) -> Option<Refusal>
-    ensures { (comb : Bool) (written : List Bool) → IsFirst (step_refusals comb written (tested (constant_of (names_of scope.now) 1 condition.now) (flaws_of (constant_faults (names_of scope.now) 1 condition.now)) (Refuse Turns Done))) result }
+/// What is refused where a loop at this place has had all turns that it may have.
+pub(crate) fn last_test(place: Span, condition: &Expr, scope: &Scope) -> Option<Refusal>
+    ensures { (comb : Bool) (written : List Bool) → IsFirst (step_refusals comb written (tested (constant_of (names_of scope.now) 1 condition.now) (flaws_of (constant_faults (names_of scope.now) 1 condition.now)) (Refuse (Turns place) Done))) result }
 {
     match holds(condition, scope) {
         Err(error) => Some(of_const(error)),
         Ok(false) => None,
-        Ok(true) => Some(Refusal::LoopTurns),
+        Ok(true) => Some(Refusal::LoopTurns(place)),
     }
 }

@@ -87,7 +87,7 @@ value-word w v = record { width = w.width; bits = v % 2 ^ w.width; some = w.some
 -- turns are the same in names that are alike but for the variable
 pub turns-alike : (n : ℕ) (loop : Loop) (body : InNames) (a b : Names) (word : Word) → word.width ≡ loop.width → AlikeBut loop.name.name a b → turns n loop body a word.bits ≡ turns n loop body b word.bits
 turns-alike zero loop body a b word e alike =
-    turns_none loop body a word e ∙ ap (λ (here : Names). tested (constant_of here 1 loop.condition) (flaws_of (constant_faults here 1 loop.condition)) (Refuse Turns Done)) (alike (Some (Constant word 0 loop.is_signed))) ∙ sym (turns_none loop body b word e)
+    turns_none loop body a word e ∙ ap (λ (here : Names). tested (constant_of here 1 loop.condition) (flaws_of (constant_faults here 1 loop.condition)) (Refuse (Turns loop.place) Done)) (alike (Some (Constant word 0 loop.is_signed))) ∙ sym (turns_none loop body b word e)
 turns-alike (suc n) loop body a b word e alike =
     let again : (v : ℕ) → turns n loop body a v ≡ turns n loop body b v = λ v.
     (let w : Word = value-word word v in
@@ -157,20 +157,20 @@ module _ (loop : Loop) (body : InNames) (names here : Names) (first word : Word)
       more_short (length now.building.cells + cells_of (turn_steps loop body here later)) (length a.building.cells + cells_of (turns max_turns loop body names first.bits)) x (omega (arith, counted, all)) (short later)
 
 -- where all turns came, another one would be refused
-last-none : (o : Option ℕ) (flaws : List Flaw) → IsClear (tested o flaws (Refuse Turns Done)) → tested o flaws (Refuse Turns Done) ≡ Done
-last-none None [] clear = refl
-last-none None (x ∷ flaws) clear = absurd clear
-last-none (Some zero) flaws clear = refl
-last-none (Some (suc n)) flaws clear = absurd clear
+last-none : (at : Span) (o : Option ℕ) (flaws : List Flaw) → IsClear (tested o flaws (Refuse (Turns at) Done)) → tested o flaws (Refuse (Turns at) Done) ≡ Done
+last-none at None [] clear = refl
+last-none at None (x ∷ flaws) clear = absurd clear
+last-none at (Some zero) flaws clear = refl
+last-none at (Some (suc n)) flaws clear = absurd clear
 
 pub turned-all : (loop : Loop) (body : InNames) (names : Names) (first word : Word) (k : ℕ) (a now : Work) (cs : List Change) → max_turns ≤ k → word.width ≡ loop.width → Turned loop body names k first word a now cs → IsReady names (turns max_turns loop body names first.bits) a → Built (turns max_turns loop body names first.bits) a now cs
 turned-all loop body names first word k a now cs le e h r =
     let here : Names = with_name names loop.name.name (Some (Constant word 0 loop.is_signed)) in
     let none : max_turns - k ≡ 0 = omega arith in
-    let last : Steps = tested (constant_of here 1 loop.condition) (flaws_of (constant_faults here 1 loop.condition)) (Refuse Turns Done) in
+    let last : Steps = tested (constant_of here 1 loop.condition) (flaws_of (constant_faults here 1 loop.condition)) (Refuse (Turns loop.place) Done) in
     let left : turns (max_turns - k) loop body names word.bits ≡ last = ap (λ (n : ℕ). turns n loop body names word.bits) none ∙ turns_none loop body names word e in
     let clear : IsClear last = clear-next h.prefix last (subst IsClear (h.same ∙ ap (followed h.prefix) left) r.clear) in
-    let all : turns max_turns loop body names first.bits ≡ h.prefix = h.same ∙ ap (followed h.prefix) (left ∙ last-none _ _ clear) ∙ followed-done h.prefix in
+    let all : turns max_turns loop body names first.bits ≡ h.prefix = h.same ∙ ap (followed h.prefix) (left ∙ last-none loop.place _ _ clear) ∙ followed-done h.prefix in
     subst (λ (p : Steps). Built p a now cs) (sym all) h.built
 
 -- One turn.
@@ -206,29 +206,29 @@ module _ (loop : Loop) (body : InNames) (here : Names) (a : Work) where
 
 -- The start of a loop.
 
-module _ (start : Assignment) (condition : Expr) (step : Assignment) (body : InNames) (names : Names) where
+module _ (at : Span) (start : Assignment) (condition : Expr) (step : Assignment) (body : InNames) (names : Names) where
   abbrev pub loop-at : Steps
-  loop-at = loop_steps start condition step body names (name_alone (out-LeftSide start.left))
+  loop-at = loop_steps at start condition step body names (name_alone (out-LeftSide start.left))
 
   pub start-named : name_alone (out-LeftSide start.left) ≡ None → IsClear loop-at → ⊥
-  start-named none clear = subst IsClear (ap (loop_steps start condition step body names) none) clear
+  start-named none clear = subst IsClear (ap (loop_steps at start condition step body names) none) clear
 
   module _ (n : Identifier) (by_name : start.left ≡ lv.Name n) (d : Option Decl) (declared : d ≡ names n.name) where
-    looped-is : loop-at ≡ looped start condition step body names n d
-    looped-is = loop_by_name start condition step body names n by_name ∙ ap (looped start condition step body names n) (sym declared)
+    looped-is : loop-at ≡ looped at start condition step body names n d
+    looped-is = loop_by_name at start condition step body names n by_name ∙ ap (looped at start condition step body names n) (sym declared)
 
     pub start-none : d ≡ None → IsClear loop-at → ⊥
-    start-none none clear = subst IsClear (looped-is ∙ ap (looped start condition step body names n) none) clear
+    start-none none clear = subst IsClear (looped-is ∙ ap (looped at start condition step body names n) none) clear
 
     pub start-constant : (value : Word) (low : ℕ) (sign : Bool) → d ≡ Some (Constant value low sign) → IsClear loop-at → ⊥
-    start-constant value low sign some clear = subst IsClear (looped-is ∙ ap (looped start condition step body names n) some) clear
+    start-constant value low sign some clear = subst IsClear (looped-is ∙ ap (looped at start condition step body names n) some) clear
 
     module _ (width low : ℕ) (sign : Bool) (number : ℕ) (signal : d ≡ Some (Signal width low sign number)) where
       abbrev pub loop-of : Loop
-      loop-of = record { name = n; width = width; is_signed = sign; condition = condition; step = step }
+      loop-of = record { place = at; name = n; width = width; is_signed = sign; condition = condition; step = step }
 
       signal-is : loop-at ≡ all_turns loop-of body names (constant_of names width start.value) (flaws_of (constant_faults names width start.value))
-      signal-is = looped-is ∙ ap (looped start condition step body names n) signal
+      signal-is = looped-is ∙ ap (looped at start condition step body names n) signal
 
       pub start-fails : (e : ConstError) (x : Expr) → x ≡ start.value → Some e ≡ option_map const_error (least (faults_at names width x)) → IsClear loop-at → ⊥
       start-fails e x is fails clear =
@@ -242,8 +242,8 @@ module _ (start : Assignment) (condition : Expr) (step : Assignment) (body : InN
           let by_bits : word.bits ≡ v start.value % 2 ^ width = bits ∙ ap (λ (y : Expr). v y % 2 ^ width) is in
           signal-is ∙ ap (λ (o : Option ℕ). all_turns loop-of body names o (flaws_of (constant_faults names width start.value))) (constant_stands names width start.value at_start) ∙ turns_next max_turns loop-of body names word (v start.value) by_bits
 
-pub loop-is : (names : Names) (stmt : Stmt) (at : Span) (start : Assignment) (condition x : Expr) (step : Assignment) (body y : Stmt) → stmt ≡ For at start condition step body → x ≡ condition → y ≡ body → steps_of stmt names ≡ loop_steps start x step (steps_of y) names (name_alone (out-LeftSide start.left))
+pub loop-is : (names : Names) (stmt : Stmt) (at : Span) (start : Assignment) (condition x : Expr) (step : Assignment) (body y : Stmt) → stmt ≡ For at start condition step body → x ≡ condition → y ≡ body → steps_of stmt names ≡ loop_steps at start x step (steps_of y) names (name_alone (out-LeftSide start.left))
 loop-is names stmt at start condition x step body y is same_condition same_body =
     ap (λ (s : Stmt). steps_of s names) is ∙ steps-loop at start condition step body names
-    ∙ sym (ap (λ (z : Expr). loop_steps start z step (steps_of body) names (name_alone (out-LeftSide start.left))) same_condition)
-    ∙ sym (ap (λ (z : Stmt). loop_steps start x step (steps_of z) names (name_alone (out-LeftSide start.left))) same_body)
+    ∙ sym (ap (λ (z : Expr). loop_steps at start z step (steps_of body) names (name_alone (out-LeftSide start.left))) same_condition)
+    ∙ sym (ap (λ (z : Stmt). loop_steps at start x step (steps_of z) names (name_alone (out-LeftSide start.left))) same_body)

@@ -35,7 +35,7 @@ use crate::variables::Variables;
 use case_arms::arms_in;
 use elab_expr::build_expr;
 use elab_proc::{Header, MAX_TURNS, case_size, holds, is_default, next_word};
-use mcy_base::Word;
+use mcy_base::{Span, Word};
 use net_builder::{Builder, ElabError};
 use vlog_meaning::{Decl, Scope, constant_at};
 use vlog_syntax::{Assignment, Boxed, CaseItem, CaseKind, Expr, LeftSide, Stmt};
@@ -79,10 +79,10 @@ pub fn build_statement(
             let selector = selector.get();
             build_case(builder, variables, scope, *kind, items.as_slice(), selector)
         }
-        Stmt::For(_, start, condition, step, body) => {
+        Stmt::For(span, start, condition, step, body) => {
             let test = condition.get();
             let turn = body.get();
-            build_loop(builder, variables, scope, start, test, step, turn)
+            build_loop(builder, variables, scope, *span, start, test, step, turn)
         }
         // All others are refused.
         _ => unreachable!(),
@@ -253,17 +253,18 @@ fn build_loop(
     builder: &mut Builder,
     variables: &mut Variables,
     scope: &mut Scope,
+    place: Span,
     start: &Assignment,
     condition: &Expr,
     step: &Assignment,
     body: &Stmt,
 ) -> Result<Changes, ElabError>
-    requires ready { IsReady (names_of scope.old) (loop_steps start.now condition.now step.now (steps_of body.now) (names_of scope.old) (name_alone (out-LeftSide start.now.left))) (work builder.old variables.old) }
+    requires ready { IsReady (names_of scope.old) (loop_steps place start.now condition.now step.now (steps_of body.now) (names_of scope.old) (name_alone (out-LeftSide start.now.left))) (work builder.old variables.old) }
     requires places { length variables.old ≡ length builder.old.signals }
-    ensures built { IfOk result (λ changes. Built (loop_steps start.now condition.now step.now (steps_of body.now) (names_of scope.old) (name_alone (out-LeftSide start.now.left))) (work builder.old variables.old) (work builder.new variables.new) changes) }
+    ensures built { IfOk result (λ changes. Built (loop_steps place start.now condition.now step.now (steps_of body.now) (names_of scope.old) (name_alone (out-LeftSide start.now.left))) (work builder.old variables.old) (work builder.new variables.new) changes) }
     ensures places { IfOk result (λ changes. length variables.new ≡ length builder.new.signals) }
     ensures kept { IfOk result (λ changes. names_of scope.new ≡ names_of scope.old) }
-    ensures short { IfErr result (λ e. IsShort (length builder.old.cells + cells_of (loop_steps start.now condition.now step.now (steps_of body.now) (names_of scope.old) (name_alone (out-LeftSide start.now.left)))) e) }
+    ensures short { IfErr result (λ e. IsShort (length builder.old.cells + cells_of (loop_steps place start.now condition.now step.now (steps_of body.now) (names_of scope.old) (name_alone (out-LeftSide start.now.left)))) e) }
 {
     let LeftSide::Name(name) = &start.left else {
         unreachable!()
@@ -281,6 +282,7 @@ fn build_loop(
             Err(_) => unreachable!(),
             Ok(first) => {
                 let header = Header {
+                    place,
                     name,
                     width,
                     is_signed,

@@ -46,6 +46,6 @@ pub(crate) fn tell<R: Print>(rt: &R, refusal: Option<Refusal>) -> io::Result<()>
             println!(rt; "TwoWriters {} signal {number}", span.col)
         }
         Some(Refusal::Latch(span, number)) => println!(rt; "Latch {} signal {number}", span.col),
-        Some(Refusal::LoopTurns) => println!(rt; "LoopTurns"),
+        Some(Refusal::LoopTurns(span)) => println!(rt; "LoopTurns {}", span.col),
     }
 }

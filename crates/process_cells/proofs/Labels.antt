@@ -2,6 +2,7 @@
 use Rattle.std.proofs.Common.{◌≡◌, ℕ, zero, suc, Bool, true, false, List, [], ◌∷◌, ◌++◌, map, Option, Some, None, refl, sym, ap, ◌∙◌, subst}
 use Rattle.std.specs.Prelude.{if◌then◌else◌}
 use Rattle.std.specs.List.{flat_map}
+use Rattle.mcy_base.specs.declared.span.Span.{Span}
 use Rattle.vlog_syntax.specs.declared.expr.Expr.{Expr}
 use Rattle.vlog_syntax.specs.declared.identifier.Identifier.{Identifier}
 use Rattle.vlog_syntax.specs.declared.left_side.LeftSide.{out-LeftSide}
@@ -74,7 +75,7 @@ own-turns : (most : ℕ) (loop : Loop) (body : InNames) (names : Names) (v : ℕ
 unfolding turns
 own-turns zero loop body names v b =
     let here : Names = turn_names loop names v in
-    own-tested (constant_of here 1 loop.condition) (flaws_of (constant_faults here 1 loop.condition)) (Refuse Turns Done) tt
+    own-tested (constant_of here 1 loop.condition) (flaws_of (constant_faults here 1 loop.condition)) (Refuse (Turns loop.place) Done) tt
 own-turns (suc most) loop body names v b =
     let here : Names = turn_names loop names v in
     let flaws : List Flaw = step_flaws loop here (name_alone (out-LeftSide loop.step.left)) in
@@ -88,14 +89,14 @@ own-all_turns : (loop : Loop) (body : InNames) (names : Names) (o : Option ℕ) 
 own-all_turns loop body names None flaws b = own-refused flaws
 own-all_turns loop body names (Some v) flaws b = own-turns max_turns loop body names v b
 
-own-looped : (start : Assignment) (condition : Expr) (step : Assignment) (body : InNames) (names : Names) (n : Identifier) (d : Option Decl) → OwnLabelsIn body → HasOwnLabels (looped start condition step body names n d)
-own-looped start condition step body names n (Some (Signal width low is_signed number)) b = own-all_turns (record { name = n; width = width; is_signed = is_signed; condition = condition; step = step }) body names (constant_of names width start.value) (flaws_of (constant_faults names width start.value)) b
-own-looped start condition step body names n (Some (Constant value low is_signed)) b = tt
-own-looped start condition step body names n None b = tt
+own-looped : (at : Span) (start : Assignment) (condition : Expr) (step : Assignment) (body : InNames) (names : Names) (n : Identifier) (d : Option Decl) → OwnLabelsIn body → HasOwnLabels (looped at start condition step body names n d)
+own-looped at start condition step body names n (Some (Signal width low is_signed number)) b = own-all_turns (record { place = at; name = n; width = width; is_signed = is_signed; condition = condition; step = step }) body names (constant_of names width start.value) (flaws_of (constant_faults names width start.value)) b
+own-looped at start condition step body names n (Some (Constant value low is_signed)) b = tt
+own-looped at start condition step body names n None b = tt
 
-own-loop : (start : Assignment) (condition : Expr) (step : Assignment) (body : InNames) (names : Names) (o : Option Identifier) → OwnLabelsIn body → HasOwnLabels (loop_steps start condition step body names o)
-own-loop start condition step body names None b = tt
-own-loop start condition step body names (Some n) b = own-looped start condition step body names n (names n.name) b
+own-loop : (at : Span) (start : Assignment) (condition : Expr) (step : Assignment) (body : InNames) (names : Names) (o : Option Identifier) → OwnLabelsIn body → HasOwnLabels (loop_steps at start condition step body names o)
+own-loop at start condition step body names None b = tt
+own-loop at start condition step body names (Some n) b = own-looped at start condition step body names n (names n.name) b
 
 -- The labels of items.
 
@@ -220,7 +221,7 @@ own-step (t.Case at kind selector items) names =
     let is : List Item = map item_steps (map (λ (w : OwnItem). w.0) items) in
     let c : Selection = selection_of names kind selector is in
     (λ e. right-chosen c (labelled is) (default_of is) (right-labelled names is (right-items names is e)), own-chosen c (labelled is) (default_of is) (own-labelled is (own-items items)) (own-default is (own-items items)), tt)
-own-step (t.For at start condition step body) names = own-loop start condition step (steps_of body.0) names (name_alone (out-LeftSide start.left)) body.1
+own-step (t.For at start condition step body) names = own-loop at start condition step (steps_of body.0) names (name_alone (out-LeftSide start.left)) body.1
 own-step (t.While at condition body) names = tt
 own-step (t.Repeat at count body) names = tt
 own-step (t.Forever at body) names = tt

@@ -4,6 +4,7 @@ use Rattle.std.specs.Prelude.{if◌then◌else◌}
 use Rattle.std.specs.List.{flat_map}
 use Rattle.mcy_base.specs.declared.span.Span.{Span}
 use Rattle.vlog_syntax.specs.declared.expr.Expr.{Expr}
+use Rattle.vlog_syntax.specs.Places.{first_token}
 use Rattle.vlog_meaning.specs.declared.fault.Fault.{Fault}
 use Rattle.vlog_meaning.specs.Scopes.{Names}
 use Rattle.vlog_meaning.specs.Senses.{Bits, no_bits, either, is_empty}
@@ -146,7 +147,7 @@ mutual
       let x : Expr = sound_expr names c.selector in
       let rest : AreSame (sound more) more = same_steps comb written more (right_nil (unless fs those) (step_refusals comb written more) e) own.2 in
       let these : AreSameArms c x (sound_arms names arms) arms = same_arms comb written c x arms (unless_nil fs those here) (own.0 labels) own.1 in
-      subst (λ (l : List Fault). AreSame (if is_empty l then Case (record c { selector = x }) (sound_arms names arms) (sound more) else Refuse Turns (sound more)) (Case c arms more)) (sym free)
+      subst (λ (l : List Fault). AreSame (if is_empty l then Case (record c { selector = x }) (sound_arms names arms) (sound more) else Refuse (Turns (first_token c.selector)) (sound more)) (Case c arms more)) (sym free)
       (same_case c x arms (sound_arms names arms) more (sound more) (same_expr names c.selector right) these rest)
   same_steps comb written (Refuse x more) e own = absurd cc
 

@@ -6,6 +6,7 @@ use Rattle.std.specs.Option.{option_map}
 use Rattle.std.proofs.lemmas.List.{append-nil}
 use Rattle.mcy_base.specs.declared.span.Span.{Span}
 use Rattle.vlog_syntax.specs.declared.expr.Expr.{Expr}
+use Rattle.vlog_syntax.specs.Places.{first_token}
 use Rattle.vlog_syntax.specs.declared.stmt.CaseItem.{CaseItem, out-CaseItem}
 use Rattle.vlog_syntax.specs.declared.stmt.CaseKind.{CaseKind}
 use Rattle.vlog_syntax.specs.declared.stmt.Stmt.TheFolds.{fold_out-CaseItem}
@@ -124,7 +125,7 @@ case_marked names kind selector is fault places m0 m1 m2 last arms first none by
     let c : Selection = selection_of names kind selector (map item_steps is) in
     let d : Selection = record c { selector = sound_expr c.names c.selector } in
     let empty : is_empty (case_faults names (selector ∷ labels_of (map item_steps is))) ≡ true = ap (λ (l : List Expr). is_empty (case_faults names (selector ∷ l))) (labels_same false [] is) ∙ ap is_empty (least_none (case_faults names (selector ∷ flat_map labels_in is)) (sym first ∙ none)) in
-    let as_case : sound (case_steps kind selector (map item_steps is) names) ≡ Case d (sound_arms names (arms_by c is places)) Done = ap (λ (b : Bool). if b then Case d (sound_arms names (chosen_arms c (labelled (map item_steps is)) (default_of (map item_steps is)))) Done else Refuse Turns Done) empty ∙ ap (λ (r : Arms). Case d (sound_arms names r) Done) (sym by) in
+    let as_case : sound (case_steps kind selector (map item_steps is) names) ≡ Case d (sound_arms names (arms_by c is places)) Done = ap (λ (b : Bool). if b then Case d (sound_arms names (chosen_arms c (labelled (map item_steps is)) (default_of (map item_steps is)))) Done else Refuse (Turns (first_token selector)) Done) empty ∙ ap (λ (r : Arms). Case d (sound_arms names r) Done) (sym by) in
     subst (λ (z : Steps). Marked z m0 m2) (sym as_case) (arms_marked c selector (labelled (map item_steps (take places.before is))) (done_by (option_map (item_body is) places.last) names) m0 m1 m2 last arms refl x own a y)
 
 some_faults : (fs : List Fault) (f : Fault) → Some f ≡ least fs → is_empty fs ≡ false
@@ -138,7 +139,7 @@ case_stopped names kind selector is fault f a b first some x =
     let c : Selection = selection_of names kind selector (map item_steps is) in
     let d : Selection = record c { selector = sound_expr c.names c.selector } in
     let full : is_empty (case_faults names (selector ∷ labels_of (map item_steps is))) ≡ false = ap (λ (l : List Expr). is_empty (case_faults names (selector ∷ l))) (labels_same false [] is) ∙ some_faults (case_faults names (selector ∷ flat_map labels_in is)) f (sym some ∙ first) in
-    let as_stop : sound (case_steps kind selector (map item_steps is) names) ≡ Refuse Turns Done = ap (λ (z : Bool). if z then Case d (sound_arms names (chosen_arms c (labelled (map item_steps is)) (default_of (map item_steps is)))) Done else Refuse Turns Done) full in
+    let as_stop : sound (case_steps kind selector (map item_steps is) names) ≡ Refuse (Turns (first_token selector)) Done = ap (λ (z : Bool). if z then Case d (sound_arms names (chosen_arms c (labelled (map item_steps is)) (default_of (map item_steps is)))) Done else Refuse (Turns (first_token selector)) Done) full in
     subst (λ (z : Steps). Marked z a b) (sym as_stop) (added_as no_bits no_bits _ _ [] _ true _ a b (λ n i. refl) (λ n i. refl) refl refl x)
 
 -- One arm more.

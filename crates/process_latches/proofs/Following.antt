@@ -1,7 +1,7 @@
 -- What steps that follow others, choices and arms assign and read, from nothing.
 use Rattle.std.proofs.Common.{◌≡◌, ℕ, Bool, true, false, not, ◌&&◌, ◌||◌, List, ◌∷◌, ◌++◌, refl, sym, ap, ◌∙◌, subst, append_assoc}
 use Rattle.std.specs.Prelude.{if◌then◌else◌}
-use Rattle.vlog_syntax.specs.Places.{left_first_token}
+use Rattle.vlog_syntax.specs.Places.{first_token, left_first_token}
 use Rattle.vlog_meaning.specs.Senses.{Bits, no_bits, either, is_empty}
 use Rattle.vlog_effects.specs.Steps.{Steps, Done, Assign, Choose, Case, Refuse, Turns, followed}
 use Rattle.vlog_effects.specs.LeftSides.{parts_of}
@@ -75,9 +75,9 @@ sound_followed Done b = refl
 sound_followed (Assign x more) b = ap (λ (s : Steps). Assign (record x { left = sound_left x.names x.left; right = sound_expr x.names x.right }) s) (sound_followed more b)
 sound_followed (Choose at x then_part else_part more) b = ap (λ (s : Steps). Choose at (record x { condition = sound_expr x.names x.condition }) (sound then_part) (sound else_part) s) (sound_followed more b)
 sound_followed (Case x arms more) b = go (is_empty (case_faults x.names (x.selector ∷ x.labels))) (sound_followed more b) where
-  go : (t : Bool) → sound (followed more b) ≡ followed (sound more) (sound b) → (if t then Case (record x { selector = sound_expr x.names x.selector }) (sound_arms x.names arms) (sound (followed more b)) else Refuse Turns (sound (followed more b))) ≡ followed (if t then Case (record x { selector = sound_expr x.names x.selector }) (sound_arms x.names arms) (sound more) else Refuse Turns (sound more)) (sound b)
+  go : (t : Bool) → sound (followed more b) ≡ followed (sound more) (sound b) → (if t then Case (record x { selector = sound_expr x.names x.selector }) (sound_arms x.names arms) (sound (followed more b)) else Refuse (Turns (first_token x.selector)) (sound (followed more b))) ≡ followed (if t then Case (record x { selector = sound_expr x.names x.selector }) (sound_arms x.names arms) (sound more) else Refuse (Turns (first_token x.selector)) (sound more)) (sound b)
   go true e = ap (λ (s : Steps). Case (record x { selector = sound_expr x.names x.selector }) (sound_arms x.names arms) s) e
-  go false e = ap (λ (s : Steps). Refuse Turns s) e
+  go false e = ap (λ (s : Steps). Refuse (Turns (first_token x.selector)) s) e
 sound_followed (Refuse x more) b = ap (λ (s : Steps). Refuse x s) (sound_followed more b)
 
 marked_followed : (s t : Steps) (a b d : Marks) → Marked s a b → Marked t b d → Marked (followed s t) a d

@@ -113,17 +113,17 @@ module _ (loop : Loop) (body : InNames) where
   pub leads_end : (names here : Names) (first word : Word) (k : ℕ) (old now new : Marks) → k < max_turns → word.width ≡ loop.width → here ≡ with_name names loop.name.name (Some (Constant word 0 loop.is_signed)) → Leads names k first word old now → ((later : ℕ → Steps) → Marked (sound (turn_steps loop body here later)) now new) → Marked (sound (turns max_turns loop body names first.bits)) old new
   leads_end names here first word k old now new h e is leads x = leads new (subst (λ (s : Steps). Marked (sound s) now new) (sym (turn_by_turn false [] loop body names here word k h e is)) (x (λ v. turns (max_turns - (k + 1)) loop body names v)))
 
-  pub leads_none : (names here : Names) (first word : Word) (k : ℕ) (old now new : Marks) → max_turns ≤ k → word.width ≡ loop.width → here ≡ with_name names loop.name.name (Some (Constant word 0 loop.is_signed)) → Leads names k first word old now → Marked (sound (last_steps here loop.condition)) now new → Marked (sound (turns max_turns loop body names first.bits)) old new
+  pub leads_none : (names here : Names) (first word : Word) (k : ℕ) (old now new : Marks) → max_turns ≤ k → word.width ≡ loop.width → here ≡ with_name names loop.name.name (Some (Constant word 0 loop.is_signed)) → Leads names k first word old now → Marked (sound (last_steps loop.place here loop.condition)) now new → Marked (sound (turns max_turns loop body names first.bits)) old new
   leads_none names here first word k old now new h e is leads x =
       let m : max_turns - k ≡ 0 = omega arith in
-      leads new (subst (λ (s : Steps). Marked (sound s) now new) (sym (ap (λ (n : ℕ). turns n loop body names word.bits) m ∙ turns_none loop body names word e ∙ ap (λ (n : Names). last_steps n loop.condition) (sym is))) x)
+      leads new (subst (λ (s : Steps). Marked (sound s) now new) (sym (ap (λ (n : ℕ). turns n loop body names word.bits) m ∙ turns_none loop body names word e ∙ ap (λ (n : Names). last_steps loop.place n loop.condition) (sym is))) x)
 
 -- the test after the most turns
-pub last_fails : (here : Names) (condition : Expr) (e : ConstError) (a b : Marks) → Some e ≡ option_map const_error (least (faults_at here 1 condition)) → Added no_bits no_bits [] true a b → Marked (sound (last_steps here condition)) a b
-last_fails here condition e a b is x = halts_marked (last_steps here condition) a b (const_halts here 1 condition e (λ (o : Option ℕ). tested o (flaws_of (constant_faults here 1 condition)) (Refuse Turns Done)) refl is) x
+pub last_fails : (at : Span) (here : Names) (condition : Expr) (e : ConstError) (a b : Marks) → Some e ≡ option_map const_error (least (faults_at here 1 condition)) → Added no_bits no_bits [] true a b → Marked (sound (last_steps at here condition)) a b
+last_fails at here condition e a b is x = halts_marked (last_steps at here condition) a b (const_halts here 1 condition e (λ (o : Option ℕ). tested o (flaws_of (constant_faults here 1 condition)) (Refuse (Turns at) Done)) refl is) x
 
-pub last_ends : (here : Names) (condition : Expr) (t : Bool) (a : Marks) → None ≡ option_map const_error (least (faults_at here 1 condition)) → t ≡ not (nat_eq ((sense here condition).value nothing (assigned (sense here condition) 1)) 0) → t ≡ false → Marked (sound (last_steps here condition)) a a
-last_ends here condition t a stands is off = subst (λ (s : Steps). Marked (sound s) a a) (sym (test_ends here condition (Refuse Turns Done) ((sense here condition).value nothing (assigned (sense here condition) 1)) (constant_stands here 1 condition stands) (sym off ∙ is))) (added_none a)
+pub last_ends : (at : Span) (here : Names) (condition : Expr) (t : Bool) (a : Marks) → None ≡ option_map const_error (least (faults_at here 1 condition)) → t ≡ not (nat_eq ((sense here condition).value nothing (assigned (sense here condition) 1)) 0) → t ≡ false → Marked (sound (last_steps at here condition)) a a
+last_ends at here condition t a stands is off = subst (λ (s : Steps). Marked (sound s) a a) (sym (test_ends here condition (Refuse (Turns at) Done) ((sense here condition).value nothing (assigned (sense here condition) 1)) (constant_stands here 1 condition stands) (sym off ∙ is))) (added_none a)
 
-pub last_more : (here : Names) (condition : Expr) (t : Bool) (a b : Marks) → None ≡ option_map const_error (least (faults_at here 1 condition)) → t ≡ not (nat_eq ((sense here condition).value nothing (assigned (sense here condition) 1)) 0) → t ≡ true → Added no_bits no_bits [] true a b → Marked (sound (last_steps here condition)) a b
-last_more here condition t a b stands is on x = subst (λ (s : Steps). Marked (sound s) a b) (sym (test_goes here condition (Refuse Turns Done) ((sense here condition).value nothing (assigned (sense here condition) 1)) (constant_stands here 1 condition stands) (sym on ∙ is))) (halts_marked (refused (Turns ∷ [])) a b (refused_halts Turns [] refl) x)
+pub last_more : (at : Span) (here : Names) (condition : Expr) (t : Bool) (a b : Marks) → None ≡ option_map const_error (least (faults_at here 1 condition)) → t ≡ not (nat_eq ((sense here condition).value nothing (assigned (sense here condition) 1)) 0) → t ≡ true → Added no_bits no_bits [] true a b → Marked (sound (last_steps at here condition)) a b
+last_more at here condition t a b stands is on x = subst (λ (s : Steps). Marked (sound s) a b) (sym (test_goes here condition (Refuse (Turns at) Done) ((sense here condition).value nothing (assigned (sense here condition) 1)) (constant_stands here 1 condition stands) (sym on ∙ is))) (halts_marked (refused (Turns at ∷ [])) a b (refused_halts (Turns at) [] refl) x)

@@ -84,7 +84,7 @@ module _ (names : Names) (a b : Marks) where
       let by_items : List CaseItem → Steps = λ z. case_steps kind selector (map item_steps z) names in
       subst (λ (z : Steps). Marked (sound z) a b) (ap by_selector same_selector ∙ ap by_items same_items ∙ sym (ap (λ (y : Stmt). steps_of y names) is ∙ steps-case at kind selector items names)) m
 
-  pub stmt_loop : (x : Stmt) (at : Span) (start : Assignment) (condition : Expr) (step : Assignment) (body : Stmt) → x ≡ s.For at start condition step body → Marked (sound (loop_steps start condition step (steps_of body) names (name_alone (out-LeftSide start.left)))) a b → Marked (sound (steps_of x names)) a b
+  pub stmt_loop : (x : Stmt) (at : Span) (start : Assignment) (condition : Expr) (step : Assignment) (body : Stmt) → x ≡ s.For at start condition step body → Marked (sound (loop_steps at start condition step (steps_of body) names (name_alone (out-LeftSide start.left)))) a b → Marked (sound (steps_of x names)) a b
   stmt_loop x at start condition step body is m = subst (λ (z : Steps). Marked (sound z) a b) (sym (ap (λ (y : Stmt). steps_of y names) is ∙ steps-loop at start condition step body names)) m
 
   rolled : (x : Stmt) (o : Stmt-F Stmt CaseItem) → x ≡ roll-Stmt o → steps_of x names ≡ step_of (map-Stmt Stmt CaseItem InNames Item steps_of item_steps o) names
@@ -139,34 +139,34 @@ module _ (names : Names) (a b : Marks) where
 
   -- How a loop starts.
 
-  module _ (start : Assignment) (condition : Expr) (step : Assignment) (body : InNames) (n : Identifier) (by_name : start.left ≡ lv.Name n) where
-    looped_is : (d : Option Decl) → d ≡ names n.name → loop_steps start condition step body names (name_alone (out-LeftSide start.left)) ≡ looped start condition step body names n d
-    looped_is d is = loop_by_name start condition step body names n by_name ∙ ap (looped start condition step body names n) (sym is)
+  module _ (at : Span) (start : Assignment) (condition : Expr) (step : Assignment) (body : InNames) (n : Identifier) (by_name : start.left ≡ lv.Name n) where
+    looped_is : (d : Option Decl) → d ≡ names n.name → loop_steps at start condition step body names (name_alone (out-LeftSide start.left)) ≡ looped at start condition step body names n d
+    looped_is d is = loop_by_name at start condition step body names n by_name ∙ ap (looped at start condition step body names n) (sym is)
 
-    pub start_none : (d : Option Decl) → d ≡ names n.name → d ≡ None → Added no_bits no_bits [] true a b → Marked (sound (loop_steps start condition step body names (name_alone (out-LeftSide start.left)))) a b
-    start_none d is none x = subst (λ (z : Steps). Marked (sound z) a b) (sym (looped_is d is ∙ ap (looped start condition step body names n) none)) (halts_marked _ a b (refused_halts (Const (ce.Unknown n.span)) [] refl) x)
+    pub start_none : (d : Option Decl) → d ≡ names n.name → d ≡ None → Added no_bits no_bits [] true a b → Marked (sound (loop_steps at start condition step body names (name_alone (out-LeftSide start.left)))) a b
+    start_none d is none x = subst (λ (z : Steps). Marked (sound z) a b) (sym (looped_is d is ∙ ap (looped at start condition step body names n) none)) (halts_marked _ a b (refused_halts (Const (ce.Unknown n.span)) [] refl) x)
 
-    pub start_constant : (d : Option Decl) (value : Word) (low : ℕ) (sign : Bool) → d ≡ names n.name → d ≡ Some (Constant value low sign) → Added no_bits no_bits [] true a b → Marked (sound (loop_steps start condition step body names (name_alone (out-LeftSide start.left)))) a b
-    start_constant d value low sign is some x = subst (λ (z : Steps). Marked (sound z) a b) (sym (looped_is d is ∙ ap (looped start condition step body names n) some)) (halts_marked _ a b (refused_halts (Const (ce.Unknown n.span)) [] refl) x)
+    pub start_constant : (d : Option Decl) (value : Word) (low : ℕ) (sign : Bool) → d ≡ names n.name → d ≡ Some (Constant value low sign) → Added no_bits no_bits [] true a b → Marked (sound (loop_steps at start condition step body names (name_alone (out-LeftSide start.left)))) a b
+    start_constant d value low sign is some x = subst (λ (z : Steps). Marked (sound z) a b) (sym (looped_is d is ∙ ap (looped at start condition step body names n) some)) (halts_marked _ a b (refused_halts (Const (ce.Unknown n.span)) [] refl) x)
 
     module _ (d : Option Decl) (width low : ℕ) (sign : Bool) (number : ℕ) (declared : d ≡ names n.name) (signal : d ≡ Some (Signal width low sign number)) where
-      signal_is : loop_steps start condition step body names (name_alone (out-LeftSide start.left)) ≡ all_turns (record { name = n; width = width; is_signed = sign; condition = condition; step = step }) body names (constant_of names width start.value) (flaws_of (constant_faults names width start.value))
-      signal_is = looped_is d declared ∙ ap (looped start condition step body names n) signal
+      signal_is : loop_steps at start condition step body names (name_alone (out-LeftSide start.left)) ≡ all_turns (record { place = at; name = n; width = width; is_signed = sign; condition = condition; step = step }) body names (constant_of names width start.value) (flaws_of (constant_faults names width start.value))
+      signal_is = looped_is d declared ∙ ap (looped at start condition step body names n) signal
 
-      pub start_fails : (e : ConstError) (x : Expr) → x ≡ start.value → Some e ≡ option_map const_error (least (faults_at names width x)) → Added no_bits no_bits [] true a b → Marked (sound (loop_steps start condition step body names (name_alone (out-LeftSide start.left)))) a b
+      pub start_fails : (e : ConstError) (x : Expr) → x ≡ start.value → Some e ≡ option_map const_error (least (faults_at names width x)) → Added no_bits no_bits [] true a b → Marked (sound (loop_steps at start condition step body names (name_alone (out-LeftSide start.left)))) a b
       start_fails e x is fails y =
-          let loop : Loop = record { name = n; width = width; is_signed = sign; condition = condition; step = step } in
+          let loop : Loop = record { place = at; name = n; width = width; is_signed = sign; condition = condition; step = step } in
           let at_start : Some e ≡ option_map const_error (least (faults_at names width start.value)) = subst (λ (z : Expr). Some e ≡ option_map const_error (least (faults_at names width z))) is fails in
           subst (λ (z : Steps). Marked (sound z) a b) (sym signal_is) (halts_marked _ a b (const_halts names width start.value e (λ (o : Option ℕ). all_turns loop body names o (flaws_of (constant_faults names width start.value))) refl at_start) y)
 
-      pub start_goes : (x : Expr) (word : Word) → x ≡ start.value → None ≡ option_map const_error (least (faults_at names width x)) → word.bits ≡ (sense names x).value nothing (assigned (sense names x) width) % 2 ^ width → Marked (sound (turns max_turns (record { name = n; width = width; is_signed = sign; condition = condition; step = step }) body names word.bits)) a b → Marked (sound (loop_steps start condition step body names (name_alone (out-LeftSide start.left)))) a b
+      pub start_goes : (x : Expr) (word : Word) → x ≡ start.value → None ≡ option_map const_error (least (faults_at names width x)) → word.bits ≡ (sense names x).value nothing (assigned (sense names x) width) % 2 ^ width → Marked (sound (turns max_turns (record { place = at; name = n; width = width; is_signed = sign; condition = condition; step = step }) body names word.bits)) a b → Marked (sound (loop_steps at start condition step body names (name_alone (out-LeftSide start.left)))) a b
       start_goes x word is stands bits m =
-          let loop : Loop = record { name = n; width = width; is_signed = sign; condition = condition; step = step } in
+          let loop : Loop = record { place = at; name = n; width = width; is_signed = sign; condition = condition; step = step } in
           let v : Expr → ℕ = λ y. (sense names y).value nothing (assigned (sense names y) width) in
           let at_start : None ≡ option_map const_error (least (faults_at names width start.value)) = subst (λ (y : Expr). None ≡ option_map const_error (least (faults_at names width y))) is stands in
           let by_bits : word.bits ≡ v start.value % 2 ^ width = bits ∙ ap (λ (y : Expr). v y % 2 ^ width) is in
           subst (λ (z : Steps). Marked (sound z) a b) (sym (signal_is ∙ ap (λ (o : Option ℕ). all_turns loop body names o (flaws_of (constant_faults names width start.value))) (constant_stands names width start.value at_start) ∙ turns_next max_turns loop body names word (v start.value) by_bits)) m
 
   -- a start that assigns no name
-  pub start_no_name : (start : Assignment) (condition : Expr) (step : Assignment) (body : InNames) → name_alone (out-LeftSide start.left) ≡ None → Added no_bits no_bits [] true a b → Marked (sound (loop_steps start condition step body names (name_alone (out-LeftSide start.left)))) a b
-  start_no_name start condition step body none x = subst (λ (z : Steps). Marked (sound z) a b) (sym (ap (λ (o : Option Identifier). loop_steps start condition step body names o) none)) (halts_marked _ a b (refused_halts (Const (ce.NotConstant (left_first_token start.left))) [] refl) x)
+  pub start_no_name : (at : Span) (start : Assignment) (condition : Expr) (step : Assignment) (body : InNames) → name_alone (out-LeftSide start.left) ≡ None → Added no_bits no_bits [] true a b → Marked (sound (loop_steps at start condition step body names (name_alone (out-LeftSide start.left)))) a b
+  start_no_name at start condition step body none x = subst (λ (z : Steps). Marked (sound z) a b) (sym (ap (λ (o : Option Identifier). loop_steps at start condition step body names o) none)) (halts_marked _ a b (refused_halts (Const (ce.NotConstant (left_first_token start.left))) [] refl) x)

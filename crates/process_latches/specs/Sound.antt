@@ -44,7 +44,7 @@ abbrev mutual
   sound Done = Done
   sound (Assign a more) = Assign (record a { left = sound_left a.names a.left; right = sound_expr a.names a.right }) (sound more)
   sound (Choose at c then_part else_part more) = Choose at (record c { condition = sound_expr c.names c.condition }) (sound then_part) (sound else_part) (sound more)
-  sound (Case c arms more) = if is_empty (case_faults c.names (c.selector ∷ c.labels)) then Case (record c { selector = sound_expr c.names c.selector }) (sound_arms c.names arms) (sound more) else Refuse Turns (sound more)
+  sound (Case c arms more) = if is_empty (case_faults c.names (c.selector ∷ c.labels)) then Case (record c { selector = sound_expr c.names c.selector }) (sound_arms c.names arms) (sound more) else Refuse (Turns (first_token c.selector)) (sound more)
   sound (Refuse x more) = Refuse x (sound more)
 
   pub sound_arms : Names → Arms → Arms
@@ -55,7 +55,7 @@ abbrev mutual
 abbrev pub is_stop : Flaw → Bool
 is_stop (Const error) = true
 is_stop (Lacks place feature) = false
-is_stop Turns = true
+is_stop (Turns place) = true
 
 -- A loop, a selector or a label is refused, in steps that are sound: then no latch is looked for.
 abbrev mutual

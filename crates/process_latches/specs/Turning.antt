@@ -1,5 +1,6 @@
 -- The marks of the parts of choices, cases and loops.
 use Rattle.std.specs.Prelude.{◌≡◌, ℕ, ◌%◌, ◌^◌, Bool, true, false, ◌&&◌, ◌||◌, List, [], ◌∷◌, ◌++◌, Option, None, Some}
+use Rattle.mcy_base.specs.declared.span.Span.{Span}
 use Rattle.mcy_base.specs.declared.word.Word.{Word}
 use Rattle.vlog_syntax.specs.declared.expr.Expr.{Expr}
 use Rattle.vlog_meaning.specs.Scopes.{Names}
@@ -63,6 +64,6 @@ abbrev pub IsMarkedTurn : Loop → InNames → Names → Option Word → Marks �
 IsMarkedTurn loop body here None old new = (later : ℕ → Steps) → Marked (sound (turn_steps loop body here later)) old new
 IsMarkedTurn loop body here (Some word) old new = (word.width ≡ loop.width) × (word.bits ≡ next_value loop here % 2 ^ loop.width) × Marked (sound (body here)) old new × ((later : ℕ → Steps) → turn_steps loop body here later ≡ followed (body here) (later (next_value loop here)))
 
--- the test after the most turns
-abbrev pub last_steps : Names → Expr → Steps
-last_steps here condition = tested (constant_of here 1 condition) (flaws_of (constant_faults here 1 condition)) (Refuse Turns Done)
+-- the test after the most turns of a loop at this place
+abbrev pub last_steps : Span → Names → Expr → Steps
+last_steps at here condition = tested (constant_of here 1 condition) (flaws_of (constant_faults here 1 condition)) (Refuse (Turns at) Done)

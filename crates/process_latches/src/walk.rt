@@ -21,7 +21,7 @@ use crate::assignments::mark_assignment;
 use crate::marks::{Marks, Write};
 use case_arms::arms_in;
 use elab_proc::{Header, MAX_TURNS, case_fault, holds, is_default, next_word};
-use mcy_base::Word;
+use mcy_base::{Span, Word};
 use std::alloc::{AllocError, Global};
 use vlog_meaning::{Decl, Scope, constant_at};
 use vlog_syntax::{Assignment, CaseItem, CaseKind, Expr, LeftSide, Stmt};
@@ -81,9 +81,10 @@ pub fn mark(
         Stmt::Case(_, kind, selector, items) => {
             mark_case(alloc, *kind, items.as_slice(), selector.get(), scope, marks)
         }
-        Stmt::For(_, start, condition, step, body) => {
+        Stmt::For(span, start, condition, step, body) => {
             mark_loop(
                 alloc,
+                *span,
                 start,
                 condition.get(),
                 step,
@@ -221,6 +222,7 @@ fn mark_arms(
 #[cycle(walk)]
 fn mark_loop(
     alloc: Global,
+    place: Span,
     start: &Assignment,
     condition: &Expr,
     step: &Assignment,
@@ -229,7 +231,7 @@ fn mark_loop(
     marks: &mut Marks,
 ) -> Result<(), AllocError>
     requires { AreSized (names_of scope.old) }
-    ensures marked { OnOk result (Marked (sound (loop_steps start.now condition.now step.now (steps_of body.now) (names_of scope.old) (name_alone (out-LeftSide start.now.left)))) marks.old marks.new) }
+    ensures marked { OnOk result (Marked (sound (loop_steps place start.now condition.now step.now (steps_of body.now) (names_of scope.old) (name_alone (out-LeftSide start.now.left)))) marks.old marks.new) }
     ensures kept { OnOk result (names_of scope.new ≡ names_of scope.old) }
 {
     let LeftSide::Name(name) = &start.left else {
@@ -252,6 +254,7 @@ fn mark_loop(
             }
             Ok(first) => {
                 let header = Header {
+                    place,
                     name,
                     width,
                     is_signed,
@@ -321,13 +324,13 @@ fn mark_each_turn(
         }
     }
     scope.replace(header.name.name.as_str(), header.variable(word));
-    mark_last_test(header.condition, scope, marks);
+    mark_last_test(header.place, header.condition, scope, marks);
     Ok(())
 }
 
-/// Marks that a loop is refused which has had all turns that it may have, where another one would come.
-fn mark_last_test(condition: &Expr, scope: &Scope, marks: &mut Marks)
-    ensures { Marked (sound (last_steps (names_of scope.now) condition.now)) marks.old marks.new }
+/// Marks that a loop at this place is refused which has had all turns that it may have, where another one would come.
+fn mark_last_test(place: Span, condition: &Expr, scope: &Scope, marks: &mut Marks)
+    ensures { Marked (sound (last_steps place (names_of scope.now) condition.now)) marks.old marks.new }
 {
     match holds(condition, scope) {
         Ok(false) => {}

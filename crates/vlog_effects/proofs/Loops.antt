@@ -8,7 +8,7 @@ use Rattle.vlog_effects.specs.Steps.{Done, Refuse, Turns, Flaw, Loop, InNames, f
 -- where the condition is 0 the loop has ended
 pub turns-end : (most : ℕ) (loop : Loop) (body : InNames) (names : Names) (v : ℕ) → constant_of (turn_names loop names v) 1 loop.condition ≡ Some zero → turns most loop body names v ≡ Done
 unfolding turns
-turns-end zero loop body names v e = ap (λ (o : Option ℕ). tested o (flaws_of (constant_faults (turn_names loop names v) 1 loop.condition)) (Refuse Turns Done)) e
+turns-end zero loop body names v e = ap (λ (o : Option ℕ). tested o (flaws_of (constant_faults (turn_names loop names v) 1 loop.condition)) (Refuse (Turns loop.place) Done)) e
 turns-end (suc most) loop body names v e = ap (λ (o : Option ℕ). tested o (flaws_of (constant_faults (turn_names loop names v) 1 loop.condition)) (followed (body (turn_names loop names v)) (stepped (step_flaws loop (turn_names loop names v) (name_alone (out-LeftSide loop.step.left))) (constant_of (turn_names loop names v) loop.width loop.step.value) (flaws_of (constant_faults (turn_names loop names v) loop.width loop.step.value)) (λ next. turns most loop body names next)))) e
 
 -- one turn, and then the ones from the step's value on

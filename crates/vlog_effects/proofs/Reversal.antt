@@ -15,7 +15,7 @@ use Rattle.vlog_effects.proofs.Running.{steps-blocking}
 use Rattle.vlog_effects.proofs.Folds.{parts-bit, out-name}
 
 abbrev loop : Loop
-loop = record { name = named k 1; width = 32; is_signed = true; condition = condition; step = step }
+loop = record { place = place 1; name = named k 1; width = 32; is_signed = true; condition = condition; step = step }
 
 abbrev here : ℕ → Names
 here v = turn_names loop names v
@@ -23,9 +23,9 @@ here v = turn_names loop names v
 same-name : (v : ℕ) → step_flaws loop (here v) (name_alone (out-LeftSide step.left)) ≡ []
 same-name v = ap (λ x. step_flaws loop (here v) (name_alone x)) (out-name (named k 1))
 
-begun : loop_steps start condition step (steps_of turn) names (name_alone (out-LeftSide start.left)) ≡ turns 4096 loop (steps_of turn) names 0
+begun : loop_steps (place 1) start condition step (steps_of turn) names (name_alone (out-LeftSide start.left)) ≡ turns 4096 loop (steps_of turn) names 0
 unfolding least
-begun = ap (λ x. loop_steps start condition step (steps_of turn) names (name_alone x)) (out-name (named k 1)) ∙ simp (sense_number names, constant_of, constant_faults)
+begun = ap (λ x. loop_steps (place 1) start condition step (steps_of turn) names (name_alone x)) (out-name (named k 1)) ∙ simp (sense_number names, constant_of, constant_faults)
 
 holds-0 : constant_of (here 0) 1 condition ≡ Some 1
 unfolding least

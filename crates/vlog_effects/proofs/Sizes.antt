@@ -2,6 +2,7 @@
 use Rattle.std.proofs.Common.{◌≡◌, ℕ, zero, suc, Bool, true, false, List, [], ◌∷◌, map, Option, Some, None, sym, subst}
 use Rattle.std.specs.Prelude.{if◌then◌else◌}
 use Rattle.std.specs.Str.{bytes_eq}
+use Rattle.mcy_base.specs.declared.span.Span.{Span}
 use Rattle.mcy_base.specs.declared.word.Word.{Word}
 use Rattle.vlog_syntax.specs.declared.identifier.Identifier.{Identifier}
 use Rattle.vlog_syntax.specs.declared.expr.Expr.{Expr}
@@ -81,7 +82,7 @@ sized-turns : (size : ℕ → ℕ) (most : ℕ) (loop : Loop) (body : InNames) (
 unfolding turns
 sized-turns size zero loop body names v b k =
     let here : Names = turn_names loop names v in
-    sized-tested size (constant_of here 1 loop.condition) (flaws_of (constant_faults here 1 loop.condition)) (Refuse Turns Done) tt
+    sized-tested size (constant_of here 1 loop.condition) (flaws_of (constant_faults here 1 loop.condition)) (Refuse (Turns loop.place) Done) tt
 sized-turns size (suc most) loop body names v b k =
     let here : Names = turn_names loop names v in
     let flaws : List Flaw = step_flaws loop here (name_alone (out-LeftSide loop.step.left)) in
@@ -96,14 +97,14 @@ sized-all_turns : (size : ℕ → ℕ) (loop : Loop) (body : InNames) (names : N
 sized-all_turns size loop body names None flaws b k = sized-refused size flaws
 sized-all_turns size loop body names (Some v) flaws b k = sized-turns size max_turns loop body names v b k
 
-sized-looped : (size : ℕ → ℕ) (start : Assignment) (condition : Expr) (step : Assignment) (body : InNames) (names : Names) (n : Identifier) (d : Option Decl) → SizedIn size body → AreSized size names → Sized size (looped start condition step body names n d)
-sized-looped size start condition step body names n (Some (Signal width low is_signed number)) b k = sized-all_turns size (record { name = n; width = width; is_signed = is_signed; condition = condition; step = step }) body names (constant_of names width start.value) (flaws_of (constant_faults names width start.value)) b k
-sized-looped size start condition step body names n (Some (Constant value low is_signed)) b k = tt
-sized-looped size start condition step body names n None b k = tt
+sized-looped : (size : ℕ → ℕ) (at : Span) (start : Assignment) (condition : Expr) (step : Assignment) (body : InNames) (names : Names) (n : Identifier) (d : Option Decl) → SizedIn size body → AreSized size names → Sized size (looped at start condition step body names n d)
+sized-looped size at start condition step body names n (Some (Signal width low is_signed number)) b k = sized-all_turns size (record { place = at; name = n; width = width; is_signed = is_signed; condition = condition; step = step }) body names (constant_of names width start.value) (flaws_of (constant_faults names width start.value)) b k
+sized-looped size at start condition step body names n (Some (Constant value low is_signed)) b k = tt
+sized-looped size at start condition step body names n None b k = tt
 
-sized-loop : (size : ℕ → ℕ) (start : Assignment) (condition : Expr) (step : Assignment) (body : InNames) (names : Names) (o : Option Identifier) → SizedIn size body → AreSized size names → Sized size (loop_steps start condition step body names o)
-sized-loop size start condition step body names None b k = tt
-sized-loop size start condition step body names (Some n) b k = sized-looped size start condition step body names n (names n.name) b k
+sized-loop : (size : ℕ → ℕ) (at : Span) (start : Assignment) (condition : Expr) (step : Assignment) (body : InNames) (names : Names) (o : Option Identifier) → SizedIn size body → AreSized size names → Sized size (loop_steps at start condition step body names o)
+sized-loop size at start condition step body names None b k = tt
+sized-loop size at start condition step body names (Some n) b k = sized-looped size at start condition step body names n (names n.name) b k
 
 -- Cases.
 
@@ -181,7 +182,7 @@ sized-step size (t.Conditional at c first (Some second)) names k = (k, first.1 n
 sized-step size (t.Case at kind selector items) names k =
     let is : List Item = map item_steps (map (λ (w : ProvedItem size). w.0) items) in
     (k, sized-chosen size (selection_of names kind selector is) (labelled is) (default_of is) (sized-labelled size is (sized-items size items)) (sized-default size is (sized-items size items)) k, tt)
-sized-step size (t.For at start condition step body) names k = sized-loop size start condition step (steps_of body.0) names (name_alone (out-LeftSide start.left)) body.1 k
+sized-step size (t.For at start condition step body) names k = sized-loop size at start condition step (steps_of body.0) names (name_alone (out-LeftSide start.left)) body.1 k
 sized-step size (t.While at condition body) names k = tt
 sized-step size (t.Repeat at count body) names k = tt
 sized-step size (t.Forever at body) names k = tt

@@ -34,7 +34,7 @@ steps-case at kind selector items names =
     ap (λ (s : Stmt). steps_of s names) (sym (rolls-Case at kind selector items)) ∙
     ap (λ (f : InNames). f names) (fold-roll-Stmt InNames Item step_of item_of (t.Case at kind selector items))
 
-pub steps-loop : (at : Span) (start : Assignment) (condition : Expr) (step : Assignment) (body : Stmt) (names : Names) → steps_of (For at start condition step body) names ≡ loop_steps start condition step (steps_of body) names (name_alone (out-LeftSide start.left))
+pub steps-loop : (at : Span) (start : Assignment) (condition : Expr) (step : Assignment) (body : Stmt) (names : Names) → steps_of (For at start condition step body) names ≡ loop_steps at start condition step (steps_of body) names (name_alone (out-LeftSide start.left))
 steps-loop at start condition step body names =
     ap (λ (s : Stmt). steps_of s names) (sym (rolls-For at start condition step body)) ∙
     ap (λ (f : InNames). f names) (fold-roll-Stmt InNames Item step_of item_of (t.For at start condition step body))

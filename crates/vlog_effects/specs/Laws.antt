@@ -40,7 +40,7 @@ CasesStep = (at : Span) (kind : CaseKind) (selector : Expr) (items : List CaseIt
 
 -- a loop is its turns
 abbrev pub LoopsStep : Type 0
-LoopsStep = (at : Span) (start : Assignment) (condition : Expr) (step : Assignment) (body : Stmt) (names : Names) → steps_of (For at start condition step body) names ≡ loop_steps start condition step (steps_of body) names (name_alone (out-LeftSide start.left))
+LoopsStep = (at : Span) (start : Assignment) (condition : Expr) (step : Assignment) (body : Stmt) (names : Names) → steps_of (For at start condition step body) names ≡ loop_steps at start condition step (steps_of body) names (name_alone (out-LeftSide start.left))
 
 -- where the condition is 0 the loop has ended
 abbrev pub TurnsEnd : Type 0

@@ -56,11 +56,11 @@ pub record Selection : Type 0 where
   pub width : ℕ
   pub is_signed : Bool
 
--- why statements cannot be run: a constant that is none, a construct that is not supported, too many turns
+-- why statements cannot be run: a constant that is none, a construct that is not supported, a `for` with too many turns
 pub data Flaw : Type 0 where
   Const : ConstError → Flaw
   Lacks : Span → Feature → Flaw
-  Turns : Flaw
+  Turns : Span → Flaw
 
 mutual
   -- Statements, one after the other: each stands before what comes after it. A choice is at its `if`.
@@ -107,8 +107,9 @@ tested_word width bits some narrow fits e f g = None
 abbrev pub word_of : ℕ → ℕ → Option Word
 word_of width v = let bits = v % 2 ^ width in tested_word width bits (nat_le 1 width) (nat_le width 128) (nat_lt bits (2 ^ width)) refl refl refl
 
--- a loop: its variable, with its width and sign, its condition and its step
+-- a loop: the place of its `for`, its variable with its width and sign, its condition and its step
 pub record Loop : Type 0 where
+  pub place : Span
   pub name : Identifier
   pub width : ℕ
   pub is_signed : Bool
@@ -157,7 +158,7 @@ stepped [] (Some v) flaws later = later v
 unfoldable pub turns : ℕ → Loop → InNames → Names → ℕ → Steps
 turns zero loop body names v =
     let here = turn_names loop names v in
-    tested (constant_of here 1 loop.condition) (flaws_of (constant_faults here 1 loop.condition)) (Refuse Turns Done)
+    tested (constant_of here 1 loop.condition) (flaws_of (constant_faults here 1 loop.condition)) (Refuse (Turns loop.place) Done)
 turns (suc most) loop body names v =
     let here = turn_names loop names v in
     tested (constant_of here 1 loop.condition) (flaws_of (constant_faults here 1 loop.condition))
@@ -172,15 +173,15 @@ abbrev pub all_turns : Loop → InNames → Names → Option ℕ → List Flaw �
 all_turns loop body names None flaws = refused flaws
 all_turns loop body names (Some v) flaws = turns max_turns loop body names v
 
-abbrev pub looped : Assignment → Expr → Assignment → InNames → Names → Identifier → Option Decl → Steps
-looped start condition step body names n (Some (Signal width low is_signed number)) =
-    all_turns (record { name = n; width = width; is_signed = is_signed; condition = condition; step = step }) body names (constant_of names width start.value) (flaws_of (constant_faults names width start.value))
-looped start condition step body names n other = Refuse (Const (Unknown n.span)) Done
+abbrev pub looped : Span → Assignment → Expr → Assignment → InNames → Names → Identifier → Option Decl → Steps
+looped at start condition step body names n (Some (Signal width low is_signed number)) =
+    all_turns (record { place = at; name = n; width = width; is_signed = is_signed; condition = condition; step = step }) body names (constant_of names width start.value) (flaws_of (constant_faults names width start.value))
+looped at start condition step body names n other = Refuse (Const (Unknown n.span)) Done
 
 -- a loop whose start assigns a name, or none
-abbrev pub loop_steps : Assignment → Expr → Assignment → InNames → Names → Option Identifier → Steps
-loop_steps start condition step body names None = Refuse (Const (NotConstant (left_first_token start.left))) Done
-loop_steps start condition step body names (Some n) = looped start condition step body names n (names n.name)
+abbrev pub loop_steps : Span → Assignment → Expr → Assignment → InNames → Names → Option Identifier → Steps
+loop_steps at start condition step body names None = Refuse (Const (NotConstant (left_first_token start.left))) Done
+loop_steps at start condition step body names (Some n) = looped at start condition step body names n (names n.name)
 
 -- Cases (IEEE 1364-2005, 9.5).
 
@@ -292,7 +293,7 @@ step_of (t.Null at) names = Done
 step_of (t.SeqBlock at name body) names = in_turn body names
 step_of (t.Conditional at condition then_part else_part) names = Choose at (record { names = names; condition = condition }) (then_part names) (else_steps else_part names) Done
 step_of (t.Case at kind selector items) names = case_steps kind selector items names
-step_of (t.For at start condition step body) names = loop_steps start condition step body names (name_alone (out-LeftSide start.left))
+step_of (t.For at start condition step body) names = loop_steps at start condition step body names (name_alone (out-LeftSide start.left))
 step_of (t.While at condition body) names = Refuse (Lacks at f.Delay) Done
 step_of (t.Repeat at count body) names = Refuse (Lacks at f.Delay) Done
 step_of (t.Forever at body) names = Refuse (Lacks at f.Delay) Done

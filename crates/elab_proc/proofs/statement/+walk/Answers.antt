@@ -136,7 +136,7 @@ pub statement_refusal-returns-in-SeqBlock-clause-first : goal.statement_refusal-
 statement_refusal-returns-in-SeqBlock-clause-first t c = IfOk-weaker c.block_refusal.result _ _ (λ o h. block_first c.args.walk.now.is_combinational c.args.walk.now.written.now (names_of c.args.scope.now) c.args.stmt.now c.in-SeqBlock.field-0 c.in-SeqBlock.field-1 c.in-SeqBlock.body o c.in-SeqBlock.is (rw c.as_slice.ensures at h)) c.block_refusal.ensures.first
 
 pub statement_refusal-returns-in-For-clause-first : goal.statement_refusal-returns-in-For-clause-first
-statement_refusal-returns-in-For-clause-first t c = IfOk-weaker c.loop_refusal.result _ _ (λ o h. loop_first c.args.walk.now.is_combinational c.args.walk.now.written.now (names_of c.args.scope.now) c.args.stmt.now c.in-For.field-0 c.in-For.start c.in-For.condition c.in-For.step c.in-For.body o c.in-For.is (rw (c.get-in-For.ensures, c.get-in-For-2.ensures) at h)) c.loop_refusal.ensures.first
+statement_refusal-returns-in-For-clause-first t c = IfOk-weaker c.loop_refusal.result _ _ (λ o h. loop_first c.args.walk.now.is_combinational c.args.walk.now.written.now (names_of c.args.scope.now) c.args.stmt.now c.in-For.span c.in-For.start c.in-For.condition c.in-For.step c.in-For.body o c.in-For.is (rw (c.get-in-For.ensures, c.get-in-For-2.ensures) at h)) c.loop_refusal.ensures.first
 
 pub items_refusal-returns-then-always-clause-kept : goal.items_refusal-returns-then-always-clause-kept
 items_refusal-returns-then-always-clause-kept t c = c.in_ok-statement_refusal.ensures.kept ∙ c.loop-item.invariant.1
@@ -151,10 +151,10 @@ pub turn_refusal-returns-in-Ok-clause-kept : goal.turn_refusal-returns-in-Ok-cla
 turn_refusal-returns-in-Ok-clause-kept t c = c.in_ok-found-in-Ok-true.ensures.kept ∙ ((rw c.as_str.ensures at c.replace.ensures.declared) ∙ ap (λ (d : Decl). with_name (names_of c.args.scope.now) c.args.header.now.name.now.name (Some d)) c.variable.ensures)
 
 pub loop_refusal-returns-in-Err-clause-first : goal.loop_refusal-returns-in-Err-clause-first
-loop_refusal-returns-in-Err-clause-first t c = rw c.of_const.ensures (loop_fails c.args.walk.now.is_combinational c.args.walk.now.written.now (names_of c.args.scope.now) c.args.start.now c.args.condition.now c.args.step.now (steps_of c.args.body.now) c.in-Name.name c.get-declared.result _ _ _ _ c.in-Name.is (c.get-declared.ensures ∙ ap (names_of c.args.scope.now) c.as_str.ensures) (c.in-Some-Signal.is ∙ ap Some (rw c.in-Some-Signal.is at c.in-Some-Signal.field-0-is)) c.in-Err.error c.get-value.result.now c.get-value.ensures c.in-Err.ensures.refused)
+loop_refusal-returns-in-Err-clause-first t c = rw c.of_const.ensures (loop_fails c.args.walk.now.is_combinational c.args.walk.now.written.now (names_of c.args.scope.now) c.args.place c.args.start.now c.args.condition.now c.args.step.now (steps_of c.args.body.now) c.in-Name.name c.get-declared.result _ _ _ _ c.in-Name.is (c.get-declared.ensures ∙ ap (names_of c.args.scope.now) c.as_str.ensures) (c.in-Some-Signal.is ∙ ap Some (rw c.in-Some-Signal.is at c.in-Some-Signal.field-0-is)) c.in-Err.error c.get-value.result.now c.get-value.ensures c.in-Err.ensures.refused)
 
 pub loop_refusal-returns-in-Ok-clause-first : goal.loop_refusal-returns-in-Ok-clause-first
-loop_refusal-returns-in-Ok-clause-first t c = IfOk-weaker c.turns_refusal.result _ _ (λ o h. loop_goes c.args.walk.now.is_combinational c.args.walk.now.written.now (names_of c.args.scope.now) c.args.start.now c.args.condition.now c.args.step.now (steps_of c.args.body.now) c.in-Name.name c.get-declared.result _ _ _ _ c.in-Name.is (c.get-declared.ensures ∙ ap (names_of c.args.scope.now) c.as_str.ensures) (c.in-Some-Signal.is ∙ ap Some (rw c.in-Some-Signal.is at c.in-Some-Signal.field-0-is)) c.get-value.result.now c.in-Ok.first o c.get-value.ensures c.in-Ok.ensures.refused c.in-Ok.ensures.value h) c.turns_refusal.ensures.first
+loop_refusal-returns-in-Ok-clause-first t c = IfOk-weaker c.turns_refusal.result _ _ (λ o h. loop_goes c.args.walk.now.is_combinational c.args.walk.now.written.now (names_of c.args.scope.now) c.args.place c.args.start.now c.args.condition.now c.args.step.now (steps_of c.args.body.now) c.in-Name.name c.get-declared.result _ _ _ _ c.in-Name.is (c.get-declared.ensures ∙ ap (names_of c.args.scope.now) c.as_str.ensures) (c.in-Some-Signal.is ∙ ap Some (rw c.in-Some-Signal.is at c.in-Some-Signal.field-0-is)) c.get-value.result.now c.in-Ok.first o c.get-value.ensures c.in-Ok.ensures.refused c.in-Ok.ensures.value h) c.turns_refusal.ensures.first
 
 pub statement_refusal-statement_refusal-requires-in-Some : goal.statement_refusal-statement_refusal-requires-in-Some
 statement_refusal-statement_refusal-requires-in-Some t c = (search (rules, the_lemmas), subst AreSized (sym c.in_ok-first-in-Conditional.ensures.kept) c.requires)

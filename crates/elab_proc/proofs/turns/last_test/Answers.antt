@@ -14,7 +14,7 @@ pub returns-in-Err : goal.returns-in-Err
 returns-in-Err c =
     let here = names_of c.args.scope.now in
     let x = c.args.condition.now in
-    λ comb w. rw c.of_const.ensures (failing comb w here 1 x c.in-Err.error (λ (o : Option ℕ). tested o (flaws_of (constant_faults here 1 x)) (Refuse Turns Done)) refl c.in-Err.ensures.refused)
+    λ comb w. rw c.of_const.ensures (failing comb w here 1 x c.in-Err.error (λ (o : Option ℕ). tested o (flaws_of (constant_faults here 1 x)) (Refuse (Turns c.args.place) Done)) refl c.in-Err.ensures.refused)
 
 pub returns-in-Ok-true : goal.returns-in-Ok-true
 returns-in-Ok-true c =
@@ -24,7 +24,7 @@ returns-in-Ok-true c =
     let a = c.in-Ok-true.field-0-test in
     let b = c.in-Ok-true.ensures.holds in
     let e : true ≡ not (nat_eq v 0) = cc in
-    λ comb w. subst (λ (s : Steps). IsFirst (step_refusals comb w s) (Some LoopTurns)) (sym (test_goes here x (Refuse Turns Done) v (constant_stands here 1 x c.in-Ok-true.ensures.refused) e)) (limit_first comb w)
+    λ comb w. subst (λ (s : Steps). IsFirst (step_refusals comb w s) (Some (LoopTurns c.args.place))) (sym (test_goes here x (Refuse (Turns c.args.place) Done) v (constant_stands here 1 x c.in-Ok-true.ensures.refused) e)) (limit_first comb w c.args.place)
 
 pub returns-in-Ok-false : goal.returns-in-Ok-false
 returns-in-Ok-false c =
@@ -34,4 +34,4 @@ returns-in-Ok-false c =
     let a = c.in-Ok-false.field-0-test in
     let b = c.in-Ok-false.ensures.holds in
     let e : false ≡ not (nat_eq v 0) = cc in
-    λ comb w. subst (λ (s : Steps). IsFirst (step_refusals comb w s) None) (sym (test_ends here x (Refuse Turns Done) v (constant_stands here 1 x c.in-Ok-false.ensures.refused) e)) refl
+    λ comb w. subst (λ (s : Steps). IsFirst (step_refusals comb w s) None) (sym (test_ends here x (Refuse (Turns c.args.place) Done) v (constant_stands here 1 x c.in-Ok-false.ensures.refused) e)) refl

@@ -263,34 +263,34 @@ pub build_turn-returns-in-Ok-clause-kept : goal.build_turn-returns-in-Ok-clause-
 build_turn-returns-in-Ok-clause-kept t c = c.in_ok-changes-in-Ok-true.ensures.kept ∙ ((rw c.as_str.ensures at c.replace.ensures.declared) ∙ ap (λ (d : Decl). with_name (names_of c.args.scope.now) c.args.header.now.name.now.name (Some d)) c.variable.ensures)
 
 pub build_loop-unreachable-requires : goal.build_loop-unreachable-requires
-build_loop-unreachable-requires t c = start-named c.args.start.now c.args.condition.now c.args.step.now (steps_of c.args.body.now) (names_of c.args.scope.now) (search (rules, left_lemmas)) c.requires.ready.clear
+build_loop-unreachable-requires t c = start-named c.args.place c.args.start.now c.args.condition.now c.args.step.now (steps_of c.args.body.now) (names_of c.args.scope.now) (search (rules, left_lemmas)) c.requires.ready.clear
 
 pub build_loop-unreachable-requires-in-Err : goal.build_loop-unreachable-requires-in-Err
-build_loop-unreachable-requires-in-Err t c = start-fails c.args.start.now c.args.condition.now c.args.step.now (steps_of c.args.body.now) (names_of c.args.scope.now) c.in-Name.name c.in-Name.is c.get-declared.result (c.get-declared.ensures ∙ ap (names_of c.args.scope.now) c.as_str.ensures) _ _ _ _ (c.in-Some-Signal.is ∙ ap Some (rw c.in-Some-Signal.is at c.in-Some-Signal.field-0-is)) c.in-Err.field-0 c.get-value.result.now c.get-value.ensures c.in-Err.ensures.refused c.requires.ready.clear
+build_loop-unreachable-requires-in-Err t c = start-fails c.args.place c.args.start.now c.args.condition.now c.args.step.now (steps_of c.args.body.now) (names_of c.args.scope.now) c.in-Name.name c.in-Name.is c.get-declared.result (c.get-declared.ensures ∙ ap (names_of c.args.scope.now) c.as_str.ensures) _ _ _ _ (c.in-Some-Signal.is ∙ ap Some (rw c.in-Some-Signal.is at c.in-Some-Signal.field-0-is)) c.in-Err.field-0 c.get-value.result.now c.get-value.ensures c.in-Err.ensures.refused c.requires.ready.clear
 
 pub build_loop-unreachable-requires-in-Some-Constant : goal.build_loop-unreachable-requires-in-Some-Constant
-build_loop-unreachable-requires-in-Some-Constant t c = start-constant c.args.start.now c.args.condition.now c.args.step.now (steps_of c.args.body.now) (names_of c.args.scope.now) c.in-Name.name c.in-Name.is c.get-declared.result (c.get-declared.ensures ∙ ap (names_of c.args.scope.now) c.as_str.ensures) _ _ _ (c.in-Some-Constant.is ∙ ap Some (rw c.in-Some-Constant.is at c.in-Some-Constant.field-0-is)) c.requires.ready.clear
+build_loop-unreachable-requires-in-Some-Constant t c = start-constant c.args.place c.args.start.now c.args.condition.now c.args.step.now (steps_of c.args.body.now) (names_of c.args.scope.now) c.in-Name.name c.in-Name.is c.get-declared.result (c.get-declared.ensures ∙ ap (names_of c.args.scope.now) c.as_str.ensures) _ _ _ (c.in-Some-Constant.is ∙ ap Some (rw c.in-Some-Constant.is at c.in-Some-Constant.field-0-is)) c.requires.ready.clear
 
 pub build_loop-unreachable-requires-in-None : goal.build_loop-unreachable-requires-in-None
-build_loop-unreachable-requires-in-None t c = start-none c.args.start.now c.args.condition.now c.args.step.now (steps_of c.args.body.now) (names_of c.args.scope.now) c.in-Name.name c.in-Name.is c.get-declared.result (c.get-declared.ensures ∙ ap (names_of c.args.scope.now) c.as_str.ensures) c.in-None.is c.requires.ready.clear
+build_loop-unreachable-requires-in-None t c = start-none c.args.place c.args.start.now c.args.condition.now c.args.step.now (steps_of c.args.body.now) (names_of c.args.scope.now) c.in-Name.name c.in-Name.is c.get-declared.result (c.get-declared.ensures ∙ ap (names_of c.args.scope.now) c.as_str.ensures) c.in-None.is c.requires.ready.clear
 
 pub build_loop-build_turns-requires : goal.build_loop-build_turns-requires
-build_loop-build_turns-requires t c = (search (rules, the_lemmas), (search (rules, left_lemmas), (c.in-Ok.ensures.width, (ready-as (names_of c.args.scope.now) _ _ (work c.args.builder.now c.args.variables.now) (start-goes c.args.start.now c.args.condition.now c.args.step.now (steps_of c.args.body.now) (names_of c.args.scope.now) c.in-Name.name c.in-Name.is c.get-declared.result (c.get-declared.ensures ∙ ap (names_of c.args.scope.now) c.as_str.ensures) _ _ _ _ (c.in-Some-Signal.is ∙ ap Some (rw c.in-Some-Signal.is at c.in-Some-Signal.field-0-is)) c.get-value.result.now c.in-Ok.first c.get-value.ensures c.in-Ok.ensures.refused c.in-Ok.ensures.value) c.requires.ready, c.requires.places))))
+build_loop-build_turns-requires t c = (search (rules, the_lemmas), (search (rules, left_lemmas), (c.in-Ok.ensures.width, (ready-as (names_of c.args.scope.now) _ _ (work c.args.builder.now c.args.variables.now) (start-goes c.args.place c.args.start.now c.args.condition.now c.args.step.now (steps_of c.args.body.now) (names_of c.args.scope.now) c.in-Name.name c.in-Name.is c.get-declared.result (c.get-declared.ensures ∙ ap (names_of c.args.scope.now) c.as_str.ensures) _ _ _ _ (c.in-Some-Signal.is ∙ ap Some (rw c.in-Some-Signal.is at c.in-Some-Signal.field-0-is)) c.get-value.result.now c.in-Ok.first c.get-value.ensures c.in-Ok.ensures.refused c.in-Ok.ensures.value) c.requires.ready, c.requires.places))))
 
 pub build_loop-returns-clause-built : goal.build_loop-returns-clause-built
-build_loop-returns-clause-built t c = subst (λ (p : Steps). IfOk c.build_turns.result (λ (l : List Change). Built p (work c.args.builder.now c.args.variables.now) (work c.build_turns.new.builder c.build_turns.new.variables) l)) (sym (start-goes c.args.start.now c.args.condition.now c.args.step.now (steps_of c.args.body.now) (names_of c.args.scope.now) c.in-Name.name c.in-Name.is c.get-declared.result (c.get-declared.ensures ∙ ap (names_of c.args.scope.now) c.as_str.ensures) _ _ _ _ (c.in-Some-Signal.is ∙ ap Some (rw c.in-Some-Signal.is at c.in-Some-Signal.field-0-is)) c.get-value.result.now c.in-Ok.first c.get-value.ensures c.in-Ok.ensures.refused c.in-Ok.ensures.value)) c.build_turns.ensures.built
+build_loop-returns-clause-built t c = subst (λ (p : Steps). IfOk c.build_turns.result (λ (l : List Change). Built p (work c.args.builder.now c.args.variables.now) (work c.build_turns.new.builder c.build_turns.new.variables) l)) (sym (start-goes c.args.place c.args.start.now c.args.condition.now c.args.step.now (steps_of c.args.body.now) (names_of c.args.scope.now) c.in-Name.name c.in-Name.is c.get-declared.result (c.get-declared.ensures ∙ ap (names_of c.args.scope.now) c.as_str.ensures) _ _ _ _ (c.in-Some-Signal.is ∙ ap Some (rw c.in-Some-Signal.is at c.in-Some-Signal.field-0-is)) c.get-value.result.now c.in-Ok.first c.get-value.ensures c.in-Ok.ensures.refused c.in-Ok.ensures.value)) c.build_turns.ensures.built
 
 pub build_loop-returns-clause-short : goal.build_loop-returns-clause-short
-build_loop-returns-clause-short t c = subst (λ (p : Steps). IfErr c.build_turns.result (λ (e : ElabError). IsShort (length c.args.builder.now.cells + cells_of p) e)) (sym (start-goes c.args.start.now c.args.condition.now c.args.step.now (steps_of c.args.body.now) (names_of c.args.scope.now) c.in-Name.name c.in-Name.is c.get-declared.result (c.get-declared.ensures ∙ ap (names_of c.args.scope.now) c.as_str.ensures) _ _ _ _ (c.in-Some-Signal.is ∙ ap Some (rw c.in-Some-Signal.is at c.in-Some-Signal.field-0-is)) c.get-value.result.now c.in-Ok.first c.get-value.ensures c.in-Ok.ensures.refused c.in-Ok.ensures.value)) c.build_turns.ensures.short
+build_loop-returns-clause-short t c = subst (λ (p : Steps). IfErr c.build_turns.result (λ (e : ElabError). IsShort (length c.args.builder.now.cells + cells_of p) e)) (sym (start-goes c.args.place c.args.start.now c.args.condition.now c.args.step.now (steps_of c.args.body.now) (names_of c.args.scope.now) c.in-Name.name c.in-Name.is c.get-declared.result (c.get-declared.ensures ∙ ap (names_of c.args.scope.now) c.as_str.ensures) _ _ _ _ (c.in-Some-Signal.is ∙ ap Some (rw c.in-Some-Signal.is at c.in-Some-Signal.field-0-is)) c.get-value.result.now c.in-Ok.first c.get-value.ensures c.in-Ok.ensures.refused c.in-Ok.ensures.value)) c.build_turns.ensures.short
 
 pub build_statement-returns-in-For-clause-built : goal.build_statement-returns-in-For-clause-built
-build_statement-returns-in-For-clause-built t c = subst (λ (p : Steps). IfOk c.build_loop.result (λ (l : List Change). Built p (work c.args.builder.now c.args.variables.now) (work c.build_loop.new.builder c.build_loop.new.variables) l)) (sym (loop-is (names_of c.args.scope.now) c.args.stmt.now c.in-For.field-0 c.in-For.start c.in-For.condition c.get-test.result.now c.in-For.step c.in-For.body c.get-turn.result.now c.in-For.is c.get-test.ensures c.get-turn.ensures)) c.build_loop.ensures.built
+build_statement-returns-in-For-clause-built t c = subst (λ (p : Steps). IfOk c.build_loop.result (λ (l : List Change). Built p (work c.args.builder.now c.args.variables.now) (work c.build_loop.new.builder c.build_loop.new.variables) l)) (sym (loop-is (names_of c.args.scope.now) c.args.stmt.now c.in-For.span c.in-For.start c.in-For.condition c.get-test.result.now c.in-For.step c.in-For.body c.get-turn.result.now c.in-For.is c.get-test.ensures c.get-turn.ensures)) c.build_loop.ensures.built
 
 pub build_statement-returns-in-For-clause-short : goal.build_statement-returns-in-For-clause-short
-build_statement-returns-in-For-clause-short t c = subst (λ (p : Steps). IfErr c.build_loop.result (λ (e : ElabError). IsShort (length c.args.builder.now.cells + cells_of p) e)) (sym (loop-is (names_of c.args.scope.now) c.args.stmt.now c.in-For.field-0 c.in-For.start c.in-For.condition c.get-test.result.now c.in-For.step c.in-For.body c.get-turn.result.now c.in-For.is c.get-test.ensures c.get-turn.ensures)) c.build_loop.ensures.short
+build_statement-returns-in-For-clause-short t c = subst (λ (p : Steps). IfErr c.build_loop.result (λ (e : ElabError). IsShort (length c.args.builder.now.cells + cells_of p) e)) (sym (loop-is (names_of c.args.scope.now) c.args.stmt.now c.in-For.span c.in-For.start c.in-For.condition c.get-test.result.now c.in-For.step c.in-For.body c.get-turn.result.now c.in-For.is c.get-test.ensures c.get-turn.ensures)) c.build_loop.ensures.short
 
 pub build_statement-build_loop-requires : goal.build_statement-build_loop-requires
-build_statement-build_loop-requires t c = (search (rules, the_lemmas), (ready-as (names_of c.args.scope.now) _ _ (work c.args.builder.now c.args.variables.now) (loop-is (names_of c.args.scope.now) c.args.stmt.now c.in-For.field-0 c.in-For.start c.in-For.condition c.get-test.result.now c.in-For.step c.in-For.body c.get-turn.result.now c.in-For.is c.get-test.ensures c.get-turn.ensures) c.requires.ready, c.requires.places))
+build_statement-build_loop-requires t c = (search (rules, the_lemmas), (ready-as (names_of c.args.scope.now) _ _ (work c.args.builder.now c.args.variables.now) (loop-is (names_of c.args.scope.now) c.args.stmt.now c.in-For.span c.in-For.start c.in-For.condition c.get-test.result.now c.in-For.step c.in-For.body c.get-turn.result.now c.in-For.is c.get-test.ensures c.get-turn.ensures) c.requires.ready, c.requires.places))
 
 pub build_block-returns-clause-kept : goal.build_block-returns-clause-kept
 build_block-returns-clause-kept t c = c.loop-stmt.invariant.kept

@@ -53,7 +53,7 @@ pub mark-returns-in-SeqBlock-clause-marked : goal.mark-returns-in-SeqBlock-claus
 mark-returns-in-SeqBlock-clause-marked t c = on_ok_weaker c.mark_block.result (λ h. block_marked (names_of c.args.scope.now) c.args.marks.now c.mark_block.new.marks c.args.stmt.now c.in-SeqBlock.field-0 c.in-SeqBlock.field-1 c.in-SeqBlock.body c.in-SeqBlock.is (rw c.as_slice.ensures at h)) c.mark_block.ensures.marked
 
 pub mark-returns-in-For-clause-marked : goal.mark-returns-in-For-clause-marked
-mark-returns-in-For-clause-marked t c = on_ok_weaker c.mark_loop.result (λ h. stmt_loop (names_of c.args.scope.now) c.args.marks.now c.mark_loop.new.marks c.args.stmt.now c.in-For.field-0 c.in-For.start c.in-For.condition c.in-For.step c.in-For.body c.in-For.is (rw (c.get-in-For.ensures, c.get-in-For-2.ensures) at h)) c.mark_loop.ensures.marked
+mark-returns-in-For-clause-marked t c = on_ok_weaker c.mark_loop.result (λ h. stmt_loop (names_of c.args.scope.now) c.args.marks.now c.mark_loop.new.marks c.args.stmt.now c.in-For.span c.in-For.start c.in-For.condition c.in-For.step c.in-For.body c.in-For.is (rw (c.get-in-For.ensures, c.get-in-For-2.ensures) at h)) c.mark_loop.ensures.marked
 
 pub mark-returns-in-Case-clause-marked : goal.mark-returns-in-Case-clause-marked
 mark-returns-in-Case-clause-marked t c = on_ok_weaker c.mark_case.result (λ h. stmt_case (names_of c.args.scope.now) c.args.marks.now c.mark_case.new.marks c.args.stmt.now c.in-Case.field-0 c.in-Case.kind c.in-Case.selector _ c.in-Case.items _ c.in-Case.is c.get.ensures c.as_slice-in-Case.ensures h) c.mark_case.ensures.marked
@@ -143,19 +143,19 @@ pub mark_arms-returns-clause-kept : goal.mark_arms-returns-clause-kept
 mark_arms-returns-clause-kept t c = c.loop-place.invariant.1
 
 pub mark_loop-returns-in_default : goal.mark_loop-returns-in_default
-mark_loop-returns-in_default t c = record { marked = start_no_name (names_of c.args.scope.now) c.args.marks.now _ c.args.start.now c.args.condition.now c.args.step.now (steps_of c.args.body.now) (search (rules, left_lemmas)) c.stop.ensures; kept = refl }
+mark_loop-returns-in_default t c = record { marked = start_no_name (names_of c.args.scope.now) c.args.marks.now _ c.args.place c.args.start.now c.args.condition.now c.args.step.now (steps_of c.args.body.now) (search (rules, left_lemmas)) c.stop.ensures; kept = refl }
 
 pub mark_loop-returns-in-Err-clause-marked : goal.mark_loop-returns-in-Err-clause-marked
-mark_loop-returns-in-Err-clause-marked t c = start_fails (names_of c.args.scope.now) c.args.marks.now _ c.args.start.now c.args.condition.now c.args.step.now (steps_of c.args.body.now) c.in-Name.name c.in-Name.is c.get-declared.result _ _ _ _ (c.get-declared.ensures ∙ ap (names_of c.args.scope.now) c.as_str.ensures) (c.in-Some-Signal.is ∙ ap Some (rw c.in-Some-Signal.is at c.in-Some-Signal.field-0-is)) c.in-Err.field-0 c.get-value.result.now c.get-value.ensures c.in-Err.ensures.refused c.stop-in-Err.ensures
+mark_loop-returns-in-Err-clause-marked t c = start_fails (names_of c.args.scope.now) c.args.marks.now _ c.args.place c.args.start.now c.args.condition.now c.args.step.now (steps_of c.args.body.now) c.in-Name.name c.in-Name.is c.get-declared.result _ _ _ _ (c.get-declared.ensures ∙ ap (names_of c.args.scope.now) c.as_str.ensures) (c.in-Some-Signal.is ∙ ap Some (rw c.in-Some-Signal.is at c.in-Some-Signal.field-0-is)) c.in-Err.field-0 c.get-value.result.now c.get-value.ensures c.in-Err.ensures.refused c.stop-in-Err.ensures
 
 pub mark_loop-returns-in-Ok-clause-marked : goal.mark_loop-returns-in-Ok-clause-marked
-mark_loop-returns-in-Ok-clause-marked t c = on_ok_weaker c.mark_turns.result (λ h. start_goes (names_of c.args.scope.now) c.args.marks.now _ c.args.start.now c.args.condition.now c.args.step.now (steps_of c.args.body.now) c.in-Name.name c.in-Name.is c.get-declared.result _ _ _ _ (c.get-declared.ensures ∙ ap (names_of c.args.scope.now) c.as_str.ensures) (c.in-Some-Signal.is ∙ ap Some (rw c.in-Some-Signal.is at c.in-Some-Signal.field-0-is)) c.get-value.result.now c.in-Ok.first c.get-value.ensures c.in-Ok.ensures.refused c.in-Ok.ensures.value h) c.mark_turns.ensures.marked
+mark_loop-returns-in-Ok-clause-marked t c = on_ok_weaker c.mark_turns.result (λ h. start_goes (names_of c.args.scope.now) c.args.marks.now _ c.args.place c.args.start.now c.args.condition.now c.args.step.now (steps_of c.args.body.now) c.in-Name.name c.in-Name.is c.get-declared.result _ _ _ _ (c.get-declared.ensures ∙ ap (names_of c.args.scope.now) c.as_str.ensures) (c.in-Some-Signal.is ∙ ap Some (rw c.in-Some-Signal.is at c.in-Some-Signal.field-0-is)) c.get-value.result.now c.in-Ok.first c.get-value.ensures c.in-Ok.ensures.refused c.in-Ok.ensures.value h) c.mark_turns.ensures.marked
 
 pub mark_loop-returns-in-Some-Constant-clause-marked : goal.mark_loop-returns-in-Some-Constant-clause-marked
-mark_loop-returns-in-Some-Constant-clause-marked t c = start_constant (names_of c.args.scope.now) c.args.marks.now _ c.args.start.now c.args.condition.now c.args.step.now (steps_of c.args.body.now) c.in-Name.name c.in-Name.is c.get-declared.result _ _ _ (c.get-declared.ensures ∙ ap (names_of c.args.scope.now) c.as_str.ensures) (c.in-Some-Constant.is ∙ ap Some (rw c.in-Some-Constant.is at c.in-Some-Constant.field-0-is)) c.stop-in-Some-Constant.ensures
+mark_loop-returns-in-Some-Constant-clause-marked t c = start_constant (names_of c.args.scope.now) c.args.marks.now _ c.args.place c.args.start.now c.args.condition.now c.args.step.now (steps_of c.args.body.now) c.in-Name.name c.in-Name.is c.get-declared.result _ _ _ (c.get-declared.ensures ∙ ap (names_of c.args.scope.now) c.as_str.ensures) (c.in-Some-Constant.is ∙ ap Some (rw c.in-Some-Constant.is at c.in-Some-Constant.field-0-is)) c.stop-in-Some-Constant.ensures
 
 pub mark_loop-returns-in-None-clause-marked : goal.mark_loop-returns-in-None-clause-marked
-mark_loop-returns-in-None-clause-marked t c = start_none (names_of c.args.scope.now) c.args.marks.now _ c.args.start.now c.args.condition.now c.args.step.now (steps_of c.args.body.now) c.in-Name.name c.in-Name.is c.get-declared.result (c.get-declared.ensures ∙ ap (names_of c.args.scope.now) c.as_str.ensures) c.in-None.is c.stop-in-None.ensures
+mark_loop-returns-in-None-clause-marked t c = start_none (names_of c.args.scope.now) c.args.marks.now _ c.args.place c.args.start.now c.args.condition.now c.args.step.now (steps_of c.args.body.now) c.in-Name.name c.in-Name.is c.get-declared.result (c.get-declared.ensures ∙ ap (names_of c.args.scope.now) c.as_str.ensures) c.in-None.is c.stop-in-None.ensures
 
 pub mark_each_turn-loop-turn-init : goal.mark_each_turn-loop-turn-init
 mark_each_turn-loop-turn-init t c = (λ names a. λ end x. x, λ d. refl, c.requires.declared, c.requires.sized, c.requires.width)
