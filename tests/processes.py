@@ -186,6 +186,16 @@ always @* begin if (b) y = 0; case (a) q: y = 0; endcase end
 > Unknown 40
 always @* begin if (b) y = 0; case (q) 1: y = 0; endcase end
 > Unknown 37
+always @* begin if (b) y = 0; case (a) 1: y = q; r: y = 0; endcase end
+> Unknown 47
+always @* begin if (b) y = 0; case (a) 1: y = 0; r: y = q; endcase end
+> Unknown 50
+always @* begin casez (b) 1'b?: y = q; default: y = s; r: y = 0; endcase end
+> Unknown 37
+always @* begin casez (b) 1'b?: y = 0; 1: y <= 0; r: y = 0; endcase end
+> NonblockingInComb 45
+always @* begin casez (b) 1'b?: y = 0; 1'b1: y = q; endcase end
+> accepted
 always @(q) begin if (b) y = 0; end
 > Latch 1 signal 2
 always @(b or q) y = q;
@@ -582,6 +592,8 @@ class Case:
         faults = [fault for one in looked for fault in one.faults]
         if faults:
             walk.stop(faults)
+            for _, body in self.items:
+                body.walk(walk, names)
             return []
         arms, last = self.arms(names)
         read, ways = [("read", looked[0].reads)], []

@@ -801,6 +801,48 @@ module top(input a);
 endmodule
 elaborate top
 > TooMany LoopTurns
+# a loop of a process with too many turns stands at its `for`
+module top(input a, output reg y);
+  integer i;
+  always @* begin
+    for (i = 0; i < 2; i = i - 0) y = a;
+    y = nothing;
+  end
+endmodule
+elaborate top
+> TooMany LoopTurns
+module top(input a, output reg y);
+  integer i;
+  always @* begin
+    y = nothing;
+    for (i = 0; i < 2; i = i - 0) y = a;
+  end
+endmodule
+elaborate top
+> Unknown 4:9
+# the items of a case that is refused are looked at, those too that would be dropped
+module top(input a, input b, output reg y);
+  always @*
+    casez (a)
+      1'b?: y = b;
+      1'b1: y <= b;
+      nothing: y = a;
+    endcase
+endmodule
+elaborate top
+> Unsupported NonblockingInComb 5:15
+module top(input a, input b, output reg y);
+  always @*
+    casez (a)
+      1'b?: y = b;
+      1'b1: y <= b;
+    endcase
+endmodule
+elaborate top
+step 0 1
+> outputs 1
+step 1 0
+> outputs 0
 # an instance's own faults come before those of its module
 module sub(input a);
   assign a = nothing;

@@ -14,7 +14,7 @@ use Rattle.vlog_effects.specs.Steps.{Assigning, Steps, Done, Assign, Choose, Cas
 use Rattle.vlog_effects.proofs.Sizes.{IsSized, AreSized, Sized, SizedArms, sized-steps}
 use Rattle.elab_proc.specs.declared.refusal.Refusal.{Refusal}
 use Rattle.elab_proc.specs.declared.refusal.Refusal.TheVariants.{Wrong, TwoWriters}
-use Rattle.elab_proc.specs.Refusals.{sides_faults, same_form, is_written, name_refusals, part_refusals, kind_refusals, assign_refusals, own_faults, case_faults, flaw_refusal, unless, step_refusals, arm_refusals}
+use Rattle.elab_proc.specs.Refusals.{sides_faults, same_form, is_written, name_refusals, part_refusals, kind_refusals, assign_refusals, own_faults, case_faults, flaw_refusal, case_refusals, step_refusals, arm_refusals}
 
 -- a declared signal is one of these, with its width
 abbrev pub IsKnown : List (List Bit) → Option Decl → Type 0
@@ -99,10 +99,11 @@ mutual
       ap (λ (xs : List Refusal). wrong ++ (xs ++ (step_refusals comb written second ++ step_refusals comb written more))) (steps_once written others signals comb first e.1 f.1)
       ∙ ap (λ (xs : List Refusal). wrong ++ (step_refusals comb others first ++ (xs ++ step_refusals comb written more))) (steps_once written others signals comb second e.2 f.2)
       ∙ ap (λ (xs : List Refusal). wrong ++ (step_refusals comb others first ++ (step_refusals comb others second ++ xs))) (steps_once written others signals comb more e.3 f.3)
-  steps_once written others signals comb (Case c arms more) e f =
+  steps_once written others signals comb (Case c arms bodies more) e f =
       let faults : List Fault = case_faults c.names (c.selector ∷ c.labels) in
-      ap (λ (xs : List Refusal). unless faults xs ++ step_refusals comb written more) (arms_once written others signals comb arms e.1 f.1)
-      ∙ ap (λ (xs : List Refusal). unless faults (arm_refusals comb others arms) ++ xs) (steps_once written others signals comb more e.2 f.2)
+      ap (λ (xs : List Refusal). case_refusals faults xs (step_refusals comb written bodies) ++ step_refusals comb written more) (arms_once written others signals comb arms e.1 f.1)
+      ∙ ap (λ (xs : List Refusal). case_refusals faults (arm_refusals comb others arms) xs ++ step_refusals comb written more) (steps_once written others signals comb bodies e.3 f.3)
+      ∙ ap (λ (xs : List Refusal). case_refusals faults (arm_refusals comb others arms) (step_refusals comb others bodies) ++ xs) (steps_once written others signals comb more e.2 f.2)
   steps_once written others signals comb (Refuse x more) e f = ap (λ (xs : List Refusal). flaw_refusal x ∷ xs) (steps_once written others signals comb more e f)
 
   arms_once : (written others : List Bool) (signals : List (List Bit)) (comb : Bool) (arms : Arms) → SizedArms (widths signals) arms → SizedArms (wider written others signals) arms → arm_refusals comb written arms ≡ arm_refusals comb others arms

@@ -15,11 +15,11 @@ use Rattle.vlog_meaning.specs.declared.shapes.Shape.{Shape}
 use Rattle.vlog_meaning.specs.Scopes.{Names}
 use Rattle.vlog_meaning.specs.Senses.{is_empty}
 use Rattle.vlog_effects.specs.Laws.{item_steps}
-use Rattle.vlog_effects.specs.Steps.{Steps, Done, Assign, Choose, Case, Refuse, Otherwise, Arm, InNames, Item, Selection, followed, in_turn, always, default_of, labelled, labels_of, greatest, front, last_body, names_all, arms_of, chosen_arms, selection_of, case_steps, step_of, item_of, steps_of}
+use Rattle.vlog_effects.specs.Steps.{Steps, Done, Assign, Choose, Case, Refuse, Otherwise, Arm, InNames, Item, Selection, followed, in_turn, always, default_of, labelled, labels_of, greatest, front, last_body, names_all, arms_of, chosen_arms, bodies_of, selection_of, case_steps, step_of, item_of, steps_of}
 use Rattle.elab_proc.specs.declared.refusal.Refusal.{Refusal}
 use Rattle.elab_proc.specs.declared.refusal.Refusal.TheVariants.{Wrong}
 use Rattle.elab_proc.specs.Order.{IsFirst}
-use Rattle.elab_proc.specs.Refusals.{assign_refusals, own_faults, case_faults, common_size, flaw_refusal, labels_in, step_refusals, arm_refusals, unless}
+use Rattle.elab_proc.specs.Refusals.{assign_refusals, own_faults, case_faults, common_size, flaw_refusal, labels_in, body_in, step_refusals, arm_refusals, case_refusals}
 use Rattle.elab_proc.specs.Turns.{Splits}
 use Rattle.elab_proc.proofs.Firsts.{wrong_first}
 use Rattle.elab_proc.proofs.Lists.{flat_take}
@@ -48,7 +48,9 @@ module _ (comb : Bool) (w : List Bool) where
       ap (λ (l : List Refusal). test ++ (step_refusals comb w then_part ++ (step_refusals comb w else_part ++ l))) (followed_refusals more b) ∙
       ap (λ (l : List Refusal). test ++ l) (three_again (step_refusals comb w then_part) (step_refusals comb w else_part) (step_refusals comb w more) (step_refusals comb w b)) ∙
       sym (append_assoc test (step_refusals comb w then_part ++ (step_refusals comb w else_part ++ step_refusals comb w more)) (step_refusals comb w b))
-  followed_refusals (Case c arms more) b = ap (λ (l : List Refusal). unless (case_faults c.names (c.selector ∷ c.labels)) (arm_refusals comb w arms) ++ l) (followed_refusals more b) ∙ sym (append_assoc (unless (case_faults c.names (c.selector ∷ c.labels)) (arm_refusals comb w arms)) (step_refusals comb w more) (step_refusals comb w b))
+  followed_refusals (Case c arms bodies more) b =
+      let here : List Refusal = case_refusals (case_faults c.names (c.selector ∷ c.labels)) (arm_refusals comb w arms) (step_refusals comb w bodies) in
+      ap (λ (l : List Refusal). here ++ l) (followed_refusals more b) ∙ sym (append_assoc here (step_refusals comb w more) (step_refusals comb w b))
   followed_refusals (Refuse x more) b = ap (λ (l : List Refusal). flaw_refusal x ∷ l) (followed_refusals more b)
 
   pub block_refusals : (body : List Stmt) (names : Names) → step_refusals comb w (in_turn (map steps_of body) names) ≡ flat_map (λ (s : Stmt). step_refusals comb w (steps_of s names)) body
@@ -139,34 +141,51 @@ module _ (comb : Bool) (w : List Bool) where
   abbrev pub case_left : Names → CaseKind → Expr → List CaseItem → List Refusal
   case_left names kind selector is = left_refusals (selection_of names kind selector (map item_steps is)) is (default_of (map item_steps is))
 
+  -- the bodies of the items of a case
+  bodies_refusals : (names : Names) (is : List CaseItem) → step_refusals comb w (bodies_of (map item_steps is) names) ≡ flat_map (λ (i : CaseItem). step_refusals comb w (steps_of (body_in i) names)) is
+  bodies_refusals names [] = refl
+  bodies_refusals names (i ∷ more) =
+      followed_refusals ((item_steps i).body names) (bodies_of (map item_steps more) names) ∙
+      ap (λ (j : Item). step_refusals comb w (j.body names) ++ step_refusals comb w (bodies_of (map item_steps more) names)) (item_is i) ∙
+      ap (λ (l : List Refusal). step_refusals comb w (steps_of (body_in i) names) ++ l) (bodies_refusals names more)
+
   -- a case, by its items
-  pub case_refusals : (names : Names) (kind : CaseKind) (selector : Expr) (is : List CaseItem) → step_refusals comb w (case_steps kind selector (map item_steps is) names) ≡ unless (case_faults names (selector ∷ flat_map labels_in is)) (case_left names kind selector is)
-  case_refusals names kind selector is =
+  case_is : (names : Names) (kind : CaseKind) (selector : Expr) (is : List CaseItem) → step_refusals comb w (case_steps kind selector (map item_steps is) names) ≡ case_refusals (case_faults names (selector ∷ flat_map labels_in is)) (case_left names kind selector is) (flat_map (λ (i : CaseItem). step_refusals comb w (steps_of (body_in i) names)) is)
+  case_is names kind selector is =
       let c : Selection = selection_of names kind selector (map item_steps is) in
+      let arms : List Refusal = arm_refusals comb w (chosen_arms c (labelled (map item_steps is)) (default_of (map item_steps is))) in
+      let bodies : List Refusal = step_refusals comb w (bodies_of (map item_steps is) names) in
       append-nil _ ∙
-      ap (λ (l : List Expr). unless (case_faults names (selector ∷ l)) (arm_refusals comb w (chosen_arms c (labelled (map item_steps is)) (default_of (map item_steps is))))) (labels_same is) ∙
-      ap (unless (case_faults names (selector ∷ flat_map labels_in is))) (chosen_same c (labelled (map item_steps is)) (default_of (map item_steps is)))
+      ap (λ (l : List Expr). case_refusals (case_faults names (selector ∷ l)) arms bodies) (labels_same is) ∙
+      ap (λ (l : List Refusal). case_refusals (case_faults names (selector ∷ flat_map labels_in is)) l bodies) (chosen_same c (labelled (map item_steps is)) (default_of (map item_steps is))) ∙
+      ap (λ (l : List Refusal). case_refusals (case_faults names (selector ∷ flat_map labels_in is)) (case_left names kind selector is) l) (bodies_refusals names is)
 
-  unless_none : (fs : List Fault) (those : List Refusal) → None ≡ least fs → unless fs those ≡ those
-  unless_none fs those is = ap (λ (l : List Fault). unless l those) (least_none fs (sym is))
+  faultless : (fs : List Fault) (arms bodies : List Refusal) → None ≡ least fs → case_refusals fs arms bodies ≡ arms
+  faultless fs arms bodies is = ap (λ (l : List Fault). case_refusals l arms bodies) (least_none fs (sym is))
 
-  unless_some : (fs : List Fault) (those : List Refusal) (f : Fault) → Some f ≡ least fs → IsFirst (unless fs those) (Some (Wrong f))
+  refused_first : (fs : List Fault) (arms bodies : List Refusal) (f : Fault) (o r : Option Refusal) → Some f ≡ least fs → IsFirst bodies o → ((xs ys : List Refusal) → IsFirst xs (Some (Wrong f)) → IsFirst ys o → IsFirst (xs ++ ys) r) → IsFirst (case_refusals fs arms bodies) r
   unfolding least
-  unless_some [] those f is = cc
-  unless_some (g ∷ more) those f is = go (least (g ∷ more)) is (wrong_first (g ∷ more)) where
-    go : (o : Option Fault) → Some f ≡ o → IsFirst (map Wrong (g ∷ more)) (option_map Wrong o) → IsFirst (map Wrong (g ∷ more)) (Some (Wrong f))
-    go None e i = cc
-    go (Some h) e i = let same : f ≡ h = cc in subst (λ (x : Fault). IsFirst (map Wrong (g ∷ more)) (Some (Wrong x))) (sym same) i
+  refused_first [] arms bodies f o r is i joined = cc
+  refused_first (g ∷ more) arms bodies f o r is i joined = joined (map Wrong (g ∷ more)) bodies (go (least (g ∷ more)) is (wrong_first (g ∷ more))) i where
+    go : (found : Option Fault) → Some f ≡ found → IsFirst (map Wrong (g ∷ more)) (option_map Wrong found) → IsFirst (map Wrong (g ∷ more)) (Some (Wrong f))
+    go None e first = cc
+    go (Some h) e first = let same : f ≡ h = cc in subst (λ (x : Fault). IsFirst (map Wrong (g ∷ more)) (Some (Wrong x))) (sym same) first
 
   pub case_none : (names : Names) (kind : CaseKind) (selector : Expr) (is : List CaseItem) (o : Option Refusal) (fault : Option Fault) (size : Shape) → fault ≡ least (case_faults names (selector ∷ flat_map labels_in is)) → fault ≡ None → size ≡ common_size names (selector ∷ flat_map labels_in is) → ((c : Selection) → c.kind ≡ kind → c.width ≡ size.width → c.names ≡ names → IsFirst (left_refusals c is (default_of (map item_steps is))) o) → IsFirst (step_refusals comb w (case_steps kind selector (map item_steps is) names)) o
   case_none names kind selector is o fault size first none size_is each =
       let c : Selection = selection_of names kind selector (map item_steps is) in
       let width : c.width ≡ size.width = ap (λ (l : List Expr). greatest names (selector ∷ l)) (labels_same is) ∙ sym (ap (λ (s : Shape). s.width) size_is) in
-      subst (λ (l : List Refusal). IsFirst l o) (sym (case_refusals names kind selector is ∙ unless_none (case_faults names (selector ∷ flat_map labels_in is)) (case_left names kind selector is) (sym none ∙ first))) (each c refl width refl)
+      subst (λ (l : List Refusal). IsFirst l o) (sym (case_is names kind selector is ∙ faultless (case_faults names (selector ∷ flat_map labels_in is)) (case_left names kind selector is) _ (sym none ∙ first))) (each c refl width refl)
 
-  pub case_some : (names : Names) (kind : CaseKind) (selector : Expr) (is : List CaseItem) (fault : Option Fault) (f : Fault) → fault ≡ least (case_faults names (selector ∷ flat_map labels_in is)) → fault ≡ Some f → IsFirst (step_refusals comb w (case_steps kind selector (map item_steps is) names)) (Some (Wrong f))
-  case_some names kind selector is fault f first some =
-      subst (λ (l : List Refusal). IsFirst l (Some (Wrong f))) (sym (case_refusals names kind selector is)) (unless_some (case_faults names (selector ∷ flat_map labels_in is)) (case_left names kind selector is) f (sym some ∙ first))
+  pub case_some : (names : Names) (kind : CaseKind) (selector : Expr) (is : List CaseItem) (fault : Option Fault) (f : Fault) (o r : Option Refusal) → fault ≡ least (case_faults names (selector ∷ flat_map labels_in is)) → fault ≡ Some f → IsFirst (flat_map (λ (i : CaseItem). step_refusals comb w (steps_of (body_in i) names)) is) o → ((xs ys : List Refusal) → IsFirst xs (Some (Wrong f)) → IsFirst ys o → IsFirst (xs ++ ys) r) → IsFirst (step_refusals comb w (case_steps kind selector (map item_steps is) names)) r
+  case_some names kind selector is fault f o r first some i joined =
+      subst (λ (l : List Refusal). IsFirst l r) (sym (case_is names kind selector is)) (refused_first (case_faults names (selector ∷ flat_map labels_in is)) (case_left names kind selector is) _ f o r (sym some ∙ first) i joined)
+
+  -- the body of one item more
+  pub bodies_more : (names here : Names) (is : List CaseItem) (k : ℕ) (x : CaseItem) (found o r : Option Refusal) → x ≡ get_or is k x → k < length is → here ≡ names → IsFirst (flat_map (λ (i : CaseItem). step_refusals comb w (steps_of (body_in i) names)) (take k is)) found → IsFirst (step_refusals comb w (steps_of (body_in x) here)) o → ((xs ys : List Refusal) → IsFirst xs found → IsFirst ys o → IsFirst (xs ++ ys) r) → IsFirst (flat_map (λ (i : CaseItem). step_refusals comb w (steps_of (body_in i) names)) (take (suc k) is)) r
+  bodies_more names here is k x found o r at h same before more joined =
+      let g : CaseItem → List Refusal = λ i. step_refusals comb w (steps_of (body_in i) names) in
+      subst (λ (l : List Refusal). IsFirst l r) (sym (flat_take g is k x at h)) (joined (flat_map g (take k is)) (g x) before (subst (λ (n : Names). IsFirst (step_refusals comb w (steps_of (body_in x) n)) o) same more))
 
   -- one statement of a block more
   pub block_more : (names here : Names) (body : List Stmt) (k : ℕ) (x : Stmt) (found o r : Option Refusal) → x ≡ get_or body k x → k < length body → here ≡ names → IsFirst (flat_map (λ (s : Stmt). step_refusals comb w (steps_of s names)) (take k body)) found → IsFirst (step_refusals comb w (steps_of x here)) o → ((xs ys : List Refusal) → IsFirst xs found → IsFirst ys o → IsFirst (xs ++ ys) r) → IsFirst (flat_map (λ (s : Stmt). step_refusals comb w (steps_of s names)) (take (suc k) body)) r

@@ -10,6 +10,7 @@ use Rattle.vlog_syntax.specs.declared.left_side.LeftSide.TheOpen as l
 use Rattle.vlog_syntax.specs.declared.left_side.LeftSide.TheOpen.{LeftSide-F}
 use Rattle.vlog_syntax.specs.declared.left_side.LeftSide.TheFolds.{fold-LeftSide}
 use Rattle.vlog_syntax.specs.declared.stmt.CaseItem.{CaseItem, out-CaseItem}
+use Rattle.vlog_syntax.specs.declared.stmt.Stmt.{Stmt}
 use Rattle.vlog_meaning.specs.declared.fault.Cause.TheVariants as cause
 use Rattle.vlog_meaning.specs.declared.fault.ConstError.{ConstError}
 use Rattle.vlog_meaning.specs.declared.fault.ConstError.TheVariants as k
@@ -53,9 +54,12 @@ zeros_at names size x = (sense names x).zeros size
 abbrev pub case_faults : Names → List Expr → List Fault
 case_faults names xs = or_else (flat_map (wrong names) xs) (divisions (flat_map (zeros_at names (common_size names xs)) xs))
 
--- the labels of an item
+-- the labels and the body of an item
 abbrev pub labels_in : CaseItem → List Expr
 labels_in i = (out-CaseItem i).labels
+
+abbrev pub body_in : CaseItem → Stmt
+body_in i = (out-CaseItem i).body
 
 -- Left sides (IEEE 1364-2005, A.8.5).
 
@@ -108,19 +112,19 @@ flaw_refusal (Const error) = const_refusal error
 flaw_refusal (Lacks span feature) = Unsupported span feature
 flaw_refusal (Turns span) = LoopTurns span
 
--- these, or where there are none those
-abbrev pub unless : List Fault → List Refusal → List Refusal
-unless [] those = those
-unless (f ∷ more) those = map Wrong (f ∷ more)
+-- What is refused in a case, from what is wrong in its selector and labels, what is refused in its arms, and what is in the bodies of all
+-- its items. Which of these are arms rests on the size of the case: so where it is refused itself, all are looked at.
+abbrev pub case_refusals : List Fault → (arms bodies : List Refusal) → List Refusal
+case_refusals [] arms bodies = arms
+case_refusals (f ∷ more) arms bodies = map Wrong (f ∷ more) ++ bodies
 
--- What is refused in steps. The arms of a case are looked at where its selector and labels are not refused, since which of
--- them are dropped rests on its size.
+-- What is refused in steps.
 abbrev mutual
   pub step_refusals : Bool → List Bool → Steps → List Refusal
   step_refusals comb written Done = []
   step_refusals comb written (Assign a more) = assign_refusals comb written a ++ step_refusals comb written more
   step_refusals comb written (Choose at c then_part else_part more) = map Wrong (own_faults c.names c.condition) ++ (step_refusals comb written then_part ++ (step_refusals comb written else_part ++ step_refusals comb written more))
-  step_refusals comb written (Case c arms more) = unless (case_faults c.names (c.selector ∷ c.labels)) (arm_refusals comb written arms) ++ step_refusals comb written more
+  step_refusals comb written (Case c arms bodies more) = case_refusals (case_faults c.names (c.selector ∷ c.labels)) (arm_refusals comb written arms) (step_refusals comb written bodies) ++ step_refusals comb written more
   step_refusals comb written (Refuse x more) = flaw_refusal x ∷ step_refusals comb written more
 
   pub arm_refusals : Bool → List Bool → Arms → List Refusal

@@ -5,6 +5,7 @@
 ghost use Rattle.std.specs.Prelude.{◌≡◌, ◌≤◌, map, List, Some, IfOk, OnOk, IsSome};
 ghost use Rattle.std.specs.List.{flat_map};
 ghost use Rattle.vlog_syntax.specs.declared.stmt.Stmt.{Stmt as Statement};
+ghost use Rattle.vlog_syntax.specs.declared.stmt.CaseItem.{CaseItem as Item};
 ghost use Rattle.vlog_syntax.specs.declared.left_side.LeftSide.{out-LeftSide};
 ghost use Rattle.vlog_meaning.specs.declared.fault.Fault.{Fault as Wrong};
 ghost use Rattle.vlog_meaning.specs.declared.scope.Decl.TheVariants.{Constant};
@@ -14,7 +15,7 @@ ghost use Rattle.vlog_effects.specs.Laws.{item_steps};
 ghost use Rattle.vlog_effects.specs.Steps.{Selection, assigning, steps_of, done_by, default_of, labelled, arms_of, case_steps, loop_steps, name_alone, turns, max_turns};
 ghost use Rattle.elab_proc.specs.declared.refusal.Refusal.TheVariants as r;
 ghost use Rattle.elab_proc.specs.Order.{IsFirst};
-ghost use Rattle.elab_proc.specs.Refusals.{step_refusals, arm_refusals, assign_refusals, kind_refusals, AreSized};
+ghost use Rattle.elab_proc.specs.Refusals.{step_refusals, arm_refusals, assign_refusals, kind_refusals, body_in, AreSized};
 ghost use Rattle.elab_proc.specs.Turns.{loop_of, IsTurn, AlikeBut};
 
 use crate::cases::{always, case_fault, case_size, is_default};
@@ -146,7 +147,7 @@ fn block_refusal(
     Ok(found)
 }
 
-/// What is refused first in a case.
+/// What is refused first in a case: where its selector or a label is, all its items are looked at, and else those that are not dropped.
 #[cycle(walk)]
 fn case_refusal(
     walk: &ProcessRules<'_>,
@@ -160,12 +161,33 @@ fn case_refusal(
     ensures kept { OnOk result (names_of scope.new ≡ names_of scope.old) }
 {
     match case_fault(selector, items, scope) {
-        Some(fault) => Ok(Some(Refusal::Wrong(fault))),
+        Some(fault) => {
+            let found = bodies_refusal(walk, items, scope)?;
+            Ok(earlier(Some(Refusal::Wrong(fault)), found))
+        }
         None => {
             let size = case_size(selector, items, scope);
             items_refusal(walk, kind, size.width, items, scope)
         }
     }
+}
+
+/// What is refused first in the bodies of all items of a case.
+#[cycle(walk)]
+fn bodies_refusal(
+    walk: &ProcessRules<'_>,
+    items: &[CaseItem],
+    scope: &mut Scope,
+) -> Result<Option<Refusal>, AllocError>
+    requires { AreSized (names_of scope.old) }
+    ensures first { IfOk result (λ o. IsFirst (flat_map (λ (i : Item). step_refusals walk.now.is_combinational walk.now.written.now (steps_of (body_in i) (names_of scope.old))) items.now) o) }
+    ensures kept { OnOk result (names_of scope.new ≡ names_of scope.old) }
+{
+    let mut found = None;
+    for item in items {
+        found = earlier(found, statement_refusal(walk, item.body.get(), scope)?);
+    }
+    Ok(found)
 }
 
 /// What is refused first in the items of a case with a selector of this width, up to one that always matches.

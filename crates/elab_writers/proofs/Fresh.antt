@@ -12,11 +12,11 @@ use Rattle.vlog_effects.specs.Steps.{Assigning, Steps, Done, Assign, Choose, Cas
 use Rattle.vlog_effects.specs.Latches.{Target, targets, arms_targets, part_targets, parts_targets}
 use Rattle.elab_proc.specs.declared.refusal.Refusal.{Refusal}
 use Rattle.elab_proc.specs.declared.refusal.Refusal.TheVariants.{Wrong, TwoWriters}
-use Rattle.elab_proc.specs.Refusals.{arm_refusals, assign_refusals, case_faults, is_written, kind_refusals, name_refusals, own_faults, part_refusals, same_form, sides_faults, step_refusals, unless}
+use Rattle.elab_proc.specs.Refusals.{arm_refusals, assign_refusals, case_faults, is_written, kind_refusals, name_refusals, own_faults, part_refusals, same_form, sides_faults, step_refusals, case_refusals}
 use Rattle.proc_muxes.specs.Builds.{distinct, distinct_after, stands}
 use Rattle.flat_runs.proofs.Lists.{contains_cases, contains_none}
 use Rattle.process_cells.specs.Processes.{variables}
-use Rattle.process_cells.proofs.Accepted.{unless_nil}
+use Rattle.process_cells.proofs.Accepted.{arms_free}
 
 -- no variable of these has a writer
 abbrev AllNew : List Bool → List Target → Type 0
@@ -58,11 +58,12 @@ mutual
       let g = right_nil (step_refusals comb written p) (step_refusals comb written q ++ step_refusals comb written more) f in
       new_both written (targets p) (targets q ++ targets more) (new_steps comb written p (left_nil _ _ f))
       (new_both written (targets q) (targets more) (new_steps comb written q (left_nil _ _ g)) (new_steps comb written more (right_nil (step_refusals comb written q) (step_refusals comb written more) g)))
-  new_steps comb written (Case c arms more) e =
+  new_steps comb written (Case c arms bodies more) e =
       let fs : List Fault = case_faults c.names (c.selector ∷ c.labels) in
       let those : List Refusal = arm_refusals comb written arms in
-      let here : unless fs those ≡ [] = left_nil (unless fs those) (step_refusals comb written more) e in
-      new_both written (arms_targets arms) (targets more) (new_arms comb written arms (unless_nil fs those here)) (new_steps comb written more (right_nil (unless fs those) (step_refusals comb written more) e))
+      let all : List Refusal = step_refusals comb written bodies in
+      let here : case_refusals fs those all ≡ [] = left_nil (case_refusals fs those all) (step_refusals comb written more) e in
+      new_both written (arms_targets arms) (targets more) (new_arms comb written arms (arms_free fs those all here)) (new_steps comb written more (right_nil (case_refusals fs those all) (step_refusals comb written more) e))
   new_steps comb written (Refuse x more) e = absurd cc
 
   new_arms : (comb : Bool) (written : List Bool) (arms : Arms) → arm_refusals comb written arms ≡ [] → AllNew written (arms_targets arms)

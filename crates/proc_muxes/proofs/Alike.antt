@@ -154,7 +154,7 @@ module _ (D : ℕ → Type 0) where
         let t : Laid = lay_test c a.building in
         let here : Alike D (f a.building a) (f a.building b) = both-alike at ks (lay_steps p) (lay_steps q) t.bits (with_cells t.after a) (with_cells t.after b) wk (λ u v s. steps-alike p u v wp s) (λ u v s. steps-alike q u v wq s) (cells-alike t.after a b r) in
         steps-alike more (f a.building a) (f b.building b) (within-right qs (targets more) rest) (subst (λ (x : Building). Alike D (f a.building a) (f x b)) r.same here)
-    steps-alike (Case c arms more) a b w r =
+    steps-alike (Case c arms bodies more) a b w r =
         let xs : List Target = arms_targets arms in
         let f : Building → Work → Work = λ (x : Building) (v : Work). lay_items c (lay c.names c.selector (case_shape c) x).bits arms (with_cells (lay c.names c.selector (case_shape c) x).after v) in
         let t : Laid = lay c.names c.selector (case_shape c) a.building in

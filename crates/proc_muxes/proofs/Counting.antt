@@ -144,7 +144,7 @@ mutual
       let muxes = choices-counted at f.4 f.1 (distinct (targets then_part ++ targets else_part)) f.2 f.3 f.8 in
       let later = builds-counted more f.3 b f.9 in
       omega (arith, test, first, second, muxes, later)
-  builds-counted (Case c arms more) a b f =
+  builds-counted (Case c arms bodies more) a b f =
       let own = count a.building f.0 f.2 _ _ (made c.names c.selector (case_shape c)) f.3 in
       let here = arms-counted c f.2 arms (record a { building = f.0 }) f.1 f.4 in
       let later = builds-counted more f.1 b f.5 in

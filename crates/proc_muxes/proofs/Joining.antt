@@ -9,6 +9,7 @@ use Rattle.vlog_effects.specs.Steps.{Steps, Done, Assign, Choose, Case, Refuse, 
 use Rattle.vlog_effects.specs.Effects.{bit_same}
 use Rattle.vlog_effects.specs.Latches.{Target, targets, arms_targets, parts_targets}
 use Rattle.vlog_effects.proofs.Bools.{and-left, and-right}
+use Rattle.vlog_effects.proofs.Following.{followed-done, followed-again}
 use Rattle.proc_muxes.specs.declared.change.Change.{Change}
 use Rattle.proc_muxes.specs.Builds.{Work, held, stands, distinct_after, distinct, Builds}
 use Rattle.proc_muxes.specs.Shows.{Keeps}
@@ -22,7 +23,7 @@ pub builds-followed : (p q : Steps) (a m b : Work) → Builds p a m → Builds q
 builds-followed Done q a m b f g = subst (λ (w : Work). Builds q w b) f g
 builds-followed (Assign x more) q a m b f g = (f.0, f.1, builds-followed more q f.0 m b f.2 g)
 builds-followed (Choose at c then_part else_part more) q a m b f g = (f.0, f.1, f.2, f.3, f.4, f.5, f.6, f.7, f.8, builds-followed more q f.3 m b f.9 g)
-builds-followed (Case c arms more) q a m b f g = (f.0, f.1, f.2, f.3, f.4, builds-followed more q f.1 m b f.5 g, f.6)
+builds-followed (Case c arms bodies more) q a m b f g = (f.0, f.1, f.2, f.3, f.4, builds-followed more q f.1 m b f.5 g, f.6)
 builds-followed (Refuse x more) q a m b f g = absurd f
 
 pub targets-followed : (p q : Steps) → targets (followed p q) ≡ targets p ++ targets q
@@ -32,22 +33,8 @@ targets-followed (Choose at c then_part else_part more) q =
     ap (λ (t : List Target). targets then_part ++ (targets else_part ++ t)) (targets-followed more q)
     ∙ ap (λ (t : List Target). targets then_part ++ t) (sym (append_assoc (targets else_part) (targets more) (targets q)))
     ∙ sym (append_assoc (targets then_part) (targets else_part ++ targets more) (targets q))
-targets-followed (Case c arms more) q = ap (λ (t : List Target). arms_targets arms ++ t) (targets-followed more q) ∙ sym (append_assoc (arms_targets arms) (targets more) (targets q))
+targets-followed (Case c arms bodies more) q = ap (λ (t : List Target). arms_targets arms ++ t) (targets-followed more q) ∙ sym (append_assoc (arms_targets arms) (targets more) (targets q))
 targets-followed (Refuse x more) q = targets-followed more q
-
-pub followed-done : (p : Steps) → followed p Done ≡ p
-followed-done Done = refl
-followed-done (Assign x more) = ap (λ (t : Steps). Assign x t) (followed-done more)
-followed-done (Choose at c then_part else_part more) = ap (λ (t : Steps). Choose at c then_part else_part t) (followed-done more)
-followed-done (Case c arms more) = ap (λ (t : Steps). Case c arms t) (followed-done more)
-followed-done (Refuse x more) = ap (λ (t : Steps). Refuse x t) (followed-done more)
-
-pub followed-again : (p q r : Steps) → followed (followed p q) r ≡ followed p (followed q r)
-followed-again Done q r = refl
-followed-again (Assign x more) q r = ap (λ (t : Steps). Assign x t) (followed-again more q r)
-followed-again (Choose at c then_part else_part more) q r = ap (λ (t : Steps). Choose at c then_part else_part t) (followed-again more q r)
-followed-again (Case c arms more) q r = ap (λ (t : Steps). Case c arms t) (followed-again more q r)
-followed-again (Refuse x more) q r = ap (λ (t : Steps). Refuse x t) (followed-again more q r)
 
 -- one statement more
 pub in_turn-push : (xs : List InNames) (x : InNames) (names : Names) → in_turn (xs ++ x ∷ []) names ≡ followed (in_turn xs names) (x names)

@@ -160,7 +160,7 @@ mutual
       let both : Keeps (ps ++ qs) t m = keeps-both at f.4 ps qs t y n m (keeps then_part t y f.6) (keeps else_part (restored t y) n f.7) f.8 in
       let all : Keeps ((ps ++ qs) ++ targets more) a b = keeps-again [] ((ps ++ qs) ++ targets more) a t b (keeps-test c a t f.4 f.5) (keeps-again (ps ++ qs) (targets more) t m b both (keeps more m b f.9)) in
       subst (λ (ts : List Target). Keeps ts a b) (append_assoc ps qs (targets more)) all
-  keeps (Case c arms more) a b f =
+  keeps (Case c arms bodies more) a b f =
       let m : Work = record a { building = f.0 } in
       keeps-again [] (arms_targets arms ++ targets more) a m b (keeps-grown a f.0 f.3.grows) (keeps-again (arms_targets arms) (targets more) m f.1 b (keeps-arms c f.2 arms m f.1 f.4) (keeps more f.1 b f.5))
   keeps (Refuse x more) a b f = absurd f

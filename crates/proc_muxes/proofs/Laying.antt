@@ -137,7 +137,7 @@ mutual
       ∙ ap (lay_steps more) whole
       ∙ ap (λ (w : Work). lay_steps more (both at ks (lay_steps then_part) (lay_steps else_part) f.4 w)) f.5.5
       ∙ ap (λ (l : Laid). lay_steps more (both at ks (lay_steps then_part) (lay_steps else_part) l.bits (with_cells l.after a))) shown
-  steps-laid (Case c arms more) a b f =
+  steps-laid (Case c arms bodies more) a b f =
       steps-laid more f.1 b f.5
       ∙ ap (lay_steps more) (items-laid c f.2 arms (with_cells f.0 a) f.1 f.4)
       ∙ ap (λ (l : Laid). lay_steps more (lay_items c l.bits arms (with_cells l.after a))) f.6

@@ -460,7 +460,7 @@ mutual
       let sn : Shows nets kinds n (effect else_part s) = simulates nets kinds else_part (restored t y) n s f.7 (conforms-left kinds qs (targets more) rest) runs_n (shows-restored nets kinds t y s found.shows) in
       simulates nets kinds more m b _ f.9 (conforms-right kinds qs (targets more) rest) runs
       (simulates-choice nets kinds at test ps qs t y n m (holds c s.now) (effect then_part s) (effect else_part s) p q f.8 found.bit runs_m sy sn)
-  simulates nets kinds (Case c arms more) a b s f conform runs sh =
+  simulates nets kinds (Case c arms bodies more) a b s f conform runs sh =
       let mid : Building = f.0 in
       let m : Work = f.1 in
       let selector : List Bit = f.2 in

@@ -40,14 +40,14 @@ clear-first : (p q : Steps) → IsClear (followed p q) → IsClear p
 clear-first Done q h = tt
 clear-first (Assign s more) q h = (h.0, clear-first more q h.1)
 clear-first (Choose at c then_part else_part more) q h = (h.0, h.1, h.2, clear-first more q h.3)
-clear-first (Case c arms more) q h = (h.0, h.1, clear-first more q h.2)
+clear-first (Case c arms bodies more) q h = (h.0, h.1, clear-first more q h.2)
 clear-first (Refuse x more) q h = absurd h
 
 pub clear-next : (p q : Steps) → IsClear (followed p q) → IsClear q
 clear-next Done q h = h
 clear-next (Assign s more) q h = clear-next more q h.1
 clear-next (Choose at c then_part else_part more) q h = clear-next more q h.3
-clear-next (Case c arms more) q h = clear-next more q h.2
+clear-next (Case c arms bodies more) q h = clear-next more q h.2
 clear-next (Refuse x more) q h = absurd h
 
 pub held-first : (a : Work) (xs ys : List Target) → AreHeld a (xs ++ ys) → AreHeld a xs
@@ -129,7 +129,7 @@ pub cells-followed : (p q : Steps) → cells_of (followed p q) ≡ cells_of p + 
 cells-followed Done q = omega arith
 cells-followed (Assign s more) q = let e = cells-followed more q in omega (arith, e)
 cells-followed (Choose at c then_part else_part more) q = let e = cells-followed more q in omega (arith, e)
-cells-followed (Case c arms more) q = let e = cells-followed more q in omega (arith, e)
+cells-followed (Case c arms bodies more) q = let e = cells-followed more q in omega (arith, e)
 cells-followed (Refuse x more) q = cells-followed more q
 
 -- so many statements make no more cells than all

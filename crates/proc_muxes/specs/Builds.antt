@@ -218,7 +218,7 @@ abbrev mutual
       (t : Work) × (y : Work) × (n : Work) × (m : Work) × (test : List Bit) ×
       BuildsTest c a t test × Builds then_part t y × Builds else_part (restored t y) n ×
       ChoosesAll at test (choices y (distinct (targets then_part ++ targets else_part))) n m × Builds more m b
-  Builds (Case c arms more) a b =
+  Builds (Case c arms bodies more) a b =
       (mid : Building) × (m : Work) × (selector : List Bit) × Evaluates c.names c.selector (case_shape c) a.building mid selector ×
       BuildsArms c selector arms (record a { building = mid }) m × Builds more m b × IsLaid c.names c.selector (case_shape c) a.building mid selector
   Builds (Refuse x more) a b = ⊥

@@ -72,7 +72,7 @@ abbrev mutual
   IsClear Done = Unit {0}
   IsClear (Assign s more) = CanAssign s × IsClear more
   IsClear (Choose at c then_part else_part more) = (refusals c.names c.condition (sense c.names c.condition).shape ≡ []) × IsClear then_part × IsClear else_part × IsClear more
-  IsClear (Case c arms more) = (case_faults c.names (c.selector ∷ c.labels) ≡ []) × AreClear arms × IsClear more
+  IsClear (Case c arms bodies more) = (case_faults c.names (c.selector ∷ c.labels) ≡ []) × AreClear arms × IsClear more
   IsClear (Refuse x more) = ⊥
 
   pub AreClear : Arms → Type 0

@@ -71,7 +71,7 @@ abbrev mutual
   cells_of Done = 0
   cells_of (Assign s more) = assign_cells s + cells_of more
   cells_of (Choose at c then_part else_part more) = test_cells c.names c.condition + (cells_of then_part + (cells_of else_part + (length (distinct (targets then_part ++ targets else_part)) + cells_of more)))
-  cells_of (Case c arms more) = length (made c.names c.selector (case_shape c)) + (arms_cells c arms + cells_of more)
+  cells_of (Case c arms bodies more) = length (made c.names c.selector (case_shape c)) + (arms_cells c arms + cells_of more)
   cells_of (Refuse x more) = cells_of more
 
   pub arms_cells : Selection → Arms → ℕ

@@ -134,7 +134,7 @@ abbrev mutual
       let first = lay_steps then_part (with_cells test.after a) in
       let second = lay_steps else_part (restored (with_cells test.after a) first) in
       lay_steps more (lay_muxes at test.bits (choices first (distinct (targets then_part ++ targets else_part))) second)
-  lay_steps (Case c arms more) a =
+  lay_steps (Case c arms bodies more) a =
       let selector = lay c.names c.selector (case_shape c) a.building in
       lay_steps more (lay_items c selector.bits arms (with_cells selector.after a))
   lay_steps (Refuse x more) a = a

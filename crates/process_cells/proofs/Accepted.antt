@@ -17,7 +17,7 @@ use Rattle.vlog_effects.specs.Latches.{Target, targets, arms_targets, part_targe
 use Rattle.vlog_effects.proofs.Sizes.{IsSized, AreSized, Sized, SizedArms, sized-steps}
 use Rattle.net_builder.specs.Building.{Building, IsSignal, signal}
 use Rattle.expr_plans.specs.Made.{plan}
-use Rattle.elab_proc.specs.Refusals.{same_form, wrong, sides_faults, part_refusals, kind_refusals, assign_refusals, step_refusals, arm_refusals, own_faults, case_faults, unless}
+use Rattle.elab_proc.specs.Refusals.{same_form, wrong, sides_faults, part_refusals, kind_refusals, assign_refusals, step_refusals, arm_refusals, own_faults, case_faults, case_refusals}
 use Rattle.elab_proc.specs.declared.refusal.Refusal.{Refusal}
 use Rattle.elab_proc.specs.declared.refusal.Refusal.TheVariants.{Wrong}
 use Rattle.proc_muxes.specs.Builds.{Work, held}
@@ -118,13 +118,15 @@ held_parts a is_blocking names (p ∷ ps) s k waits =
 
 -- Statements.
 
-pub unless_nil : (fs : List Fault) (those : List Refusal) → unless fs those ≡ [] → those ≡ []
-unless_nil [] those e = e
-unless_nil (f ∷ fs) those e = cc
+-- Where nothing is refused in a case, nothing is in its arms, and nothing is wrong in its selector and labels.
 
-pub unless_free : (fs : List Fault) (those : List Refusal) → unless fs those ≡ [] → fs ≡ []
-unless_free [] those e = refl
-unless_free (f ∷ fs) those e = cc
+pub arms_free : (fs : List Fault) (arms bodies : List Refusal) → case_refusals fs arms bodies ≡ [] → arms ≡ []
+arms_free [] arms bodies e = e
+arms_free (f ∷ fs) arms bodies e = cc
+
+pub faults_free : (fs : List Fault) (arms bodies : List Refusal) → case_refusals fs arms bodies ≡ [] → fs ≡ []
+faults_free [] arms bodies e = refl
+faults_free (f ∷ fs) arms bodies e = cc
 
 mutual
   ready_steps : (comb : Bool) (written : List Bool) (a : Work) (steps : Steps) → step_refusals comb written steps ≡ [] → Sized (sizes a.building) steps → AllWait a (targets steps) → IsClear steps × AreHeld a (targets steps)
@@ -147,14 +149,15 @@ mutual
         (map_nil Wrong _ (left_nil _ _ e), first.0, second.0, rest.0),
         held_both a ps (qs ++ rs) first.1 (held_both a qs rs second.1 rest.1),
       )
-  ready_steps comb written a (Case c arms more) e k waits =
+  ready_steps comb written a (Case c arms bodies more) e k waits =
       let fs : List Fault = case_faults c.names (c.selector ∷ c.labels) in
       let those : List Refusal = arm_refusals comb written arms in
-      let here : unless fs those ≡ [] = left_nil (unless fs those) (step_refusals comb written more) e in
+      let all : List Refusal = step_refusals comb written bodies in
+      let here : case_refusals fs those all ≡ [] = left_nil (case_refusals fs those all) (step_refusals comb written more) e in
       let xs : List Target = arms_targets arms in
-      let these = ready_arms comb written a arms (unless_nil fs those here) k.1 (waits_first a xs (targets more) waits) in
-      let rest = ready_steps comb written a more (right_nil (unless fs those) (step_refusals comb written more) e) k.2 (waits_next a xs (targets more) waits) in
-      ((unless_free fs those here, these.0, rest.0), held_both a xs (targets more) these.1 rest.1)
+      let these = ready_arms comb written a arms (arms_free fs those all here) k.1 (waits_first a xs (targets more) waits) in
+      let rest = ready_steps comb written a more (right_nil (case_refusals fs those all) (step_refusals comb written more) e) k.2 (waits_next a xs (targets more) waits) in
+      ((faults_free fs those all here, these.0, rest.0), held_both a xs (targets more) these.1 rest.1)
   ready_steps comb written a (Refuse x more) e k waits = absurd cc
 
   ready_arms : (comb : Bool) (written : List Bool) (a : Work) (arms : Arms) → arm_refusals comb written arms ≡ [] → SizedArms (sizes a.building) arms → AllWait a (arms_targets arms) → AreClear arms × AreHeld a (arms_targets arms)
@@ -194,10 +197,12 @@ mutual
       let f = right_nil (map Wrong (own_faults c.names c.condition)) (step_refusals true written p ++ (step_refusals true written q ++ step_refusals true written more)) e in
       let g = right_nil (step_refusals true written p) (step_refusals true written q ++ step_refusals true written more) f in
       (accepted_blocking written p (left_nil _ _ f), accepted_blocking written q (left_nil _ _ g), accepted_blocking written more (right_nil (step_refusals true written q) (step_refusals true written more) g))
-  accepted_blocking written (Case c arms more) e =
+  accepted_blocking written (Case c arms bodies more) e =
       let fs : List Fault = case_faults c.names (c.selector ∷ c.labels) in
-      let here : unless fs (arm_refusals true written arms) ≡ [] = left_nil (unless fs (arm_refusals true written arms)) (step_refusals true written more) e in
-      (arms_blocking written arms (unless_nil fs (arm_refusals true written arms) here), accepted_blocking written more (right_nil (unless fs (arm_refusals true written arms)) (step_refusals true written more) e))
+      let those : List Refusal = arm_refusals true written arms in
+      let all : List Refusal = step_refusals true written bodies in
+      let here : case_refusals fs those all ≡ [] = left_nil (case_refusals fs those all) (step_refusals true written more) e in
+      (arms_blocking written arms (arms_free fs those all here), accepted_blocking written more (right_nil (case_refusals fs those all) (step_refusals true written more) e))
   accepted_blocking written (Refuse x more) e = absurd cc
 
   arms_blocking : (written : List Bool) (arms : Arms) → arm_refusals true written arms ≡ [] → AreBlocking arms

@@ -58,7 +58,7 @@ mutual
   blocking_conform Done k = tt
   blocking_conform (Assign a more) k = conforms_both (λ n. true) (parts_targets a.is_blocking a.names (parts_of a.left)) (targets more) (parts_conform a.is_blocking a.names (parts_of a.left) k.0) (blocking_conform more k.1)
   blocking_conform (Choose at c p q more) k = conforms_both (λ n. true) (targets p) (targets q ++ targets more) (blocking_conform p k.0) (conforms_both (λ n. true) (targets q) (targets more) (blocking_conform q k.1) (blocking_conform more k.2))
-  blocking_conform (Case c arms more) k = conforms_both (λ n. true) (arms_targets arms) (targets more) (arms_conform arms k.0) (blocking_conform more k.1)
+  blocking_conform (Case c arms bodies more) k = conforms_both (λ n. true) (arms_targets arms) (targets more) (arms_conform arms k.0) (blocking_conform more k.1)
   blocking_conform (Refuse x more) k = blocking_conform more k
 
   arms_conform : (arms : Arms) → AreBlocking arms → Conforms (λ n. true) (arms_targets arms)

@@ -37,7 +37,7 @@ abbrev mutual
   HasOwnLabels Done = Unit {0}
   HasOwnLabels (Assign a more) = HasOwnLabels more
   HasOwnLabels (Choose at c then_part else_part more) = HasOwnLabels then_part × HasOwnLabels else_part × HasOwnLabels more
-  HasOwnLabels (Case c arms more) = (AreRight c.names c.labels → ArmsRight c.names arms) × ArmsOwnLabels arms × HasOwnLabels more
+  HasOwnLabels (Case c arms bodies more) = (AreRight c.names c.labels → ArmsRight c.names arms) × ArmsOwnLabels arms × HasOwnLabels more
   HasOwnLabels (Refuse x more) = HasOwnLabels more
 
   pub ArmsOwnLabels : Arms → Type 0
@@ -52,7 +52,7 @@ own-followed : (a b : Steps) → HasOwnLabels a → HasOwnLabels b → HasOwnLab
 own-followed Done b k l = l
 own-followed (Assign a more) b k l = own-followed more b k l
 own-followed (Choose at c then_part else_part more) b k l = (k.0, k.1, own-followed more b k.2 l)
-own-followed (Case c arms more) b k l = (k.0, k.1, own-followed more b k.2 l)
+own-followed (Case c arms bodies more) b k l = (k.0, k.1, own-followed more b k.2 l)
 own-followed (Refuse x more) b k l = own-followed more b k l
 
 own-refused : (xs : List Flaw) → HasOwnLabels (refused xs)

@@ -11,14 +11,14 @@ use Rattle.vlog_meaning.specs.Senses.{Bits, no_bits, either, is_empty}
 use Rattle.vlog_meaning.proofs.Blanks.{left_nil, right_nil, these_nil}
 use Rattle.vlog_effects.specs.LeftSides.{Part, parts_of}
 use Rattle.vlog_effects.specs.Latches.{Target, targets, arms_targets, parts_targets, covered, arms_covered, early, arms_early, all_missed, parts_cover, missed, parts_missed, all_of, some_bit, is_latch, latches, first_of, latch_of}
-use Rattle.vlog_effects.specs.Steps.{Assigning, Test, Selection, Turns, Steps, Done, Assign, Choose, Case, Refuse, Arms, Otherwise, Arm, steps_of}
-use Rattle.elab_proc.specs.Refusals.{wrong, own_faults, case_faults, unless, assign_refusals, step_refusals, arm_refusals}
+use Rattle.vlog_effects.specs.Steps.{Assigning, Test, Selection, Turns, Steps, Done, Assign, Choose, Case, Refuse, Arms, Otherwise, Arm, followed, steps_of}
+use Rattle.elab_proc.specs.Refusals.{wrong, own_faults, case_faults, case_refusals, assign_refusals, step_refusals, arm_refusals}
 use Rattle.elab_proc.specs.declared.refusal.Refusal.{Refusal}
 use Rattle.elab_proc.specs.declared.refusal.Refusal.TheVariants.{Wrong}
 use Rattle.process_latches.specs.Sound.{sound_expr, part_form, sound_part, sound_left, sound, sound_arms, has_stop, arms_stop}
 use Rattle.process_latches.proofs.Fitting.{parts_sound}
 use Rattle.process_cells.specs.Laws.{AcceptedAreSound}
-use Rattle.process_cells.proofs.Accepted.{Accepts, accepts, unless_nil, unless_free}
+use Rattle.process_cells.proofs.Accepted.{Accepts, accepts, arms_free, faults_free}
 use Rattle.process_cells.proofs.Labels.{AreRight, ArmsRight, HasOwnLabels, ArmsOwnLabels, own-steps}
 use Rattle.process_cells.proofs.Lefts.{HaveForms}
 use Rattle.process_cells.proofs.Lists.{map_nil}
@@ -106,8 +106,8 @@ same_arm c x labels new body first others rest is f r at = record {
   runs_on = no_stops (has_stop first) (arms_stop rest) f.runs_on r.runs_on;
 }
 
-same_case : (c : Selection) (x : Expr) (arms new : Arms) (more next : Steps) → x ≡ c.selector → AreSameArms c x new arms → AreSame next more → AreSame (Case (record c { selector = x }) new next) (Case c arms more)
-same_case c x arms new more next is r rest = record {
+same_case : (c : Selection) (x : Expr) (arms new : Arms) (bodies other more next : Steps) → x ≡ c.selector → AreSameArms c x new arms → AreSame next more → AreSame (Case (record c { selector = x }) new other next) (Case c arms bodies more)
+same_case c x arms new bodies other more next is r rest = record {
   targets_are = ap (λ (l : List Target). l ++ targets next) r.targets_are ∙ ap (λ (l : List Target). arms_targets arms ++ l) rest.targets_are;
   covered_are = λ b. ap (λ (d : Bits). covered next d) (r.covered_are b) ∙ rest.covered_are (arms_covered arms b);
   early_are = λ b.
@@ -135,20 +135,21 @@ mutual
       same_choice c p q more (sound p) (sound q) (sound more) (sound_expr c.names c.condition) (same_expr c.names c.condition right)
       (same_steps comb written p (left_nil _ _ f) own.0) (same_steps comb written q (left_nil _ _ g) own.1)
       (same_steps comb written more (right_nil (step_refusals comb written q) (step_refusals comb written more) g) own.2) at
-  same_steps comb written (Case c arms more) e own =
+  same_steps comb written (Case c arms bodies more) e own =
       let names : Names = c.names in
       let fs : List Fault = case_faults names (c.selector ∷ c.labels) in
       let those : List Refusal = arm_refusals comb written arms in
-      let here : unless fs those ≡ [] = left_nil (unless fs those) (step_refusals comb written more) e in
-      let free : fs ≡ [] = unless_free fs those here in
+      let inner : List Refusal = step_refusals comb written bodies in
+      let here : case_refusals fs those inner ≡ [] = left_nil (case_refusals fs those inner) (step_refusals comb written more) e in
+      let free : fs ≡ [] = faults_free fs those inner here in
       let all : flat_map (wrong names) (c.selector ∷ c.labels) ≡ [] = these_nil (flat_map (wrong names) (c.selector ∷ c.labels)) _ free in
       let right : wrong names c.selector ≡ [] = left_nil (wrong names c.selector) (flat_map (wrong names) c.labels) all in
       let labels : AreRight names c.labels = right_nil (wrong names c.selector) (flat_map (wrong names) c.labels) all in
       let x : Expr = sound_expr names c.selector in
-      let rest : AreSame (sound more) more = same_steps comb written more (right_nil (unless fs those) (step_refusals comb written more) e) own.2 in
-      let these : AreSameArms c x (sound_arms names arms) arms = same_arms comb written c x arms (unless_nil fs those here) (own.0 labels) own.1 in
-      subst (λ (l : List Fault). AreSame (if is_empty l then Case (record c { selector = x }) (sound_arms names arms) (sound more) else Refuse (Turns (first_token c.selector)) (sound more)) (Case c arms more)) (sym free)
-      (same_case c x arms (sound_arms names arms) more (sound more) (same_expr names c.selector right) these rest)
+      let rest : AreSame (sound more) more = same_steps comb written more (right_nil (case_refusals fs those inner) (step_refusals comb written more) e) own.2 in
+      let these : AreSameArms c x (sound_arms names arms) arms = same_arms comb written c x arms (arms_free fs those inner here) (own.0 labels) own.1 in
+      subst (λ (l : List Fault). AreSame (if is_empty l then Case (record c { selector = x }) (sound_arms names arms) (sound bodies) (sound more) else Refuse (Turns (first_token c.selector)) (followed (sound bodies) (sound more))) (Case c arms bodies more)) (sym free)
+      (same_case c x arms (sound_arms names arms) bodies (sound bodies) more (sound more) (same_expr names c.selector right) these rest)
   same_steps comb written (Refuse x more) e own = absurd cc
 
   same_arms : (comb : Bool) (written : List Bool) (c : Selection) (x : Expr) (arms : Arms) → arm_refusals comb written arms ≡ [] → ArmsRight c.names arms → ArmsOwnLabels arms → AreSameArms c x (sound_arms c.names arms) arms

@@ -38,7 +38,7 @@ mutual
   effect_wide (Choose at c p q more) s n =
       effect_wide more (if holds c s.now then effect p s else effect q s) n
       ∙ chosen_wide (holds c s.now) (effect p s) (effect q s) n (length (s.now n)) (effect_wide p s n) (effect_wide q s n)
-  effect_wide (Case c arms more) s n = effect_wide more (arm_effect c arms s) n ∙ arms_wide c arms s n
+  effect_wide (Case c arms bodies more) s n = effect_wide more (arm_effect c arms s) n ∙ arms_wide c arms s n
   effect_wide (Refuse x more) s n = effect_wide more s n
 
   arms_wide : (c : Selection) (arms : Arms) (s : State) (n : ℕ) → length ((arm_effect c arms s).now n) ≡ length (s.now n)

@@ -18,7 +18,7 @@ use Rattle.vlog_meaning.specs.Senses.{no_bits, is_empty}
 use Rattle.vlog_meaning.proofs.Firsts.{least_none}
 use Rattle.vlog_effects.specs.Laws.{item_steps}
 use Rattle.vlog_effects.specs.Latches.{covered, early, all_missed, arms_covered, arms_early}
-use Rattle.vlog_effects.specs.Steps.{Steps, Done, Choose, Case, Refuse, Turns, Arms, InNames, Item, Selection, labelled, labels_of, chosen_arms, default_of, done_by, selection_of, case_steps, step_of, item_of, steps_of}
+use Rattle.vlog_effects.specs.Steps.{Steps, Done, Choose, Case, Refuse, Turns, Arms, InNames, Item, Selection, labelled, labels_of, chosen_arms, default_of, done_by, bodies_of, selection_of, case_steps, followed, step_of, item_of, steps_of}
 use Rattle.elab_proc.specs.Refusals.{case_faults, labels_in}
 use Rattle.elab_proc.proofs.StepLemmas.{labels_same}
 use Rattle.signal_masks.specs.Masks.{bits_in}
@@ -109,8 +109,8 @@ module _ (c d : Selection) (o : Steps) (same : d.names ≡ c.names) where
       ap (λ (b : Bool). here || b) (arms_stopped xs) ∙ or_swap here (some_stop c.names xs) (has_stop (sound o))
 
 -- a case with these arms
-arms_marked : (c : Selection) (test : Expr) (xs : List Item) (o : Steps) (m0 m1 m2 last arms : Marks) → test ≡ c.selector → Added no_bits (sound_reads c.names test) [] false m0 m1 → IsOwn (sound o) last → AreArms c.names xs last arms → Added (bits_in arms.covered) (bits_in arms.early) arms.writes.items arms.is_stopped m1 m2 → Marked (Case (record c { selector = sound_expr c.names c.selector }) (sound_arms c.names (arms_with c xs o)) Done) m0 m2
-arms_marked c test xs o m0 m1 m2 last arms same x own a y =
+arms_marked : (c : Selection) (test : Expr) (xs : List Item) (o bodies : Steps) (m0 m1 m2 last arms : Marks) → test ≡ c.selector → Added no_bits (sound_reads c.names test) [] false m0 m1 → IsOwn (sound o) last → AreArms c.names xs last arms → Added (bits_in arms.covered) (bits_in arms.early) arms.writes.items arms.is_stopped m1 m2 → Marked (Case (record c { selector = sound_expr c.names c.selector }) (sound_arms c.names (arms_with c xs o)) bodies Done) m0 m2
+arms_marked c test xs o bodies m0 m1 m2 last arms same x own a y =
     let d : Selection = record c { selector = sound_expr c.names c.selector } in
     added_as _ _ _ _ _ _ _ _ m0 m2
     (λ n i. a.covered_is n i ∙ ap (λ (b : Bool). b && all_cover c.names xs n i) (own.covered_is n i) ∙ sym (arms_cover c d o refl xs n i))
@@ -125,22 +125,9 @@ case_marked names kind selector is fault places m0 m1 m2 last arms first none by
     let c : Selection = selection_of names kind selector (map item_steps is) in
     let d : Selection = record c { selector = sound_expr c.names c.selector } in
     let empty : is_empty (case_faults names (selector ∷ labels_of (map item_steps is))) ≡ true = ap (λ (l : List Expr). is_empty (case_faults names (selector ∷ l))) (labels_same false [] is) ∙ ap is_empty (least_none (case_faults names (selector ∷ flat_map labels_in is)) (sym first ∙ none)) in
-    let as_case : sound (case_steps kind selector (map item_steps is) names) ≡ Case d (sound_arms names (arms_by c is places)) Done = ap (λ (b : Bool). if b then Case d (sound_arms names (chosen_arms c (labelled (map item_steps is)) (default_of (map item_steps is)))) Done else Refuse (Turns (first_token selector)) Done) empty ∙ ap (λ (r : Arms). Case d (sound_arms names r) Done) (sym by) in
-    subst (λ (z : Steps). Marked z m0 m2) (sym as_case) (arms_marked c selector (labelled (map item_steps (take places.before is))) (done_by (option_map (item_body is) places.last) names) m0 m1 m2 last arms refl x own a y)
-
-some_faults : (fs : List Fault) (f : Fault) → Some f ≡ least fs → is_empty fs ≡ false
-unfolding least
-some_faults [] f is = cc
-some_faults (g ∷ more) f is = refl
-
--- a case that is refused
-pub case_stopped : (names : Names) (kind : CaseKind) (selector : Expr) (is : List CaseItem) (fault : Option Fault) (f : Fault) (a b : Marks) → fault ≡ least (case_faults names (selector ∷ flat_map labels_in is)) → fault ≡ Some f → Added no_bits no_bits [] true a b → Marked (sound (case_steps kind selector (map item_steps is) names)) a b
-case_stopped names kind selector is fault f a b first some x =
-    let c : Selection = selection_of names kind selector (map item_steps is) in
-    let d : Selection = record c { selector = sound_expr c.names c.selector } in
-    let full : is_empty (case_faults names (selector ∷ labels_of (map item_steps is))) ≡ false = ap (λ (l : List Expr). is_empty (case_faults names (selector ∷ l))) (labels_same false [] is) ∙ some_faults (case_faults names (selector ∷ flat_map labels_in is)) f (sym some ∙ first) in
-    let as_stop : sound (case_steps kind selector (map item_steps is) names) ≡ Refuse (Turns (first_token selector)) Done = ap (λ (z : Bool). if z then Case d (sound_arms names (chosen_arms c (labelled (map item_steps is)) (default_of (map item_steps is)))) Done else Refuse (Turns (first_token selector)) Done) full in
-    subst (λ (z : Steps). Marked z a b) (sym as_stop) (added_as no_bits no_bits _ _ [] _ true _ a b (λ n i. refl) (λ n i. refl) refl refl x)
+    let bodies : Steps = sound (bodies_of (map item_steps is) names) in
+    let as_case : sound (case_steps kind selector (map item_steps is) names) ≡ Case d (sound_arms names (arms_by c is places)) bodies Done = ap (λ (b : Bool). if b then Case d (sound_arms names (chosen_arms c (labelled (map item_steps is)) (default_of (map item_steps is)))) bodies Done else Refuse (Turns (first_token selector)) (followed bodies Done)) empty ∙ ap (λ (r : Arms). Case d (sound_arms names r) bodies Done) (sym by) in
+    subst (λ (z : Steps). Marked z m0 m2) (sym as_case) (arms_marked c selector (labelled (map item_steps (take places.before is))) (done_by (option_map (item_body is) places.last) names) bodies m0 m1 m2 last arms refl x own a y)
 
 -- One arm more.
 

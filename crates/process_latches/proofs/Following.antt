@@ -6,6 +6,7 @@ use Rattle.vlog_meaning.specs.Senses.{Bits, no_bits, either, is_empty}
 use Rattle.vlog_effects.specs.Steps.{Steps, Done, Assign, Choose, Case, Refuse, Turns, followed}
 use Rattle.vlog_effects.specs.LeftSides.{parts_of}
 use Rattle.vlog_effects.specs.Latches.{all_of, parts_cover, missed, parts_missed, covered, early, arms_covered, arms_early}
+use Rattle.vlog_effects.proofs.Following.{followed-again}
 use Rattle.vlog_effects.proofs.Pointwise.{covered-at, covered-all, early-at, early-all}
 use Rattle.elab_proc.specs.Refusals.{case_faults}
 use Rattle.process_latches.specs.declared.marks.Marks.{Marks}
@@ -19,7 +20,7 @@ covered_followed : (a b : Steps) (c : Bits) → covered (followed a b) c ≡ cov
 covered_followed Done b c = refl
 covered_followed (Assign x more) b c = covered_followed more b (either c (parts_cover x.names (parts_of x.left)))
 covered_followed (Choose at x then_part else_part more) b c = covered_followed more b (all_of (covered then_part c) (covered else_part c))
-covered_followed (Case x arms more) b c = covered_followed more b (arms_covered arms c)
+covered_followed (Case x arms bodies more) b c = covered_followed more b (arms_covered arms c)
 covered_followed (Refuse x more) b c = covered_followed more b c
 
 early_followed : (a b : Steps) (c : Bits) (n i : ℕ) → early (followed a b) c n i ≡ (early a c n i || early b (covered a c) n i)
@@ -32,7 +33,7 @@ early_followed (Choose at x then_part else_part more) b c n i =
     let first : Bool = missed x.names x.condition c n i || (early then_part c n i || early else_part c n i) in
     let next : Bits = all_of (covered then_part c) (covered else_part c) in
     ap (λ (y : Bool). first || y) (early_followed more b next n i) ∙ sym (or_again first (early more next n i) (early b (covered more next) n i))
-early_followed (Case x arms more) b c n i =
+early_followed (Case x arms bodies more) b c n i =
     let first : Bool = missed x.names x.selector c n i || arms_early x arms c n i in
     let next : Bits = arms_covered arms c in
     ap (λ (y : Bool). first || y) (early_followed more b next n i) ∙ sym (or_again first (early more next n i) (early b (covered more next) n i))
@@ -60,27 +61,27 @@ writes_followed : (a b : Steps) → writes (followed a b) ≡ writes a ++ writes
 writes_followed Done b = refl
 writes_followed (Assign x more) b = ap (λ (l : List Write). parts_writes x.is_blocking (left_first_token x.left) x.names (parts_of x.left) ++ l) (writes_followed more b) ∙ sym (append_assoc (parts_writes x.is_blocking (left_first_token x.left) x.names (parts_of x.left)) (writes more) (writes b))
 writes_followed (Choose at x then_part else_part more) b = ap (λ (l : List Write). (writes then_part ++ writes else_part) ++ l) (writes_followed more b) ∙ sym (append_assoc (writes then_part ++ writes else_part) (writes more) (writes b))
-writes_followed (Case x arms more) b = ap (λ (l : List Write). arms_writes arms ++ l) (writes_followed more b) ∙ sym (append_assoc (arms_writes arms) (writes more) (writes b))
+writes_followed (Case x arms bodies more) b = ap (λ (l : List Write). arms_writes arms ++ l) (writes_followed more b) ∙ sym (append_assoc (arms_writes arms) (writes more) (writes b))
 writes_followed (Refuse x more) b = writes_followed more b
 
 stop_followed : (a b : Steps) → has_stop (followed a b) ≡ (has_stop a || has_stop b)
 stop_followed Done b = refl
 stop_followed (Assign x more) b = stop_followed more b
 stop_followed (Choose at x then_part else_part more) b = ap (λ (t : Bool). (has_stop then_part || has_stop else_part) || t) (stop_followed more b) ∙ sym (or_again (has_stop then_part || has_stop else_part) (has_stop more) (has_stop b))
-stop_followed (Case x arms more) b = ap (λ (t : Bool). arms_stop arms || t) (stop_followed more b) ∙ sym (or_again (arms_stop arms) (has_stop more) (has_stop b))
+stop_followed (Case x arms bodies more) b = ap (λ (t : Bool). arms_stop arms || t) (stop_followed more b) ∙ sym (or_again (arms_stop arms) (has_stop more) (has_stop b))
 stop_followed (Refuse x more) b = ap (λ (t : Bool). is_stop x || t) (stop_followed more b) ∙ sym (or_again (is_stop x) (has_stop more) (has_stop b))
 
 sound_followed : (a b : Steps) → sound (followed a b) ≡ followed (sound a) (sound b)
 sound_followed Done b = refl
 sound_followed (Assign x more) b = ap (λ (s : Steps). Assign (record x { left = sound_left x.names x.left; right = sound_expr x.names x.right }) s) (sound_followed more b)
 sound_followed (Choose at x then_part else_part more) b = ap (λ (s : Steps). Choose at (record x { condition = sound_expr x.names x.condition }) (sound then_part) (sound else_part) s) (sound_followed more b)
-sound_followed (Case x arms more) b = go (is_empty (case_faults x.names (x.selector ∷ x.labels))) (sound_followed more b) where
-  go : (t : Bool) → sound (followed more b) ≡ followed (sound more) (sound b) → (if t then Case (record x { selector = sound_expr x.names x.selector }) (sound_arms x.names arms) (sound (followed more b)) else Refuse (Turns (first_token x.selector)) (sound (followed more b))) ≡ followed (if t then Case (record x { selector = sound_expr x.names x.selector }) (sound_arms x.names arms) (sound more) else Refuse (Turns (first_token x.selector)) (sound more)) (sound b)
-  go true e = ap (λ (s : Steps). Case (record x { selector = sound_expr x.names x.selector }) (sound_arms x.names arms) s) e
-  go false e = ap (λ (s : Steps). Refuse (Turns (first_token x.selector)) s) e
+sound_followed (Case x arms bodies more) b = go (is_empty (case_faults x.names (x.selector ∷ x.labels))) (sound_followed more b) where
+  go : (t : Bool) → sound (followed more b) ≡ followed (sound more) (sound b) → (if t then Case (record x { selector = sound_expr x.names x.selector }) (sound_arms x.names arms) (sound bodies) (sound (followed more b)) else Refuse (Turns (first_token x.selector)) (followed (sound bodies) (sound (followed more b)))) ≡ followed (if t then Case (record x { selector = sound_expr x.names x.selector }) (sound_arms x.names arms) (sound bodies) (sound more) else Refuse (Turns (first_token x.selector)) (followed (sound bodies) (sound more))) (sound b)
+  go true e = ap (λ (s : Steps). Case (record x { selector = sound_expr x.names x.selector }) (sound_arms x.names arms) (sound bodies) s) e
+  go false e = ap (λ (s : Steps). Refuse (Turns (first_token x.selector)) s) (ap (followed (sound bodies)) e ∙ sym (followed-again (sound bodies) (sound more) (sound b)))
 sound_followed (Refuse x more) b = ap (λ (s : Steps). Refuse x s) (sound_followed more b)
 
-marked_followed : (s t : Steps) (a b d : Marks) → Marked s a b → Marked t b d → Marked (followed s t) a d
+pub marked_followed : (s t : Steps) (a b d : Marks) → Marked s a b → Marked t b d → Marked (followed s t) a d
 marked_followed s t a b d x y =
     added_as _ _ _ _ _ _ _ _ a d
     (λ n i. sym (ap (λ (f : Bits). f n i) (covered_followed s t no_bits) ∙ covered_from t (covered s no_bits) n i))

@@ -37,7 +37,7 @@ mutual
   targets_are (Choose at c s t more) =
       map_both (writes s ++ writes t) (writes more) ∙ ap (λ (l : List Target). l ++ map target_of (writes more)) (map_both (writes s) (writes t)) ∙ append_assoc (map target_of (writes s)) (map target_of (writes t)) (map target_of (writes more)) ∙
       ap (λ (l : List Target). l ++ (map target_of (writes t) ++ map target_of (writes more))) (targets_are s) ∙ ap (λ (l : List Target). targets s ++ (l ++ map target_of (writes more))) (targets_are t) ∙ ap (λ (l : List Target). targets s ++ (targets t ++ l)) (targets_are more)
-  targets_are (Case c arms more) = map_both (arms_writes arms) (writes more) ∙ ap (λ (l : List Target). l ++ map target_of (writes more)) (arms_targets_are arms) ∙ ap (λ (l : List Target). arms_targets arms ++ l) (targets_are more)
+  targets_are (Case c arms bodies more) = map_both (arms_writes arms) (writes more) ∙ ap (λ (l : List Target). l ++ map target_of (writes more)) (arms_targets_are arms) ∙ ap (λ (l : List Target). arms_targets arms ++ l) (targets_are more)
   targets_are (Refuse x more) = targets_are more
 
   arms_targets_are : (arms : Arms) → map target_of (arms_writes arms) ≡ arms_targets arms

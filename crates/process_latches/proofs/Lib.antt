@@ -5,6 +5,7 @@ pub mod Assigned
 pub mod Reading
 pub mod Following
 pub mod Choosing
+pub mod Bodies
 pub mod Turning
 pub mod Walking
 pub mod Latching

@@ -10,7 +10,7 @@ use Rattle.vlog_syntax.specs.Places.{first_token, left_first_token}
 use Rattle.vlog_meaning.specs.Scopes.{Names}
 use Rattle.vlog_meaning.specs.Senses.{is_empty}
 use Rattle.vlog_effects.specs.LeftSides.{Select, Whole, Bit, Range, Indexed, Part, parts_of}
-use Rattle.vlog_effects.specs.Steps.{Steps, Done, Assign, Choose, Case, Refuse, Arms, Otherwise, Arm, Flaw, Const, Lacks, Turns}
+use Rattle.vlog_effects.specs.Steps.{Steps, Done, Assign, Choose, Case, Refuse, Arms, Otherwise, Arm, Flaw, Const, Lacks, Turns, followed}
 use Rattle.elab_proc.specs.Refusals.{wrong, case_faults}
 
 abbrev pub sound_expr : Names → Expr → Expr
@@ -38,13 +38,14 @@ left_of p = part_left p.name p.select
 abbrev pub sound_left : Names → LeftSide → LeftSide
 sound_left names left = l.Concatenation (left_first_token left) (map (λ p. left_of (sound_part names p)) (parts_of left))
 
--- A case whose selector or label is refused has no arms: which of them are dropped rests on its size.
+-- A case whose selector or label is refused has no arms, since which of them are dropped rests on its size: its items are done one after
+-- the other, behind what stops the search for latches.
 abbrev mutual
   pub sound : Steps → Steps
   sound Done = Done
   sound (Assign a more) = Assign (record a { left = sound_left a.names a.left; right = sound_expr a.names a.right }) (sound more)
   sound (Choose at c then_part else_part more) = Choose at (record c { condition = sound_expr c.names c.condition }) (sound then_part) (sound else_part) (sound more)
-  sound (Case c arms more) = if is_empty (case_faults c.names (c.selector ∷ c.labels)) then Case (record c { selector = sound_expr c.names c.selector }) (sound_arms c.names arms) (sound more) else Refuse (Turns (first_token c.selector)) (sound more)
+  sound (Case c arms bodies more) = if is_empty (case_faults c.names (c.selector ∷ c.labels)) then Case (record c { selector = sound_expr c.names c.selector }) (sound_arms c.names arms) (sound bodies) (sound more) else Refuse (Turns (first_token c.selector)) (followed (sound bodies) (sound more))
   sound (Refuse x more) = Refuse x (sound more)
 
   pub sound_arms : Names → Arms → Arms
@@ -63,7 +64,7 @@ abbrev mutual
   has_stop Done = false
   has_stop (Assign a more) = has_stop more
   has_stop (Choose at c then_part else_part more) = (has_stop then_part || has_stop else_part) || has_stop more
-  has_stop (Case c arms more) = arms_stop arms || has_stop more
+  has_stop (Case c arms bodies more) = arms_stop arms || has_stop more
   has_stop (Refuse x more) = is_stop x || has_stop more
 
   pub arms_stop : Arms → Bool

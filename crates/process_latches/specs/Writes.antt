@@ -21,7 +21,7 @@ abbrev mutual
   writes Done = []
   writes (Assign a more) = parts_writes a.is_blocking (left_first_token a.left) a.names (parts_of a.left) ++ writes more
   writes (Choose at c then_part else_part more) = (writes then_part ++ writes else_part) ++ writes more
-  writes (Case c arms more) = arms_writes arms ++ writes more
+  writes (Case c arms bodies more) = arms_writes arms ++ writes more
   writes (Refuse x more) = writes more
 
   pub arms_writes : Arms → List Write

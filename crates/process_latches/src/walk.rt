@@ -1,15 +1,15 @@
 //! The marks of statements: those of a block after each other, of a choice from its parts, of a case from its arms, and of a loop
 //! turn by turn.
 //!
-//! Where a loop or a case is refused that alone is marked, and nothing of its parts. A scope is lent to a statement, and given back
-//! as it was.
+//! Where a loop is refused that alone is marked, and nothing of its parts; where a case is, that and its items one after the other. A
+//! scope is lent to a statement, and given back as it was.
 ghost use Rattle.std.specs.Prelude.{◌≡◌, ◌≤◌, ◌<◌, length, map, take, Some, IfOk, IfSome, OnOk, IsSome};
 ghost use Rattle.std.specs.Option.{option_map};
 ghost use Rattle.vlog_syntax.specs.declared.left_side.LeftSide.{out-LeftSide};
 ghost use Rattle.vlog_meaning.specs.declared.scope.Decl.TheVariants.{Constant};
 ghost use Rattle.vlog_meaning.specs.Scopes.{Names, names_of, with_name};
 ghost use Rattle.vlog_effects.specs.Laws.{item_steps};
-ghost use Rattle.vlog_effects.specs.Steps.{steps_of, case_steps, loop_steps, name_alone, turns, max_turns, in_turn, done_by, labelled};
+ghost use Rattle.vlog_effects.specs.Steps.{steps_of, case_steps, loop_steps, name_alone, turns, max_turns, in_turn, bodies_of, done_by, labelled};
 ghost use Rattle.elab_proc.specs.Refusals.{AreSized};
 ghost use Rattle.elab_proc.specs.Turns.{loop_of, AlikeBut};
 ghost use Rattle.case_arms.specs.Arms.{item_body};
@@ -120,7 +120,7 @@ fn mark_block(
     Ok(())
 }
 
-/// Adds the marks of a case. Where its selector or a label is refused, that alone is marked.
+/// Adds the marks of a case. Where its selector or a label is refused, that is marked, and then the items one after the other.
 #[cycle(walk)]
 fn mark_case(
     alloc: Global,
@@ -137,7 +137,7 @@ fn mark_case(
     match case_fault(selector, items, scope) {
         Some(_) => {
             marks.stop();
-            Ok(())
+            mark_bodies(alloc, items, scope, marks)
         }
         None => {
             let chosen = arms_in(alloc, kind, selector, items, scope)?;
@@ -148,6 +148,24 @@ fn mark_case(
             Ok(())
         }
     }
+}
+
+/// Adds the marks of the bodies of all items of a case, one after the other.
+#[cycle(walk)]
+fn mark_bodies(
+    alloc: Global,
+    items: &[CaseItem],
+    scope: &mut Scope,
+    marks: &mut Marks,
+) -> Result<(), AllocError>
+    requires { AreSized (names_of scope.old) }
+    ensures marked { OnOk result (Marked (sound (bodies_of (map item_steps items.now) (names_of scope.old))) marks.old marks.new) }
+    ensures kept { OnOk result (names_of scope.new ≡ names_of scope.old) }
+{
+    for item in items {
+        mark(alloc, item.body.get(), scope, marks)?;
+    }
+    Ok(())
 }
 
 /// The marks of the item at a place, if there is one.

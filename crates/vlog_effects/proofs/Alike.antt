@@ -245,7 +245,7 @@ mutual
       let first = alike-effect size then_part b s u z.1 k.0 (λ n i. or-left (early then_part b n i) (early else_part b n i) (inner n i)) al in
       let second = alike-effect size else_part b s u z.2 k.1 (λ n i. or-right (early then_part b n i) (early else_part b n i) (inner n i)) al in
       alike-effect size more c _ _ z.3 k.2 (λ n i. or-right (either test parts n i) (early more c n i) (e n i)) (alike-choice size (holds d s.now) (holds d u.now) (covered then_part b) (covered else_part b) (effect then_part s) (effect then_part u) (effect else_part s) (effect else_part u) same first second)
-  alike-effect size (Case d arms more) b s u z k e al =
+  alike-effect size (Case d arms bodies more) b s u z k e al =
       let c : Bits = arms_covered arms b in
       let sel : Bits = missed d.names d.selector b in
       let inner : Bits = arms_early d arms b in

@@ -79,7 +79,7 @@ mutual
       let first = effect-keeps then_part n bits s (first-free (targets then_part) (targets else_part ++ targets more) n e) k in
       let second = effect-keeps else_part n bits s (first-free (targets else_part) (targets more) n rest) k in
       effect-keeps more n bits _ (last-free (targets else_part) (targets more) n rest) (chosen-keeps (holds c s.now) n bits (effect then_part s) (effect else_part s) first second)
-  effect-keeps (Case c arms more) n bits s e k = effect-keeps more n bits (arm_effect c arms s) (last-free (arms_targets arms) (targets more) n e) (arms-keep c arms n bits s (first-free (arms_targets arms) (targets more) n e) k)
+  effect-keeps (Case c arms bodies more) n bits s e k = effect-keeps more n bits (arm_effect c arms s) (last-free (arms_targets arms) (targets more) n e) (arms-keep c arms n bits s (first-free (arms_targets arms) (targets more) n e) k)
   effect-keeps (Refuse x more) n bits s e k = effect-keeps more n bits s e k
 
   arms-keep : (c : Selection) (arms : Arms) (n : ℕ) (bits : List Bool) (s : State) → is_assigned (arms_targets arms) n ≡ false → Keeps n bits s → Keeps n bits (arm_effect c arms s)

@@ -2,6 +2,7 @@ pub mod Bools
 pub mod Numbers
 pub mod Writing
 pub mod Variants
+pub mod Following
 pub mod Loops
 pub mod Turning
 pub mod Running

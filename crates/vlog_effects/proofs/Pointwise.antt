@@ -25,7 +25,7 @@ mutual
   covered-at Done b c n i f = f
   covered-at (Assign a more) b c n i f = covered-at more _ _ n i (ap (λ (y : Bool). y || parts_cover a.names (parts_of a.left) n i) f)
   covered-at (Choose at d then_part else_part more) b c n i f = covered-at more _ _ n i (and-same _ _ _ _ (covered-at then_part b c n i f) (covered-at else_part b c n i f))
-  covered-at (Case d arms more) b c n i f = covered-at more _ _ n i (arms_covered-at arms b c n i f)
+  covered-at (Case d arms bodies more) b c n i f = covered-at more _ _ n i (arms_covered-at arms b c n i f)
   covered-at (Refuse x more) b c n i f = covered-at more b c n i f
 
   pub arms_covered-at : (arms : Arms) (b c : Bits) (n i : ℕ) → b n i ≡ c n i → arms_covered arms b n i ≡ arms_covered arms c n i
@@ -41,7 +41,7 @@ mutual
   early-at (Choose at d then_part else_part more) b c n i f =
       or-same _ _ _ _ (or-same _ _ _ _ (missed-at d.names d.condition b c n i f) (or-same _ _ _ _ (early-at then_part b c n i f) (early-at else_part b c n i f)))
       (early-at more _ _ n i (and-same _ _ _ _ (covered-at then_part b c n i f) (covered-at else_part b c n i f)))
-  early-at (Case d arms more) b c n i f =
+  early-at (Case d arms bodies more) b c n i f =
       or-same _ _ _ _ (or-same _ _ _ _ (missed-at d.names d.selector b c n i f) (arms_early-at d arms b c n i f)) (early-at more _ _ n i (arms_covered-at arms b c n i f))
   early-at (Refuse x more) b c n i f = early-at more b c n i f
 
@@ -64,7 +64,7 @@ mutual
   covered-all Done b n i f = f
   covered-all (Assign a more) b n i f = covered-all more _ n i (ap (λ (y : Bool). y || parts_cover a.names (parts_of a.left) n i) f)
   covered-all (Choose at d then_part else_part more) b n i f = covered-all more _ n i (and-same _ true _ true (covered-all then_part b n i f) (covered-all else_part b n i f))
-  covered-all (Case d arms more) b n i f = covered-all more _ n i (arms_covered-all arms b n i f)
+  covered-all (Case d arms bodies more) b n i f = covered-all more _ n i (arms_covered-all arms b n i f)
   covered-all (Refuse x more) b n i f = covered-all more b n i f
 
   pub arms_covered-all : (arms : Arms) (b : Bits) (n i : ℕ) → b n i ≡ true → arms_covered arms b n i ≡ true
@@ -80,7 +80,7 @@ mutual
   early-all (Choose at d then_part else_part more) b n i f =
       or-same _ false _ false (or-same _ false _ false (not-missing (reads d.names d.condition n i) (b n i) f) (or-same _ false _ false (early-all then_part b n i f) (early-all else_part b n i f)))
       (early-all more _ n i (and-same _ true _ true (covered-all then_part b n i f) (covered-all else_part b n i f)))
-  early-all (Case d arms more) b n i f =
+  early-all (Case d arms bodies more) b n i f =
       or-same _ false _ false (or-same _ false _ false (not-missing (reads d.names d.selector n i) (b n i) f) (arms_early-all d arms b n i f)) (early-all more _ n i (arms_covered-all arms b n i f))
   early-all (Refuse x more) b n i f = early-all more b n i f
 

@@ -15,7 +15,7 @@ pub effects-follow : EffectsFollow
 effects-follow Done b s = refl
 effects-follow (Assign a more) b s = effects-follow more b (assigned a s)
 effects-follow (Choose at c then_part else_part more) b s = effects-follow more b _
-effects-follow (Case c arms more) b s = effects-follow more b (arm_effect c arms s)
+effects-follow (Case c arms bodies more) b s = effects-follow more b (arm_effect c arms s)
 effects-follow (Refuse x more) b s = effects-follow more b s
 
 pub steps-blocking : (a : Assignment) (names : Names) → steps_of (BlockingAssignment a) names ≡ Assign (assigning true a names) Done

@@ -19,7 +19,7 @@ use Rattle.vlog_meaning.specs.Senses.{is_empty}
 use Rattle.vlog_meaning.specs.Scopes.{Names}
 use Rattle.vlog_effects.specs.Expressions.{constant_of, constant_faults}
 use Rattle.vlog_effects.specs.Laws.{item_steps}
-use Rattle.vlog_effects.specs.Steps.{Flaw, Turns, Selection, Steps, Done, Assign, Choose, Case, Refuse, Arms, Otherwise, Arm, InNames, Item, Loop, followed, in_turn, refused, word_of, with_word, turn_names, flaws_of, step_flaws, tested, stepped, turns, max_turns, all_turns, looped, loop_steps, name_alone, done_by, default_of, labelled, front, last_body, always, arms_of, names_all, chosen_arms, selection_of, step_of, item_of, steps_of}
+use Rattle.vlog_effects.specs.Steps.{Flaw, Turns, Selection, Steps, Done, Assign, Choose, Case, Refuse, Arms, Otherwise, Arm, InNames, Item, Loop, followed, in_turn, refused, word_of, with_word, turn_names, flaws_of, step_flaws, tested, stepped, turns, max_turns, all_turns, looped, loop_steps, name_alone, done_by, default_of, labelled, front, last_body, always, arms_of, names_all, chosen_arms, bodies_of, selection_of, step_of, item_of, steps_of}
 
 -- a declared signal has this many bits
 abbrev pub IsSized : (ℕ → ℕ) → Option Decl → Type 0
@@ -36,7 +36,7 @@ abbrev mutual
   Sized size Done = Unit {0}
   Sized size (Assign a more) = AreSized size a.names × Sized size more
   Sized size (Choose at c then_part else_part more) = AreSized size c.names × Sized size then_part × Sized size else_part × Sized size more
-  Sized size (Case c arms more) = AreSized size c.names × SizedArms size arms × Sized size more
+  Sized size (Case c arms bodies more) = AreSized size c.names × SizedArms size arms × Sized size more × Sized size bodies
   Sized size (Refuse x more) = Sized size more
 
   pub SizedArms : (ℕ → ℕ) → Arms → Type 0
@@ -51,7 +51,7 @@ sized-followed : (size : ℕ → ℕ) (a b : Steps) → Sized size a → Sized s
 sized-followed size Done b k l = l
 sized-followed size (Assign a more) b k l = (k.0, sized-followed size more b k.1 l)
 sized-followed size (Choose at c then_part else_part more) b k l = (k.0, k.1, k.2, sized-followed size more b k.3 l)
-sized-followed size (Case c arms more) b k l = (k.0, k.1, sized-followed size more b k.2 l)
+sized-followed size (Case c arms bodies more) b k l = (k.0, k.1, sized-followed size more b k.2 l, k.3)
 sized-followed size (Refuse x more) b k l = sized-followed size more b k l
 
 sized-refused : (size : ℕ → ℕ) (xs : List Flaw) → Sized size (refused xs)
@@ -158,6 +158,10 @@ sized-chosen size c items None b d k = go (names_all c) where
   go true = sized-arms size c (front items) (last_body items) (sized-front size items b) (sized-last size items b) k
   go false = sized-arms size c items None b tt k
 
+sized-bodies : (size : ℕ → ℕ) (items : List Item) (names : Names) → SizedItems size items → AreSized size names → Sized size (bodies_of items names)
+sized-bodies size [] names b k = tt
+sized-bodies size (i ∷ more) names b k = sized-followed size (i.body names) (bodies_of more names) (b.0 names k) (sized-bodies size more names b.1 k)
+
 -- Each statement.
 
 abbrev ProvedStmt : (ℕ → ℕ) → Type 0
@@ -181,7 +185,7 @@ sized-step size (t.Conditional at c first None) names k = (k, first.1 names k, t
 sized-step size (t.Conditional at c first (Some second)) names k = (k, first.1 names k, second.1 names k, tt)
 sized-step size (t.Case at kind selector items) names k =
     let is : List Item = map item_steps (map (λ (w : ProvedItem size). w.0) items) in
-    (k, sized-chosen size (selection_of names kind selector is) (labelled is) (default_of is) (sized-labelled size is (sized-items size items)) (sized-default size is (sized-items size items)) k, tt)
+    (k, sized-chosen size (selection_of names kind selector is) (labelled is) (default_of is) (sized-labelled size is (sized-items size items)) (sized-default size is (sized-items size items)) k, tt, sized-bodies size is names (sized-items size items) k)
 sized-step size (t.For at start condition step body) names k = sized-loop size at start condition step (steps_of body.0) names (name_alone (out-LeftSide start.left)) body.1 k
 sized-step size (t.While at condition body) names k = tt
 sized-step size (t.Repeat at count body) names k = tt

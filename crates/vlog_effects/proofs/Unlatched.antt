@@ -117,7 +117,7 @@ mutual
   wide-targets size Done z = tt
   wide-targets size (Assign a more) z = wide-both size _ _ (wide-parts size a.is_blocking a.names (parts_of a.left) z.0) (wide-targets size more z.1)
   wide-targets size (Choose at c then_part else_part more) z = wide-both size _ _ (wide-targets size then_part z.1) (wide-both size _ _ (wide-targets size else_part z.2) (wide-targets size more z.3))
-  wide-targets size (Case c arms more) z = wide-both size _ _ (wide-arms size arms z.1) (wide-targets size more z.2)
+  wide-targets size (Case c arms bodies more) z = wide-both size _ _ (wide-arms size arms z.1) (wide-targets size more z.2)
   wide-targets size (Refuse x more) z = wide-targets size more z
 
   wide-arms : (size : ℕ → ℕ) (arms : Arms) → SizedArms size arms → AreWide size (arms_targets arms)

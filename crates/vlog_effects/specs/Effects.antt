@@ -98,7 +98,7 @@ abbrev mutual
   effect Done s = s
   effect (Assign a more) s = effect more (assigned a s)
   effect (Choose at c then_part else_part more) s = effect more (if holds c s.now then effect then_part s else effect else_part s)
-  effect (Case c arms more) s = effect more (arm_effect c arms s)
+  effect (Case c arms bodies more) s = effect more (arm_effect c arms s)
   effect (Refuse x more) s = effect more s
 
   pub arm_effect : Selection → Arms → State → State
@@ -119,7 +119,7 @@ abbrev mutual
   IsBlocking Done = Unit {0}
   IsBlocking (Assign a more) = (a.is_blocking ≡ true) × IsBlocking more
   IsBlocking (Choose at c then_part else_part more) = IsBlocking then_part × IsBlocking else_part × IsBlocking more
-  IsBlocking (Case c arms more) = AreBlocking arms × IsBlocking more
+  IsBlocking (Case c arms bodies more) = AreBlocking arms × IsBlocking more
   IsBlocking (Refuse x more) = IsBlocking more
 
   pub AreBlocking : Arms → Type 0

@@ -46,7 +46,7 @@ abbrev mutual
   covered Done b = b
   covered (Assign a more) b = covered more (either b (parts_cover a.names (parts_of a.left)))
   covered (Choose at c then_part else_part more) b = covered more (all_of (covered then_part b) (covered else_part b))
-  covered (Case c arms more) b = covered more (arms_covered arms b)
+  covered (Case c arms bodies more) b = covered more (arms_covered arms b)
   covered (Refuse x more) b = covered more b
 
   pub arms_covered : Arms → Bits → Bits
@@ -72,7 +72,7 @@ abbrev mutual
   early Done b = no_bits
   early (Assign a more) b = either (either (missed a.names a.right b) (parts_missed a.names (parts_of a.left) b)) (early more (either b (parts_cover a.names (parts_of a.left))))
   early (Choose at c then_part else_part more) b = either (either (missed c.names c.condition b) (either (early then_part b) (early else_part b))) (early more (all_of (covered then_part b) (covered else_part b)))
-  early (Case c arms more) b = either (either (missed c.names c.selector b) (arms_early c arms b)) (early more (arms_covered arms b))
+  early (Case c arms bodies more) b = either (either (missed c.names c.selector b) (arms_early c arms b)) (early more (arms_covered arms b))
   early (Refuse x more) b = early more b
 
   pub arms_early : Selection → Arms → Bits → Bits
@@ -100,7 +100,7 @@ abbrev mutual
   targets Done = []
   targets (Assign a more) = parts_targets a.is_blocking a.names (parts_of a.left) ++ targets more
   targets (Choose at c then_part else_part more) = targets then_part ++ (targets else_part ++ targets more)
-  targets (Case c arms more) = arms_targets arms ++ targets more
+  targets (Case c arms bodies more) = arms_targets arms ++ targets more
   targets (Refuse x more) = targets more
 
   pub arms_targets : Arms → List Target

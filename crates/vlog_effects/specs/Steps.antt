@@ -63,12 +63,13 @@ pub data Flaw : Type 0 where
   Turns : Span → Flaw
 
 mutual
-  -- Statements, one after the other: each stands before what comes after it. A choice is at its `if`.
+  -- Statements, one after the other: each stands before what comes after it. A choice is at its `if`. A case has its arms, and then
+  -- the bodies of all its items in turn, which no run reaches: they are what is looked at where it is refused.
   pub data Steps : Type 0 where
     Done : Steps
     Assign : Assigning → Steps → Steps
     Choose : Span → Test → Steps → Steps → Steps → Steps
-    Case : Selection → Arms → Steps → Steps
+    Case : Selection → Arms → Steps → Steps → Steps
     Refuse : Flaw → Steps → Steps
 
   -- The items of a case in order, each at its first label, and what is done where none matches.
@@ -81,7 +82,7 @@ abbrev pub followed : Steps → Steps → Steps
 followed Done b = b
 followed (Assign a more) b = Assign a (followed more b)
 followed (Choose at c then_part else_part more) b = Choose at c then_part else_part (followed more b)
-followed (Case c arms more) b = Case c arms (followed more b)
+followed (Case c arms bodies more) b = Case c arms bodies (followed more b)
 followed (Refuse x more) b = Refuse x (followed more b)
 
 -- what a statement is in the names that it sees
@@ -276,8 +277,13 @@ labels_of (i ∷ more) = i.labels ++ labels_of more
 abbrev pub selection_of : Names → CaseKind → Expr → List Item → Selection
 selection_of names kind selector items = let xs = selector ∷ labels_of items in record { names = names; kind = kind; selector = selector; labels = labels_of items; width = greatest names xs; is_signed = all_signed names xs }
 
+-- the bodies of all items, those too that are no arms
+abbrev pub bodies_of : List Item → InNames
+bodies_of [] names = Done
+bodies_of (i ∷ more) names = followed (i.body names) (bodies_of more names)
+
 abbrev pub case_steps : CaseKind → Expr → List Item → InNames
-case_steps kind selector items names = let c = selection_of names kind selector items in Case c (chosen_arms c (labelled items) (default_of items)) Done
+case_steps kind selector items names = let c = selection_of names kind selector items in Case c (chosen_arms c (labelled items) (default_of items)) (bodies_of items names) Done
 
 -- Each statement.
 

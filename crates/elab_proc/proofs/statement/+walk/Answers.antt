@@ -13,7 +13,7 @@ use Rattle.elab_proc.specs.Refusals.{AreSized, case_faults, own_faults, labels_i
 use Rattle.elab_proc.specs.declared.turns.Turn.TheVariants.{Ends, GoesOn}
 use Rattle.elab_proc.specs.Turns.{loop_of, IsTurn}
 use Rattle.std.specs.List.{flat_map}
-use Rattle.elab_proc.proofs.StepLemmas.{splits_start, splits_on, splits_end, block_more, case_some, case_none, default_labelled}
+use Rattle.elab_proc.proofs.StepLemmas.{splits_start, splits_on, splits_end, block_more, bodies_more, case_some, case_none, default_labelled}
 use Rattle.elab_proc.proofs.TurnLemmas.{sized_after, some_after, alike_after, put_back, left_more, left_ends, left_none, turn_fails, turn_ends, turn_goes, turn_stops}
 use Rattle.vlog_syntax.specs.declared.expr.Expr.{Expr}
 use Rattle.vlog_meaning.specs.Answers.{least}
@@ -32,8 +32,14 @@ case_refusal-case_size-size-requires t c = these_nil _ _ (least_none (case_fault
 pub case_refusal-items_refusal-requires : goal.case_refusal-items_refusal-requires
 case_refusal-items_refusal-requires t c = (search (rules, the_lemmas), (c.case_size-size.ensures.sized.narrow, c.requires))
 
-pub case_refusal-returns-in-Some-clause-first : goal.case_refusal-returns-in-Some-clause-first
-case_refusal-returns-in-Some-clause-first t c = case_some c.args.walk.now.is_combinational c.args.walk.now.written.now (names_of c.args.scope.now) c.args.kind c.args.selector.now c.args.items.now c.case_fault.result c.in-Some.fault c.case_fault.ensures c.in-Some.is
+pub case_refusal-returns-in_ok-found-in-Some-clause-first : goal.case_refusal-returns-in_ok-found-in-Some-clause-first
+case_refusal-returns-in_ok-found-in-Some-clause-first t c = case_some c.args.walk.now.is_combinational c.args.walk.now.written.now (names_of c.args.scope.now) c.args.kind c.args.selector.now c.args.items.now c.case_fault.result c.in-Some.fault c.in_ok-found-in-Some.found c.earlier.result c.case_fault.ensures c.in-Some.is c.in_ok-found-in-Some.ensures.first c.earlier.ensures
+
+pub bodies_refusal-statement_refusal-requires : goal.bodies_refusal-statement_refusal-requires
+bodies_refusal-statement_refusal-requires t c = (search (rules, the_lemmas), subst AreSized (sym c.loop-item.invariant.1) c.requires)
+
+pub bodies_refusal-loop-item-preserved : goal.bodies_refusal-loop-item-preserved
+bodies_refusal-loop-item-preserved t c = (rw add-one (bodies_more c.args.walk.now.is_combinational c.args.walk.now.written.now (names_of c.args.scope.now) (names_of c.loop-item.scope) c.args.items.now c.loop-item.item-index c.item-item.result c.loop-item.found c.in_ok-statement_refusal.field-0 c.earlier-found.result c.item-item.is (omega arith) c.loop-item.invariant.1 c.loop-item.invariant.0 (rw c.get.ensures at c.in_ok-statement_refusal.ensures.first) c.earlier-found.ensures), c.in_ok-statement_refusal.ensures.kept ∙ c.loop-item.invariant.1)
 
 pub case_refusal-returns-in-None-clause-first : goal.case_refusal-returns-in-None-clause-first
 case_refusal-returns-in-None-clause-first t c = IfOk-weaker c.items_refusal.result _ _ (λ o h. case_none c.args.walk.now.is_combinational c.args.walk.now.written.now (names_of c.args.scope.now) c.args.kind c.args.selector.now c.args.items.now o c.case_fault.result c.case_size-size.result c.case_fault.ensures c.in-None.is c.case_size-size.ensures.size h) c.items_refusal.ensures.first

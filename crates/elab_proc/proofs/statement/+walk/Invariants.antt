@@ -1,13 +1,14 @@
 use Rattle.std.proofs.Common.{◌≡◌, ◌+◌, ◌-◌, ◌*◌, map, take, drop}
 use Rattle.std.specs.Prelude.{IsSome}
 use Rattle.std.specs.List.{flat_map}
+use Rattle.vlog_syntax.specs.declared.stmt.CaseItem.{CaseItem}
 use Rattle.vlog_syntax.specs.declared.stmt.Stmt.{Stmt}
 use Rattle.vlog_syntax.specs.declared.stmt.Stmt.TheViews.{size-Stmt}
 use Rattle.vlog_meaning.specs.Scopes.{Names, names_of}
 use Rattle.vlog_effects.specs.Laws.{item_steps}
 use Rattle.vlog_effects.specs.Steps.{Selection, steps_of, default_of, turns, max_turns}
 use Rattle.elab_proc.specs.Order.{IsFirst}
-use Rattle.elab_proc.specs.Refusals.{step_refusals, AreSized}
+use Rattle.elab_proc.specs.Refusals.{body_in, step_refusals, AreSized}
 use Rattle.elab_proc.specs.Turns.{loop_of, AlikeBut, Splits}
 use Rattle.elab_proc.proofs.StepLemmas.{left_refusals}
 use Rattle.elab_proc.proofs.statement.+walk.Given as goal
@@ -20,6 +21,9 @@ decreases-block_refusal l = 8 * goal.size-block_refusal l + 4
 
 abbrev pub decreases-case_refusal : goal.decreases-case_refusal
 decreases-case_refusal l = 8 * goal.size-case_refusal l + 6
+
+abbrev pub decreases-bodies_refusal : goal.decreases-bodies_refusal
+decreases-bodies_refusal l = 8 * goal.size-bodies_refusal l + 4
 
 abbrev pub decreases-items_refusal : goal.decreases-items_refusal
 decreases-items_refusal l = 8 * goal.size-items_refusal l + 5
@@ -41,6 +45,9 @@ decreases-turn_refusal l = 8 * size-Stmt l.body.now + 3
 
 abbrev pub invariant-block_refusal-loop-stmt : goal.invariant-block_refusal-loop-stmt
 invariant-block_refusal-loop-stmt l = IsFirst (flat_map (λ (s : Stmt). step_refusals l.fn.walk.is_combinational l.fn.walk.written.now (steps_of s (names_of l.fn.scope))) (take l.stmt-index l.fn.body)) l.found × (names_of l.scope ≡ names_of l.fn.scope)
+
+abbrev pub invariant-bodies_refusal-loop-item : goal.invariant-bodies_refusal-loop-item
+invariant-bodies_refusal-loop-item l = IsFirst (flat_map (λ (i : CaseItem). step_refusals l.fn.walk.is_combinational l.fn.walk.written.now (steps_of (body_in i) (names_of l.fn.scope))) (take l.item-index l.fn.items)) l.found × (names_of l.scope ≡ names_of l.fn.scope)
 
 abbrev pub invariant-items_refusal-loop-item : goal.invariant-items_refusal-loop-item
 invariant-items_refusal-loop-item l = ((c : Selection) → c.kind ≡ l.fn.kind → c.width ≡ l.fn.width → c.names ≡ names_of l.fn.scope → Splits (left_refusals l.fn.walk.is_combinational l.fn.walk.written.now c l.fn.items (default_of (map item_steps l.fn.items))) (left_refusals l.fn.walk.is_combinational l.fn.walk.written.now c (drop l.item-index l.fn.items) (default_of (map item_steps l.fn.items))) l.found) × (names_of l.scope ≡ names_of l.fn.scope)

@@ -17,7 +17,8 @@ use Rattle.elab_proc.specs.Turns.{loop_of}
 use Rattle.elab_proc.proofs.TurnLemmas.{sized_after, some_after, alike_after, put_back, turn_goes}
 use Rattle.process_latches.specs.Turning.{IsMarkedTurn, AreArms}
 use Rattle.process_latches.proofs.Adding.{added_none}
-use Rattle.process_latches.proofs.Choosing.{case_marked, case_stopped, arms_start, arms_skip, arms_more, arms_end, last_own, last_none}
+use Rattle.process_latches.proofs.Bodies.{bodies_start, bodies_on, bodies_end, case_stopped}
+use Rattle.process_latches.proofs.Choosing.{case_marked, arms_start, arms_skip, arms_more, arms_end, last_own, last_none}
 use Rattle.process_latches.proofs.Turning.{fails_marked, ends_marked, stops_marked, leads_on, leads_end, leads_none}
 use Rattle.process_latches.proofs.Walking.{continues_start, continues_on, continues_end, block_marked, stmt_case, stmt_loop, stmt_blocking, stmt_nonblocking, stmt_null, stmt_while, stmt_repeat, stmt_forever, stmt_event, stmt_delay, stmt_task, choice_both, choice_one, start_none, start_constant, start_fails, start_goes, start_no_name}
 use Rattle.process_latches.proofs.walk.+walk.Goals as goal
@@ -104,7 +105,19 @@ pub mark_case-mark_arms-requires : goal.mark_case-mark_arms-requires
 mark_case-mark_arms-requires t c = (search (rules, the_lemmas), (subst AreSized (sym c.in_ok-last-in-None.ensures.kept) c.requires, c.in_ok-chosen-in-None.ensures.before))
 
 pub mark_case-returns-in-Some-clause-marked : goal.mark_case-returns-in-Some-clause-marked
-mark_case-returns-in-Some-clause-marked t c = case_stopped (names_of c.args.scope.now) c.args.kind c.args.selector.now c.args.items.now c.case_fault.result c.in-Some.field-0 c.args.marks.now c.stop.new.self c.case_fault.ensures c.in-Some.is c.stop.ensures
+mark_case-returns-in-Some-clause-marked t c = on_ok_weaker c.mark_bodies.result (λ h. case_stopped (names_of c.args.scope.now) c.args.kind c.args.selector.now c.args.items.now c.case_fault.result c.in-Some.field-0 c.args.marks.now c.stop.new.self c.mark_bodies.new.marks c.case_fault.ensures c.in-Some.is c.stop.ensures h) c.mark_bodies.ensures.marked
+
+pub mark_bodies-mark-requires : goal.mark_bodies-mark-requires
+mark_bodies-mark-requires t c = (search (rules, the_lemmas), subst AreSized (sym c.loop-item.invariant.1) c.requires)
+
+pub mark_bodies-loop-item-init : goal.mark_bodies-loop-item-init
+mark_bodies-loop-item-init t c = (bodies_start (names_of c.args.scope.now) c.args.items.now c.args.marks.now, refl)
+
+pub mark_bodies-loop-item-preserved : goal.mark_bodies-loop-item-preserved
+mark_bodies-loop-item-preserved t c = (rw add-one (bodies_on (names_of c.args.scope.now) (names_of c.loop-item.scope) c.args.items.now c.loop-item.item-index c.item-item.result c.args.marks.now c.loop-item.marks c.mark.new.marks c.item-item.is (omega arith) c.loop-item.invariant.1 c.loop-item.invariant.0 (rw c.get.ensures at c.in_ok-mark.ensures.marked)), c.in_ok-mark.ensures.kept ∙ c.loop-item.invariant.1)
+
+pub mark_bodies-returns-clause-marked : goal.mark_bodies-returns-clause-marked
+mark_bodies-returns-clause-marked t c = bodies_end (names_of c.args.scope.now) c.args.items.now c.loop-item.item-index c.args.marks.now c.loop-item.marks (omega arith) c.loop-item.invariant.0 (added_none c.loop-item.marks)
 
 pub mark_case-returns-in_ok-add-in-None-clause-marked : goal.mark_case-returns-in_ok-add-in-None-clause-marked
 mark_case-returns-in_ok-add-in-None-clause-marked t c = case_marked (names_of c.args.scope.now) c.args.kind c.args.selector.now c.args.items.now c.case_fault.result c.in_ok-chosen-in-None.chosen c.args.marks.now c.read.new.self c.add.new.self c.in_ok-last-in-None.last c.in_ok-arms-in-None.arms c.case_fault.ensures c.in-None.is c.in_ok-chosen-in-None.ensures.arms c.in_ok-read-in-None.ensures c.in_ok-last-in-None.ensures.marked (subst (λ (n : Names). AreArms n (labelled (map item_steps (take c.in_ok-chosen-in-None.chosen.before c.args.items.now))) c.in_ok-last-in-None.last c.in_ok-arms-in-None.arms) c.in_ok-last-in-None.ensures.kept c.in_ok-arms-in-None.ensures.marked) c.in_ok-add-in-None.ensures

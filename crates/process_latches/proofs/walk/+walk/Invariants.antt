@@ -6,6 +6,7 @@ use Rattle.vlog_effects.specs.Laws.{item_steps}
 use Rattle.vlog_effects.specs.Steps.{steps_of, labelled}
 use Rattle.elab_proc.specs.Refusals.{AreSized}
 use Rattle.elab_proc.specs.Turns.{loop_of, AlikeBut}
+use Rattle.process_latches.proofs.Bodies.{Continues as Bodies}
 use Rattle.process_latches.proofs.Choosing.{ArmsSoFar}
 use Rattle.process_latches.proofs.Turning.{Leads}
 use Rattle.process_latches.proofs.Walking.{Continues}
@@ -19,6 +20,9 @@ decreases-mark_block l = 8 * goal.size-mark_block l + 4
 
 abbrev pub decreases-mark_case : goal.decreases-mark_case
 decreases-mark_case l = 8 * goal.size-mark_case l + 6
+
+abbrev pub decreases-mark_bodies : goal.decreases-mark_bodies
+decreases-mark_bodies l = 8 * goal.size-mark_bodies l + 4
 
 abbrev pub decreases-mark_last : goal.decreases-mark_last
 decreases-mark_last l = 8 * goal.size-mark_last l + 4
@@ -40,6 +44,9 @@ decreases-mark_turn l = 8 * size-Stmt l.body.now + 3
 
 abbrev pub invariant-mark_block-loop-stmt : goal.invariant-mark_block-loop-stmt
 invariant-mark_block-loop-stmt l = Continues (names_of l.fn.scope) l.fn.body l.stmt-index l.fn.marks l.marks × (names_of l.scope ≡ names_of l.fn.scope)
+
+abbrev pub invariant-mark_bodies-loop-item : goal.invariant-mark_bodies-loop-item
+invariant-mark_bodies-loop-item l = Bodies (names_of l.fn.scope) l.fn.items l.item-index l.fn.marks l.marks × (names_of l.scope ≡ names_of l.fn.scope)
 
 abbrev pub invariant-mark_arms-loop-place : goal.invariant-mark_arms-loop-place
 invariant-mark_arms-loop-place l = ArmsSoFar (names_of l.fn.scope) (labelled (map item_steps (take l.place l.items))) l.fn.last l.met × (names_of l.scope ≡ names_of l.fn.scope) × (l.place ≤ l.fn.before)
