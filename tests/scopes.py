@@ -42,6 +42,13 @@ class Scope:
         self.own[name] = what
         return True
 
+    def inner_name(self, name, place):
+        """A name of an instance or a block, and that it stands already."""
+        if name in self.own:
+            return f" Twice {place}"
+        self.own[name] = ("hidden",)
+        return ""
+
     def new_signal(self, name, kind, direction, has_type):
         width, low, is_signed = kind
         number = len(self.signals)
@@ -254,8 +261,7 @@ def instance_item(rng, source):
 
     def declare(scope):
         for name, place in names:
-            scope.new_name(name, place, ("hidden",))
-        scope.steps.append("item")
+            scope.steps.append(f"instance {name}" + scope.inner_name(name, place))
 
     return declare
 
@@ -279,13 +285,14 @@ def put_block(rng, source):
 
 
 def declare_construct(scope, labels):
-    seen = []
+    seen, taken = [], ""
     for name, place in labels:
         if name not in seen:
-            scope.new_name(name, place, ("hidden",))
+            twice = scope.inner_name(name, place)
+            taken = taken or twice
         seen.append(name)
     scope.constructs += 1
-    scope.steps.append(f"generates {scope.constructs}")
+    scope.steps.append(f"generates {scope.constructs}{taken}")
 
 
 def condition_item(rng, source):

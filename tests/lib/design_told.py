@@ -852,6 +852,55 @@ module top(input a);
 endmodule
 elaborate top
 > Unknown 5:9
+# the name of an instance that stands already comes behind the values that the instance gives
+module sub #(parameter A = 1)(input a);
+endmodule
+module top(input a);
+  wire u;
+  sub #(.B(2)) u(a);
+endmodule
+elaborate top
+> Unknown 5:10
+# and ahead of its connections
+module sub(input a);
+endmodule
+module top(input a);
+  wire u;
+  sub u(.b(a));
+endmodule
+elaborate top
+> Twice 5:7
+# a label that stands already comes behind the condition before it
+module top(input a);
+  wire x;
+  if (nothing) begin : x
+    wire b;
+  end
+endmodule
+elaborate top
+> Unknown 3:7
+# and ahead of what its block holds
+module top(input a);
+  wire x;
+  if (1) begin : x
+    assign b = nothing;
+  end
+endmodule
+elaborate top
+> Twice 3:18
+# what a loop repeats without begin is a block of its own, and what is named in it is named there
+module top(input a, output y);
+  genvar g;
+  wire x;
+  assign x = a;
+  assign y = x;
+  for (g = 0; g < 2; g = g + 1) if (1) begin : x
+    wire b;
+  end
+endmodule
+elaborate top
+step 1
+> outputs 1
 # the first item that is refused counts, whatever stands before it in the text
 module sub(input a, output y);
   assign y = nothing;

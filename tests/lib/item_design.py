@@ -2,7 +2,7 @@
 stand for what they stand for, each at its place."""
 
 from lib.item_exprs import at, constant, integer, is_left
-from lib.item_trees import CONSTRUCTS, Block, ForItem, IfItem, RegionItem, Scope
+from lib.item_trees import CONSTRUCTS, Block, ForItem, IfItem, RegionItem, Scope, arm_labels
 
 
 class Design:
@@ -22,13 +22,13 @@ class Design:
             if isinstance(item, RegionItem):
                 self.declare_items(scope, item.items)
             elif isinstance(item, CONSTRUCTS):
-                seen = []
+                seen, taken = [], []
                 for label, place in item.labels():
-                    if label not in seen:
-                        scope.plain_name(label, place, ("hidden", 1, False, "inside"))
+                    if label not in seen and scope.inner_name(label):
+                        taken.append((label, place))
                     seen.append(label)
                 scope.constructs += 1
-                scope.steps.append(("generates", scope.constructs, item))
+                scope.steps.append(("generates", scope.constructs, item, taken[:1]))
             else:
                 item.declare(scope)
 
@@ -58,13 +58,20 @@ class Design:
         for step in scope.steps:
             if step[0] == "item":
                 self.list(step[1])
-            elif step[0] == "instances":
-                for one, place in zip(step[1].instances, step[1].places):
-                    self.instance(scope, step[1], one, place)
+            elif step[0] == "instance":
+                self.instance(scope, *step[1:])
             else:
-                self.construct(scope, step[1], step[2])
+                self.construct(scope, *step[1:])
 
-    def instance(self, scope, item, one, place):
+    def twice(self, place):
+        self.list(f"refuses declaration Twice {at(place)}")
+
+    def tell(self, taken):
+        """A label that stands already, which is not told yet."""
+        for _, place in taken:
+            self.twice(place)
+
+    def instance(self, scope, item, one, place, is_twice):
         module = self.module(item.module)
         if module is None:
             return self.list(f"refuses Unknown {at(item.at)}")
@@ -76,6 +83,8 @@ class Design:
         faults += inner.value_faults
         if faults:
             self.list(f"refuses parameter {min(faults)[1]} {at(min(faults)[0])}")
+        if is_twice:
+            self.twice(place)
         self.connect(scope, inner, module, one, place)
         self.walk(inner)
 
@@ -128,16 +137,20 @@ class Design:
         elif port and value:
             self.list(f"leaves {scope.prefix}@{at(value.at)} = {port[0]}" if is_left(value) else f"refuses PortMismatch {at(value.at)}")
 
-    def construct(self, scope, number, item):
+    def construct(self, scope, number, item, taken):
         if isinstance(item, ForItem):
-            return self.loop(scope, number, item)
+            return self.loop(scope, number, item, taken)
         value, fault = constant(item.condition, scope)
         if fault:
             return self.list(f"refuses constant {fault[1]} {at(fault[0])}")
         arm = item.first if value[2] else item.second
+        if not value[2] and [label for label in taken if label in arm_labels(item.first)]:
+            self.tell(taken)
+            taken = []
         if isinstance(arm, IfItem):
-            self.construct(scope, number, arm)
-        elif arm is not None:
+            return self.construct(scope, number, arm, taken)
+        self.tell(taken)
+        if arm is not None:
             self.block(scope, self.block_name(scope, number, arm), arm, {})
 
     def block_name(self, scope, number, arm):
@@ -158,7 +171,7 @@ class Design:
         what = scope.visible(name)
         return what[3] if what and what[0] == "hidden" else what[0] if what else None
 
-    def loop(self, scope, number, item):
+    def loop(self, scope, number, item, taken):
         what = self.genvar(scope, item.name)
         if what != "genvar":
             return self.list(f"refuses {'NotConstant' if what == 'signal' else 'Unknown'} {at(item.at)}")
@@ -174,9 +187,11 @@ class Design:
             if fault:
                 return self.list(f"refuses constant {fault[1]} {at(fault[0])}")
             if value[2] == 0:
-                return None
+                return self.tell(taken)
             if count == 4096:
                 return self.list("refuses LoopTurns")
+            self.tell(taken)
+            taken = []
             self.block(scope, f"{name}[{integer(bits, 32)}]", item.body, dict(own))
             if item.step_name != item.name:
                 what = self.genvar(scope, item.step_name)

@@ -346,6 +346,87 @@ flatten top
 > declares y.c
 > refuses declaration Twice 5:16
 > declares y.d
+# the name of an instance that stands already is told behind its module and its values, and ahead of its connections
+module sub #(parameter A = 1)(input a); wire w; endmodule
+module top;
+wire u;
+sub #(.B(2)) u(.b(u));
+none v(), u();
+sub u(), u();
+endmodule
+flatten top
+> signal u[0+:1]t
+> signal u.a[0+:1]i
+> signal u.w[0+:1]t
+> signal u.a[0+:1]i
+> signal u.w[0+:1]t
+> signal u.a[0+:1]i
+> signal u.w[0+:1]t
+> declares u
+> refuses parameter Unknown 4:8
+> refuses declaration Twice 4:14
+> refuses PortMismatch 4:17
+> open u.a
+> declares u.a
+> declares u.w
+> refuses Unknown 5:1
+> refuses Unknown 5:1
+> refuses declaration Twice 6:5
+> open u.a
+> declares u.a
+> declares u.w
+> refuses declaration Twice 6:10
+> open u.a
+> declares u.a
+> declares u.w
+# a label that stands already is told behind the conditions before it, and ahead of those behind it and of what the block holds
+module top;
+wire x;
+if (y) begin : x wire a; end
+if (0) begin : x wire a; end else if (y) begin wire b; end
+if (0) begin wire a; end else if (y) begin : x wire b; end
+if (1) begin wire c; end else begin : x wire d; end
+if (0) begin : x wire e; end
+if (0) wire f; else if (1) ; else begin : x wire g; end
+endmodule
+flatten top
+> signal x[0+:1]t
+> signal genblk4.c[0+:1]t
+> declares x
+> refuses constant Unknown 3:5
+> refuses declaration Twice 4:16
+> refuses constant Unknown 4:39
+> refuses constant Unknown 5:35
+> refuses declaration Twice 6:39
+> declares genblk4.c
+> refuses declaration Twice 7:16
+> refuses declaration Twice 8:43
+# that of a loop is told behind the genvar, the start and the first condition, once, and where there is no turn; what a loop repeats
+# without begin is a block without a label, and what is named in it is named there
+module top;
+genvar i;
+wire x;
+for (j = 0; j < 2; j = j + 1) begin : x wire a; end
+for (i = y; i < 2; i = i + 1) begin : x wire a; end
+for (i = 0; i < y; i = i + 1) begin : x wire a; end
+for (i = 0; i < 2; i = i + 1) begin : x wire a; end
+for (i = 0; i < 0; i = i + 1) begin : x wire a; end
+for (i = 0; i < 1; i = i + 1) if (1) begin : x wire b; end
+endmodule
+flatten top
+> signal x[0+:1]t
+> signal x[0].a[0+:1]t
+> signal x[1].a[0+:1]t
+> signal genblk6[0].x.b[0+:1]t
+> declares x
+> refuses Unknown 4:6
+> refuses constant Unknown 5:10
+> refuses constant Unknown 6:17
+> refuses declaration Twice 7:39
+> declares x[0].a
+> declares x[1].a
+> refuses declaration Twice 8:39
+> declares genblk6[0].x.b
 # conditions that are no constants
 module top #(parameter N = 0)(input a);
 if (a) wire b;

@@ -23,6 +23,12 @@ class Scope:
         else:
             self.own[name] = what
 
+    def inner_name(self, name):
+        """A name of an instance or a block, and whether it stands already."""
+        is_twice = name in self.own
+        self.own.setdefault(name, ("hidden", 1, False, "inside"))
+        return is_twice
+
     def signal(self, name, kind, direction, has_type):
         width, low, signed = kind
         number = len(self.design.signals)
@@ -257,9 +263,8 @@ class InstanceItem:
         text.put(")")
 
     def declare(self, scope):
-        for (name, _, _), place in zip(self.instances, self.places):
-            scope.plain_name(name, place, ("hidden", 1, False, "inside"))
-        scope.steps.append(("instances", self))
+        for one, place in zip(self.instances, self.places):
+            scope.steps.append(("instance", self, one, place, scope.inner_name(one[0])))
 
 
 class Block:
@@ -319,7 +324,7 @@ class ForItem:
         write_arm(text, self.body, depth)
 
     def labels(self):
-        return arm_labels(self.body)
+        return arm_labels(self.body) if isinstance(self.body, Block) else []
 
 
 class RegionItem:

@@ -1,20 +1,21 @@
-//! One instance: its module is opened, and what is wrong in the values of its parameters and its connections are listed.
+//! One instance: its module is opened, and what is wrong in the values of its parameters, a name that stands already, and its
+//! connections are listed.
 ghost use Rattle.std.specs.Prelude.{◌≡◌, option_to_list, IfOk};
 ghost use Rattle.vlog_meaning.specs.Scopes.{names_of};
 ghost use Rattle.flat_scopes.specs.Views.{opened_of};
 ghost use Rattle.flat_instances.specs.Places.{place_of};
-ghost use Rattle.flat_instances.specs.Instances.{inner_prefix, fault_item, listed_of, OpensInstance};
+ghost use Rattle.flat_instances.specs.Instances.{inner_prefix, fault_item, name_item, own_faults, listed_of, OpensInstance};
 
 use crate::error::{ItemError, ParameterError};
 use crate::giving::{Giving, first_fault, give_values, parameters_of};
 use crate::item::FlatItem;
-use crate::joint::{Joint, connect};
+use crate::joint::{Joint, add, connect};
 use crate::place::Place;
-use flat_scopes::{Head, NameList, Opening, Signal, ports_of, wires_of};
+use flat_scopes::{Head, NameList, Opening, Placing, Refusal, Signal, ports_of, wires_of};
 use mcy_base::Text;
 use std::alloc::{AllocError, Global};
 use vlog_meaning::Scope;
-use vlog_syntax::{Instance, Listed, Module, ParameterValues};
+use vlog_syntax::{Listed, Module};
 
 /// An instance whose module was opened: what stands before the names inside, the scope, and what the instance itself lists.
 #[derive(Drop)]
@@ -46,6 +47,31 @@ fn fault_items<'a>(
     Ok(items)
 }
 
+/// That the name of an instance stands already.
+fn name_item<'a>(placing: &Placing<'_>) -> Option<FlatItem<'a>>
+    ensures { result ≡ name_item placing.now.is_twice placing.now.instance.name }
+{
+    if !placing.is_twice {
+        return None;
+    }
+    let refusal = Refusal::Twice(placing.instance.get().name.span);
+    Some(FlatItem::Refuses(ItemError::Declaration(refusal)))
+}
+
+/// What is wrong in an instance ahead of its connections.
+fn own_faults<'a>(
+    alloc: Global,
+    child: &Opening<'_>,
+    refused: &[ParameterError],
+    placing: &Placing<'_>,
+) -> Result<Vec<FlatItem<'a>>, AllocError>
+    ensures { IfOk result (λ items. items.items ≡ own_faults refused.now placing.now (opened_of child.now)) }
+{
+    let mut items = fault_items(alloc, first_fault(refused, child.steps()))?;
+    add(&mut items, name_item(placing))?;
+    Ok(items)
+}
+
 /// What an instance lists itself.
 fn instance_items<'a>(
     alloc: Global,
@@ -53,12 +79,12 @@ fn instance_items<'a>(
     child: &Opening<'a>,
     head: &Head<'a>,
     refused: &[ParameterError],
-    instance: &'a Instance,
+    placing: &Placing<'a>,
 ) -> Result<Vec<FlatItem<'a>>, AllocError>
-    ensures { IfOk result (λ items. items.items ≡ listed_of joint.outside joint.inside refused.now head.now.ports instance.now (opened_of child.now)) }
+    ensures { IfOk result (λ items. items.items ≡ listed_of joint.outside joint.inside refused.now head.now.ports placing.now (opened_of child.now)) }
 {
-    let mut items = fault_items(alloc, first_fault(refused, child.steps()))?;
-    let wires = wires_of(alloc, &head.ports, instance)?;
+    let mut items = own_faults(alloc, child, refused, placing)?;
+    let wires = wires_of(alloc, &head.ports, placing.instance.get())?;
     let ports = head.ports.as_slice();
     let mut joined = connect(alloc, joint, child, wires.as_slice(), ports)?;
     items.append(&mut joined)?;
@@ -73,15 +99,15 @@ pub fn open_instance<'a>(
     place: &Place,
     signals: Vec<Signal>,
     declaration: &'a Module,
-    values: &'a ParameterValues,
-    instance: &'a Instance,
+    placing: &Placing<'a>,
 ) -> Result<Entered<'a>, AllocError>
-    ensures prefix { IfOk result (λ entered. entered.prefix ≡ inner_prefix (place_of place.now).prefix instance.now.name.name) }
-    ensures opens { IfOk result (λ entered. OpensInstance (place_of place.now) joint.outside joint.inside declaration.now values.now instance.now signals.items (opened_of entered.child) entered.items.items) }
+    ensures prefix { IfOk result (λ entered. entered.prefix ≡ inner_prefix (place_of place.now).prefix placing.now.instance.name.name) }
+    ensures opens { IfOk result (λ entered. OpensInstance (place_of place.now) joint.outside joint.inside declaration.now placing.now signals.items (opened_of entered.child) entered.items.items) }
 {
-    let prefix = inner_prefix(alloc, place.prefix.as_str(), instance.name.name.as_str())?;
+    let name = placing.instance.get().name.name.as_str();
+    let prefix = inner_prefix(alloc, place.prefix.as_str(), name)?;
     let known = parameters_of(alloc, declaration)?;
-    let giving = give_values(alloc, known.as_slice(), values)?;
+    let giving = give_values(alloc, known.as_slice(), placing.values.get())?;
     let Giving { given, refused } = giving;
     let ports = ports_of(alloc, &declaration.ports)?;
     let head = Head {
@@ -91,7 +117,7 @@ pub fn open_instance<'a>(
     };
     let mut child = Opening::new(alloc, Scope::new(alloc), signals);
     child.open_module(&head, &place.scope, declaration)?;
-    let items = instance_items(alloc, joint, &child, &head, refused.as_slice(), instance)?;
+    let items = instance_items(alloc, joint, &child, &head, refused.as_slice(), placing)?;
     Ok(Entered {
         prefix: head.prefix,
         child,

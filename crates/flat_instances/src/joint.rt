@@ -65,7 +65,10 @@ fn wire_item<'a>(joint: Joint, child: &Opening<'a>, wire: &Wire<'a>) -> Option<F
 }
 
 /// Lists an item, if there is one.
-fn add<'a>(items: &mut Vec<FlatItem<'a>>, item: Option<FlatItem<'a>>) -> Result<(), AllocError>
+pub(crate) fn add<'a>(
+    items: &mut Vec<FlatItem<'a>>,
+    item: Option<FlatItem<'a>>,
+) -> Result<(), AllocError>
     ensures { IfOk result (λ done. items.new.items ≡ items.old.items ++ option_to_list item.entry) }
 {
     if let Some(item) = item {

@@ -5,16 +5,15 @@ use Rattle.mcy_base.specs.declared.span.Span.{Span}
 use Rattle.vlog_syntax.specs.declared.expr.Expr.{Expr}
 use Rattle.vlog_syntax.specs.declared.identifier.Identifier.{Identifier}
 use Rattle.vlog_syntax.specs.declared.item.GenerateLoop.{GenerateLoop}
-use Rattle.vlog_syntax.specs.declared.item.Instance.{Instance}
 use Rattle.vlog_syntax.specs.declared.item.Item.{Item, out-Item}
 use Rattle.vlog_syntax.specs.declared.item.Item.TheVariants as i
-use Rattle.vlog_syntax.specs.declared.item.ParameterValues.{ParameterValues}
 use Rattle.vlog_syntax.specs.declared.module.Module.{Module}
 use Rattle.vlog_meaning.specs.Scopes.{Names}
 use Rattle.flat_scopes.specs.declared.opening.Step.{Step}
 use Rattle.flat_scopes.specs.declared.signal.Signal.{Signal}
 use Rattle.flat_scopes.specs.declared.signal.What.{What}
 use Rattle.flat_scopes.specs.declared.opening.Head.{Head}
+use Rattle.flat_scopes.specs.declared.opening.Placing.{Placing}
 use Rattle.flat_scopes.specs.Openings.{Opened, unopened}
 use Rattle.flat_scopes.specs.Opens.{Opens}
 use Rattle.flat_instances.specs.declared.error.ItemError.{ItemError}
@@ -25,7 +24,7 @@ use Rattle.flat_items.specs.declared.task.Task.{Task}
 use Rattle.flat_items.specs.declared.task.Task.TheVariants as t
 use Rattle.flat_items.specs.declared.task.Turn.{Turn}
 use Rattle.flat_items.specs.declared.turn.Outcome.TheVariants.{Goes, Ends, Refused}
-use Rattle.flat_items.specs.Flattened.{Flat, block_head, block_items, add_all, entered, is_full, tasks_of, step_items, step_tasks, module_at, placed_in, condition_in, integer_in, chosen_tasks, label_of, IsBlockName, OpensBlock, Sees, genvar_fault, turn_start}
+use Rattle.flat_items.specs.Flattened.{Flat, block_head, block_items, add_all, entered, is_full, tasks_of, step_items, step_tasks, module_at, placed_in, condition_in, integer_in, taken_tasks, chosen_tasks, label_of, IsBlockName, OpensBlock, Sees, genvar_fault, turn_start}
 use Rattle.flat_instances.specs.Instances.{inner_prefix, no_names, OpensInstance}
 use Rattle.flat_instances.specs.declared.place.Place.{Place as Kept}
 use Rattle.flat_instances.specs.Places.{Place, place_of}
@@ -44,48 +43,48 @@ place_got (x ∷ xs) (suc k) p h = place_got xs k p h
 
 -- Generate constructs.
 
-module _ (flat : Flat) (k n : ℕ) (tasks : List Task) where
+module _ (flat : Flat) (k n : ℕ) (tasks : List Task) (taken : Option Identifier) where
   pub condition_chooses : (item first a : Item) (second : Option Item) (at : Span) (c d : Expr) (place : Place) (value : Result ℕ ItemError)
-      → item ≡ i.IfGenerate at c first second → slice_get flat.places k ≡ Some place → d ≡ c → a ≡ first → value ≡ condition_in place.names d → tasks ≡ chosen_tasks k n value a second
-      → Fits (t.Generates k n item) flat tasks flat
+      → item ≡ i.IfGenerate at c first second → slice_get flat.places k ≡ Some place → d ≡ c → a ≡ first → value ≡ condition_in place.names d → tasks ≡ chosen_tasks k n value a second taken
+      → Fits (t.Generates k n item taken) flat tasks flat
   condition_chooses item first a second at c d place value is got dc af v e ms =
-      let by_value = λ (x : Result ℕ ItemError). chosen_tasks k n x a second in
-      let by_expr = λ (x : Expr). chosen_tasks k n (condition_in place.names x) a second in
-      let by_first = λ (x : Item). chosen_tasks k n (condition_in place.names c) x second in
-      let all : tasks ≡ chosen_tasks k n (condition_in place.names c) first second = e ∙ ap by_value v ∙ ap by_expr dc ∙ ap by_first af in
-      subst (λ (x : Item). Replaces ms (t.Generates k n x) flat tasks flat) (sym is) (subst (λ (x : List Task). Replaces ms (t.Generates k n (i.IfGenerate at c first second)) flat x flat) (sym all) (condition k n at c first second flat place got))
+      let by_value = λ (x : Result ℕ ItemError). chosen_tasks k n x a second taken in
+      let by_expr = λ (x : Expr). chosen_tasks k n (condition_in place.names x) a second taken in
+      let by_first = λ (x : Item). chosen_tasks k n (condition_in place.names c) x second taken in
+      let all : tasks ≡ chosen_tasks k n (condition_in place.names c) first second taken = e ∙ ap by_value v ∙ ap by_expr dc ∙ ap by_first af in
+      subst (λ (x : Item). Replaces ms (t.Generates k n x taken) flat tasks flat) (sym is) (subst (λ (x : List Task). Replaces ms (t.Generates k n (i.IfGenerate at c first second) taken) flat x flat) (sym all) (condition k n at c first second taken flat place got))
 
-  pub loop_replaced : (item body b : Item) (head : GenerateLoop) → item ≡ i.LoopGenerate head body → b ≡ body → Fits (t.Generates k n (i.LoopGenerate head b)) flat tasks flat → Fits (t.Generates k n item) flat tasks flat
-  loop_replaced item body b head is e goes ms = subst (λ (x : Item). Replaces ms (t.Generates k n x) flat tasks flat) (sym is) (subst (λ (x : Item). Replaces ms (t.Generates k n (i.LoopGenerate head x)) flat tasks flat) e (goes ms))
+  pub loop_replaced : (item body b : Item) (head : GenerateLoop) → item ≡ i.LoopGenerate head body → b ≡ body → Fits (t.Generates k n (i.LoopGenerate head b) taken) flat tasks flat → Fits (t.Generates k n item taken) flat tasks flat
+  loop_replaced item body b head is e goes ms = subst (λ (x : Item). Replaces ms (t.Generates k n x taken) flat tasks flat) (sym is) (subst (λ (x : Item). Replaces ms (t.Generates k n (i.LoopGenerate head x) taken) flat tasks flat) e (goes ms))
 
-  pub nothing_left : (item : Item) → is_construct_form (out-Item item) ≡ false → tasks ≡ [] → Fits (t.Generates k n item) flat tasks flat
-  nothing_left item none e ms = subst (λ (x : List Task). Replaces ms (t.Generates k n item) flat x flat) (sym e) (no_construct k n item flat none)
+  pub nothing_left : (item : Item) → is_construct_form (out-Item item) ≡ false → tasks ≡ [] → Fits (t.Generates k n item taken) flat tasks flat
+  nothing_left item none e ms = subst (λ (x : List Task). Replaces ms (t.Generates k n item taken) flat x flat) (sym e) (no_construct k n item taken flat none)
 
   -- loops
   module _ (head : GenerateLoop) (body : Item) (what : Option What) (sees : Sees flat.places head.name.name k what) where
-    pub genvar_refused : (error : ItemError) (fault : Option ItemError) → fault ≡ genvar_fault what head.name.span → fault ≡ Some error → tasks ≡ t.Refuses error ∷ [] → Fits (t.Generates k n (i.LoopGenerate head body)) flat tasks flat
-    genvar_refused error fault f g e ms = subst (λ (x : List Task). Replaces ms (t.Generates k n (i.LoopGenerate head body)) flat x flat) (sym e) (bad_genvar k n head body flat what error sees (sym f ∙ g))
+    pub genvar_refused : (error : ItemError) (fault : Option ItemError) → fault ≡ genvar_fault what head.name.span → fault ≡ Some error → tasks ≡ t.Refuses error ∷ [] → Fits (t.Generates k n (i.LoopGenerate head body) taken) flat tasks flat
+    genvar_refused error fault f g e ms = subst (λ (x : List Task). Replaces ms (t.Generates k n (i.LoopGenerate head body) taken) flat x flat) (sym e) (bad_genvar k n head body taken flat what error sees (sym f ∙ g))
 
     pub start_refused : (fault : Option ItemError) (place : Place) (error : ItemError) (start : Expr) (value : Result ℕ ItemError) → fault ≡ genvar_fault what head.name.span → fault ≡ None → slice_get flat.places k ≡ Some place → start ≡ head.start → value ≡ integer_in place.names start → value ≡ Err error → tasks ≡ t.Refuses error ∷ []
-        → Fits (t.Generates k n (i.LoopGenerate head body)) flat tasks flat
-    start_refused fault place error start value f g got s v w e ms = subst (λ (x : List Task). Replaces ms (t.Generates k n (i.LoopGenerate head body)) flat x flat) (sym e) (bad_start k n head body flat what place error sees (sym f ∙ g) got (sym (ap (integer_in place.names) s) ∙ sym v ∙ w))
+        → Fits (t.Generates k n (i.LoopGenerate head body) taken) flat tasks flat
+    start_refused fault place error start value f g got s v w e ms = subst (λ (x : List Task). Replaces ms (t.Generates k n (i.LoopGenerate head body) taken) flat x flat) (sym e) (bad_start k n head body taken flat what place error sees (sym f ∙ g) got (sym (ap (integer_in place.names) s) ∙ sym v ∙ w))
 
-    pub loop_starts : (fault : Option ItemError) (place : Place) (number : ℕ) (name : List ℕ) (start : Expr) (value : Result ℕ ItemError) → fault ≡ genvar_fault what head.name.span → fault ≡ None → slice_get flat.places k ≡ Some place → start ≡ head.start → value ≡ integer_in place.names start → value ≡ Ok number → IsBlockName place.own n (label_of body) name → tasks ≡ t.Turn k (first_turn name head body number) ∷ []
-        → Fits (t.Generates k n (i.LoopGenerate head body)) flat tasks flat
-    loop_starts fault place number name start value f g got s v w named e ms = subst (λ (x : List Task). Replaces ms (t.Generates k n (i.LoopGenerate head body)) flat x flat) (sym e) (loop k n head body flat what place number name sees (sym f ∙ g) got (sym (ap (integer_in place.names) s) ∙ sym v ∙ w) named)
+    pub loop_starts : (fault : Option ItemError) (place : Place) (number : ℕ) (name : List ℕ) (start : Expr) (value : Result ℕ ItemError) → fault ≡ genvar_fault what head.name.span → fault ≡ None → slice_get flat.places k ≡ Some place → start ≡ head.start → value ≡ integer_in place.names start → value ≡ Ok number → IsBlockName place.own n (label_of body) name → tasks ≡ t.Turn k (first_turn name head body number taken) ∷ []
+        → Fits (t.Generates k n (i.LoopGenerate head body) taken) flat tasks flat
+    loop_starts fault place number name start value f g got s v w named e ms = subst (λ (x : List Task). Replaces ms (t.Generates k n (i.LoopGenerate head body) taken) flat x flat) (sym e) (loop k n head body taken flat what place number name sees (sym f ∙ g) got (sym (ap (integer_in place.names) s) ∙ sym v ∙ w) named)
 
 -- What a condition chose.
-module _ (flat : Flat) (k n : ℕ) (tasks : List Task) (item : Item) where
-  pub null_left : (at : Span) → item ≡ i.NullGenerate at → tasks ≡ [] → Fits (t.Arm k n item) flat tasks flat
-  null_left at is e ms = subst (λ (x : Item). Replaces ms (t.Arm k n x) flat tasks flat) (sym is) (subst (λ (x : List Task). Replaces ms (t.Arm k n (i.NullGenerate at)) flat x flat) (sym e) (arm_null k n at flat))
+module _ (flat : Flat) (k n : ℕ) (tasks : List Task) (item : Item) (taken : Option Identifier) where
+  pub null_left : (at : Span) → item ≡ i.NullGenerate at → tasks ≡ taken_tasks taken → Fits (t.Arm k n item taken) flat tasks flat
+  null_left at is e ms = subst (λ (x : Item). Replaces ms (t.Arm k n x taken) flat tasks flat) (sym is) (subst (λ (x : List Task). Replaces ms (t.Arm k n (i.NullGenerate at) taken) flat x flat) (sym e) (arm_null k n at taken flat))
 
-  pub condition_left : (at : Span) (c : Expr) (first : Item) (second : Option Item) (x : Item) → item ≡ i.IfGenerate at c first second → x ≡ item → tasks ≡ t.Generates k n x ∷ [] → Fits (t.Arm k n item) flat tasks flat
+  pub condition_left : (at : Span) (c : Expr) (first : Item) (second : Option Item) (x : Item) → item ≡ i.IfGenerate at c first second → x ≡ item → tasks ≡ t.Generates k n x taken ∷ [] → Fits (t.Arm k n item taken) flat tasks flat
   condition_left at c first second x is xi e ms =
-      let all : tasks ≡ t.Generates k n (i.IfGenerate at c first second) ∷ [] = e ∙ ap (λ (y : Item). t.Generates k n y ∷ []) (xi ∙ is) in
-      subst (λ (y : Item). Replaces ms (t.Arm k n y) flat tasks flat) (sym is) (subst (λ (y : List Task). Replaces ms (t.Arm k n (i.IfGenerate at c first second)) flat y flat) (sym all) (arm_condition k n at c first second flat))
+      let all : tasks ≡ t.Generates k n (i.IfGenerate at c first second) taken ∷ [] = e ∙ ap (λ (y : Item). t.Generates k n y taken ∷ []) (xi ∙ is) in
+      subst (λ (y : Item). Replaces ms (t.Arm k n y taken) flat tasks flat) (sym is) (subst (λ (y : List Task). Replaces ms (t.Arm k n (i.IfGenerate at c first second) taken) flat y flat) (sym all) (arm_condition k n at c first second taken flat))
 
-  pub block_refused : is_block_form (out-Item item) ≡ true → is_full flat ≡ true → tasks ≡ t.Refuses Scopes ∷ [] → Fits (t.Arm k n item) flat tasks flat
-  block_refused form full e ms = subst (λ (x : List Task). Replaces ms (t.Arm k n item) flat x flat) (sym e) (arm_full k n item flat form full)
+  pub block_refused : is_block_form (out-Item item) ≡ true → is_full flat ≡ true → tasks ≡ t.Refuses Scopes ∷ [] → Fits (t.Arm k n item taken) flat tasks flat
+  block_refused form full e ms = subst (λ (x : List Task). Replaces ms (t.Arm k n item taken) flat x flat) (sym e) (arm_full k n item taken flat form full)
 
 -- the same with the signals taken away meanwhile
 abbrev pub emptied : Flat → Flat
@@ -94,16 +93,17 @@ emptied flat = record flat { signals = [] }
 same_block : (flat : Flat) (k : ℕ) (place : Place) (name : List ℕ) (start : Opened) (item : Item) (tasks : List Task) (next : Flat) → OpensBlock k place name start item (emptied flat) tasks next → OpensBlock k place name start item flat tasks next
 same_block flat k place name start item tasks next b = record { child = b.child; opens = b.opens; listed = b.listed; enters = b.enters }
 
-pub block_opens : (flat mid next : Flat) (k n : ℕ) (item : Item) (place : Place) (name : List ℕ) (tasks : List Task) (child : Opened) (names : Names) (signals : List Signal)
+pub block_opens : (flat mid next : Flat) (k n : ℕ) (item : Item) (taken : Option Identifier) (place : Place) (name : List ℕ) (ahead tasks all : List Task) (child : Opened) (names : Names) (signals : List Signal)
     → is_block_form (out-Item item) ≡ true → is_full flat ≡ false → signals ≡ flat.signals → mid ≡ emptied flat → slice_get mid.places k ≡ Some place → IsBlockName place.own n (label_of item) name
-    → names ≡ place.names → child ≡ unopened names signals → ((p : Place) → slice_get mid.places k ≡ Some p → OpensBlock k p name child item mid tasks next)
-    → Fits (t.Arm k n item) flat tasks next
-block_opens flat mid next k n item place name tasks child names signals form room s m got named ns c opens ms =
+    → names ≡ place.names → child ≡ unopened names signals → ((p : Place) → slice_get mid.places k ≡ Some p → OpensBlock k p name child item mid tasks next) → ahead ≡ taken_tasks taken → all ≡ ahead ++ tasks
+    → Fits (t.Arm k n item taken) flat all next
+block_opens flat mid next k n item taken place name ahead tasks all child names signals form room s m got named ns c opens told both ms =
     let got_flat : slice_get flat.places k ≡ Some place = subst (λ (x : Flat). slice_get x.places k ≡ Some place) m got in
     let start : child ≡ unopened place.names flat.signals = c ∙ ap (λ (x : Names). unopened x signals) ns ∙ ap (λ (x : List Signal). unopened place.names x) s in
     let here : OpensBlock k place name child item (emptied flat) tasks next = subst (λ (x : Flat). OpensBlock k place name child item x tasks next) m (opens place got) in
     let from : OpensBlock k place name (unopened place.names flat.signals) item (emptied flat) tasks next = subst (λ (x : Opened). OpensBlock k place name x item (emptied flat) tasks next) start here in
-    arm_block k n item flat next place name tasks form room got_flat named (same_block flat k place name (unopened place.names flat.signals) item tasks next from)
+    let whole : all ≡ taken_tasks taken ++ tasks = both ∙ ap (λ (x : List Task). x ++ tasks) told in
+    subst (λ (x : List Task). Replaces ms (t.Arm k n item taken) flat x next) (sym whole) (arm_block k n item taken flat next place name tasks form room got_flat named (same_block flat k place name (unopened place.names flat.signals) item tasks next from))
 
 -- Turns.
 
@@ -144,7 +144,7 @@ module _ (flat mid next : Flat) (k : ℕ) (x : Turn) (place : Place) (tasks : Li
   given_back : Tested → next ≡ record mid { signals = child.signals } → next ≡ flat
   given_back h back = back ∙ ap (λ (y : Flat). record y { signals = child.signals }) h.taken ∙ ap (λ (y : Opened). record flat { signals = y.signals }) (start_is h)
 
-  pub turn_ends : Tested → outcome full value x.count ≡ Ends → next ≡ record mid { signals = child.signals } → tasks ≡ [] → Fits (t.Turn k x) flat tasks next
+  pub turn_ends : Tested → outcome full value x.count ≡ Ends → next ≡ record mid { signals = child.signals } → tasks ≡ taken_tasks x.taken → Fits (t.Turn k x) flat tasks next
   turn_ends h o back e ms =
       subst (λ (y : Flat). Replaces ms (t.Turn k x) flat tasks y) (sym (given_back h back)) (subst (λ (y : List Task). Replaces ms (t.Turn k x) flat y flat) (sym e) (turn_ended k x flat place (there h) (outcome_is h ∙ o)))
 
@@ -162,26 +162,30 @@ same_place : (o : Option Place) (p q : Place) → o ≡ Some p → o ≡ Some q 
 unfolding pick
 same_place o p q h g = let e : Some p ≡ Some q = sym h ∙ g in ap (pick p) e
 
-pub instance_places : (ms : List Module) (n k : ℕ) (values : ParameterValues) (instance : Instance) (flat mid mid2 next : Flat) (tasks : List Task) (place : Place) (m : Module) (child : Opened) (items : List FlatItem) (signals : List Signal) (prefix : List ℕ) (within : List ℕ) (inside : ℕ)
+pub instance_places : (ms : List Module) (n k : ℕ) (x : Placing) (flat mid mid2 next : Flat) (tasks : List Task) (place : Place) (m : Module) (child : Opened) (items : List FlatItem) (signals : List Signal) (prefix : List ℕ) (within : List ℕ) (inside : ℕ)
     → inside ≡ length flat.places → signals ≡ flat.signals → mid ≡ emptied flat → slice_get mid.places k ≡ Some place → slice_get ms n ≡ Some m → within ≡ n ∷ place.within
-    → OpensInstance place k inside m values instance signals child items → prefix ≡ inner_prefix place.prefix instance.name.name → mid2 ≡ add_all mid items
+    → OpensInstance place k inside m x signals child items → prefix ≡ inner_prefix place.prefix x.instance.name.name → mid2 ≡ add_all mid items
     → tasks ≡ tasks_of (length mid2.places) child.steps → next ≡ entered mid2 prefix None within child
-    → (p : Place) → slice_get flat.places k ≡ Some p → PlacesInstance ms n k p values instance flat tasks next
-instance_places ms n k values instance flat mid mid2 next tasks place m child items signals prefix within inside at s f got numbered w opens pre l ts nx p found =
-    let got_flat : slice_get flat.places k ≡ Some place = subst (λ (x : Flat). slice_get x.places k ≡ Some place) f got in
-    let second : mid2 ≡ add_all (emptied flat) items = l ∙ ap (λ (x : Flat). add_all x items) f in
-    let opened : OpensInstance place k (length flat.places) m values instance flat.signals child items = subst (λ (x : ℕ). OpensInstance place k x m values instance flat.signals child items) at (subst (λ (x : List Signal). OpensInstance place k inside m values instance x child items) s opens) in
-    let listed : tasks ≡ tasks_of (length flat.places) child.steps = ts ∙ ap (λ (x : Flat). tasks_of (length x.places) child.steps) second in
-    let enters : next ≡ entered (add_all flat items) (inner_prefix place.prefix instance.name.name) None (n ∷ place.within) child = nx ∙ ap (λ (x : Flat). entered x prefix None within child) second ∙ ap (λ (x : List ℕ). entered (add_all flat items) x None within child) pre ∙ ap (λ (x : List ℕ). entered (add_all flat items) (inner_prefix place.prefix instance.name.name) None x child) w in
-    let here : PlacesInstance ms n k place values instance flat tasks next = record { m = m; numbered = numbered; child = child; items = items; opens = opened; listed = listed; enters = enters } in
-    subst (λ (x : Place). PlacesInstance ms n k x values instance flat tasks next) (same_place (slice_get flat.places k) place p got_flat found) here
+    → (p : Place) → slice_get flat.places k ≡ Some p → PlacesInstance ms n k p x flat tasks next
+instance_places ms n k x flat mid mid2 next tasks place m child items signals prefix within inside at s f got numbered w opens pre l ts nx p found =
+    let got_flat : slice_get flat.places k ≡ Some place = subst (λ (y : Flat). slice_get y.places k ≡ Some place) f got in
+    let second : mid2 ≡ add_all (emptied flat) items = l ∙ ap (λ (y : Flat). add_all y items) f in
+    let opened : OpensInstance place k (length flat.places) m x flat.signals child items = subst (λ (y : ℕ). OpensInstance place k y m x flat.signals child items) at (subst (λ (y : List Signal). OpensInstance place k inside m x y child items) s opens) in
+    let listed : tasks ≡ tasks_of (length flat.places) child.steps = ts ∙ ap (λ (y : Flat). tasks_of (length y.places) child.steps) second in
+    let own = inner_prefix place.prefix x.instance.name.name in
+    let enters : next ≡ entered (add_all flat items) own None (n ∷ place.within) child = nx ∙ ap (λ (y : Flat). entered y prefix None within child) second ∙ ap (λ (y : List ℕ). entered (add_all flat items) y None within child) pre ∙ ap (λ (y : List ℕ). entered (add_all flat items) own None y child) w in
+    let here : PlacesInstance ms n k place x flat tasks next = record { m = m; numbered = numbered; child = child; items = items; opens = opened; listed = listed; enters = enters } in
+    subst (λ (y : Place). PlacesInstance ms n k y x flat tasks next) (same_place (slice_get flat.places k) place p got_flat found) here
 
-module _ (ms : List Module) (flat : Flat) (k : ℕ) (name : Identifier) (values : ParameterValues) (instance : Instance) (tasks : List Task) (place : Place) (found : Result ℕ ItemError) (got : slice_get flat.places k ≡ Some place) (is : found ≡ placed_in (is_full flat) name (module_at ms name.name) place.within) where
-  pub instance_refused : (error : ItemError) → found ≡ Err error → tasks ≡ t.Refuses error ∷ [] → Replaces ms (t.Instance k name values instance) flat tasks flat
-  instance_refused error f e = subst (λ (y : List Task). Replaces ms (t.Instance k name values instance) flat y flat) (sym e) (not_placed k name values instance flat place error got (sym is ∙ f))
+module _ (ms : List Module) (flat : Flat) (k : ℕ) (x : Placing) (tasks : List Task) (place : Place) (name : Identifier) (found : Result ℕ ItemError) (got : slice_get flat.places k ≡ Some place) (named : name ≡ x.module_name) (is : found ≡ placed_in (is_full flat) name (module_at ms name.name) place.within) where
+  found_is : placed_in (is_full flat) x.module_name (module_at ms x.module_name.name) place.within ≡ found
+  found_is = sym (is ∙ ap (λ (y : Identifier). placed_in (is_full flat) y (module_at ms y.name) place.within) named)
 
-  pub instance_placed : (n : ℕ) (next : Flat) → found ≡ Ok n → ((p : Place) → slice_get flat.places k ≡ Some p → PlacesInstance ms n k p values instance flat tasks next) → Replaces ms (t.Instance k name values instance) flat tasks next
-  instance_placed n next f places = placed k name values instance flat next place n tasks got (sym is ∙ f) (places place got)
+  pub instance_refused : (error : ItemError) → found ≡ Err error → tasks ≡ t.Refuses error ∷ [] → Replaces ms (t.Instance k x) flat tasks flat
+  instance_refused error f e = subst (λ (y : List Task). Replaces ms (t.Instance k x) flat y flat) (sym e) (not_placed k x flat place error got (found_is ∙ f))
+
+  pub instance_placed : (n : ℕ) (next : Flat) → found ≡ Ok n → ((p : Place) → slice_get flat.places k ≡ Some p → PlacesInstance ms n k p x flat tasks next) → Replaces ms (t.Instance k x) flat tasks next
+  instance_placed n next f places = placed k x flat next place n tasks got (found_is ∙ f) (places place got)
 
 -- All parts.
 module _ (ms : List Module) (flat next : Flat) (k : ℕ) (tasks : List Task) where
@@ -208,16 +212,16 @@ block_entered flat next k place name given start child block tasks prefix within
     subst (λ (x : Place). OpensBlock k x name start block flat tasks next) (same_place (slice_get flat.places k) place p got found) here
 
 -- A turn whose block was opened, and what comes behind it.
-pub turn_done : (flat next : Flat) (k : ℕ) (place : Place) (x : Turn) (start : Opened) (block : Item) (inner tasks : List Task) (name head_name : List ℕ) (what : Option What) (advance : Expr) (value : Result ℕ ItemError) (last : Task)
+pub turn_done : (flat next : Flat) (k : ℕ) (place : Place) (x : Turn) (start : Opened) (block : Item) (ahead inner rest tasks : List Task) (name head_name : List ℕ) (what : Option What) (advance : Expr) (value : Result ℕ ItemError) (last : Task)
     → Sees flat.places head_name k what → head_name ≡ x.head.step_name.name → advance ≡ x.head.step → value ≡ integer_in start.names advance → name ≡ turn_name x.name x.value → block ≡ x.body
-    → OpensBlock k place name start block flat inner next → last ≡ next_turn k x what value → tasks ≡ inner ++ last ∷ []
+    → OpensBlock k place name start block flat inner next → last ≡ next_turn k x what value → ahead ≡ taken_tasks x.taken → rest ≡ inner ++ last ∷ [] → tasks ≡ ahead ++ rest
     → TurnsOnce k place x start flat tasks next
-turn_done flat next k place x start block inner tasks name head_name what advance value last sees hn st v n b opens l all =
+turn_done flat next k place x start block ahead inner rest tasks name head_name what advance value last sees hn st v n b opens l told more all =
     let valued : value ≡ integer_in start.names x.head.step = v ∙ ap (integer_in start.names) st in
     record {
       what = what;
       sees = subst (λ (y : List ℕ). Sees flat.places y k what) hn sees;
       inner = inner;
       opens = subst (λ (y : List ℕ). OpensBlock k place y start x.body flat inner next) n (subst (λ (y : Item). OpensBlock k place name start y flat inner next) b opens);
-      all = all ∙ ap (λ (y : Task). inner ++ y ∷ []) (l ∙ ap (next_turn k x what) valued);
+      all = all ∙ ap (λ (y : List Task). y ++ rest) told ∙ ap (λ (y : List Task). taken_tasks x.taken ++ y) (more ∙ ap (λ (y : Task). inner ++ y ∷ []) (l ∙ ap (next_turn k x what) valued));
     }

@@ -20,11 +20,12 @@ use Rattle.vlog_meaning.specs.Senses.{sense, own, assigned, constant_faults, con
 use Rattle.flat_scopes.specs.declared.opening.Head.{Head}
 use Rattle.flat_scopes.specs.declared.opening.Step.{Step}
 use Rattle.flat_scopes.specs.declared.opening.Step.TheVariants as s
+use Rattle.flat_scopes.specs.declared.refusal.Refusal.TheVariants.{Twice}
 use Rattle.flat_scopes.specs.declared.signal.Signal.{Signal}
 use Rattle.flat_scopes.specs.declared.signal.What.{What}
 use Rattle.flat_scopes.specs.declared.signal.What.TheVariants as w
-use Rattle.flat_scopes.specs.Openings.{Opened, unopened, own_name}
-use Rattle.flat_scopes.specs.Opens.{Opens}
+use Rattle.flat_scopes.specs.Openings.{Opened, unopened, own_name, is_among}
+use Rattle.flat_scopes.specs.Opens.{Opens, labels_of}
 use Rattle.flat_scopes.specs.Owns.{Own}
 use Rattle.flat_scopes.specs.Words.{word}
 use Rattle.flat_instances.specs.declared.error.ItemError.{ItemError}
@@ -66,7 +67,7 @@ is_full flat = nat_lt max_scopes (length flat.places)
 abbrev pub tasks_of : (place : ℕ) → List Step → List Task
 tasks_of k steps = map (t.Step k) steps
 
--- Steps of the scope with the number k, but for generate constructs: what they list, and what is left to be replaced.
+-- Steps of the scope with the number k: what they list, and what is left to be replaced.
 
 abbrev pub assigned_items : (place : ℕ) → List Assignment → List FlatItem
 assigned_items k [] = []
@@ -78,10 +79,6 @@ plain_items k (p.ContinuousAssign at (Some delay) assignments) = f.Refuses (e.De
 plain_items k (p.Process process) = f.Runs k process ∷ []
 plain_items k other = []
 
-abbrev pub plain_tasks : (place : ℕ) → PlainItem → List Task
-plain_tasks k (p.ModuleInstantiation name values instances) = map (t.Instance k name values) instances
-plain_tasks k other = []
-
 -- why a given value is no constant was listed with its instance
 abbrev pub step_items : (place : ℕ) → Step → List FlatItem
 step_items k (s.Declares n) = f.Declares n ∷ []
@@ -90,11 +87,12 @@ step_items k (s.RefusesGiven c) = []
 step_items k (s.Starts n value) = f.Starts n k value ∷ []
 step_items k (s.Drives name value) = f.Drives k name value ∷ []
 step_items k (s.Lists x) = plain_items k x
-step_items k (s.Generates n item) = []
+step_items k (s.Places x) = []
+step_items k (s.Generates n item taken) = []
 
 abbrev pub step_tasks : (place : ℕ) → Step → List Task
-step_tasks k (s.Lists x) = plain_tasks k x
-step_tasks k (s.Generates n item) = t.Generates k n item ∷ []
+step_tasks k (s.Places x) = t.Instance k x ∷ []
+step_tasks k (s.Generates n item taken) = t.Generates k n item taken ∷ []
 step_tasks k other = []
 
 -- Instances.
@@ -128,14 +126,26 @@ condition_in names x = faultless (least (constant_faults (sense names x))) (own 
 abbrev pub integer_in : Names → Expr → Result ℕ ItemError
 integer_in names x = faultless (least (constant_faults_at (sense names x) (assigned (sense names x) 32))) ((sense names x).value nothing (assigned (sense names x) 32) % 2 ^ 32)
 
--- what a condition chooses, where there is something
-abbrev pub arm_tasks : (place number : ℕ) → Option Item → List Task
-arm_tasks k n None = []
-arm_tasks k n (Some item) = t.Arm k n item ∷ []
+-- A label of a construct that stands already is told at its place among what is wrong in the construct: behind the conditions before
+-- it, and behind a loop's genvar, start and first condition; ahead of the conditions behind it, and of what is in the blocks.
 
-abbrev pub chosen_tasks : (place number : ℕ) → Result ℕ ItemError → Item → Option Item → List Task
-chosen_tasks k n (Err x) first second = t.Refuses x ∷ []
-chosen_tasks k n (Ok value) first second = arm_tasks k n (if value == 0 then second else Some first)
+abbrev pub taken_tasks : Option Identifier → List Task
+taken_tasks None = []
+taken_tasks (Some label) = t.Refuses (e.Declaration (Twice label.span)) ∷ []
+
+-- it is a label of the part that is passed over
+abbrev pub is_passed : Item → Option Identifier → Bool
+is_passed first None = false
+is_passed first (Some label) = is_among (labels_of first) label.name
+
+-- what stands behind `else`, if there is something
+abbrev pub other_tasks : (place number : ℕ) → Item → Option Item → (taken : Option Identifier) → List Task
+other_tasks k n first None taken = taken_tasks taken
+other_tasks k n first (Some second) taken = if is_passed first taken then taken_tasks taken ++ t.Arm k n second None ∷ [] else t.Arm k n second taken ∷ []
+
+abbrev pub chosen_tasks : (place number : ℕ) → Result ℕ ItemError → Item → Option Item → (taken : Option Identifier) → List Task
+chosen_tasks k n (Err x) first second taken = t.Refuses x ∷ []
+chosen_tasks k n (Ok value) first second taken = if value == 0 then other_tasks k n first second taken else t.Arm k n first taken ∷ []
 
 -- Blocks (12.4.3).
 

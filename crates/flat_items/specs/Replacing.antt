@@ -5,14 +5,13 @@ use Rattle.mcy_base.specs.declared.span.Span.{Span}
 use Rattle.vlog_syntax.specs.declared.expr.Expr.{Expr}
 use Rattle.vlog_syntax.specs.declared.identifier.Identifier.{Identifier}
 use Rattle.vlog_syntax.specs.declared.item.GenerateLoop.{GenerateLoop}
-use Rattle.vlog_syntax.specs.declared.item.Instance.{Instance}
 use Rattle.vlog_syntax.specs.declared.item.Item.{Item, out-Item}
 use Rattle.vlog_syntax.specs.declared.item.Item.TheVariants as i
 use Rattle.vlog_syntax.specs.declared.item.Item.TheOpen as o
 use Rattle.vlog_syntax.specs.declared.item.Item.TheOpen.{Item-F}
-use Rattle.vlog_syntax.specs.declared.item.ParameterValues.{ParameterValues}
 use Rattle.vlog_syntax.specs.declared.module.Module.{Module}
 use Rattle.flat_scopes.specs.declared.opening.Head.{Head}
+use Rattle.flat_scopes.specs.declared.opening.Placing.{Placing}
 use Rattle.flat_scopes.specs.declared.opening.Step.{Step}
 use Rattle.flat_scopes.specs.declared.signal.What.{What}
 use Rattle.flat_scopes.specs.declared.signal.What.TheVariants as w
@@ -27,20 +26,20 @@ use Rattle.flat_items.specs.declared.task.Task.TheVariants as t
 use Rattle.flat_items.specs.declared.task.Turn.{Turn}
 use Rattle.flat_items.specs.declared.turn.Outcome.{Outcome}
 use Rattle.flat_items.specs.declared.turn.Outcome.TheVariants.{Goes, Ends, Refused}
-use Rattle.flat_items.specs.Flattened.{Flat, add_all, entered, is_full, tasks_of, step_items, step_tasks, module_at, placed_in, condition_in, integer_in, chosen_tasks, label_of, IsBlockName, OpensBlock, Sees, genvar_fault, turn_start}
+use Rattle.flat_items.specs.Flattened.{Flat, add_all, entered, is_full, tasks_of, step_items, step_tasks, module_at, placed_in, condition_in, integer_in, taken_tasks, chosen_tasks, label_of, IsBlockName, OpensBlock, Sees, genvar_fault, turn_start}
 use Rattle.flat_instances.specs.Instances.{inner_prefix, no_names, OpensInstance}
 use Rattle.flat_instances.specs.Places.{Place}
 use Rattle.flat_scopes.specs.Wires.{ports_of}
 
 -- An instance of the module with the number n stands in the place with the number k: its module is the next place.
-pub record PlacesInstance (modules : List Module) (n k : ℕ) (place : Place) (values : ParameterValues) (instance : Instance) (flat : Flat) (tasks : List Task) (next : Flat) : Type 0 where
+pub record PlacesInstance (modules : List Module) (n k : ℕ) (place : Place) (x : Placing) (flat : Flat) (tasks : List Task) (next : Flat) : Type 0 where
   pub m : Module
   pub numbered : slice_get modules n ≡ Some m
   pub child : Opened
   pub items : List FlatItem
-  pub opens : OpensInstance place k (length flat.places) m values instance flat.signals child items
+  pub opens : OpensInstance place k (length flat.places) m x flat.signals child items
   pub listed : tasks ≡ tasks_of (length flat.places) child.steps
-  pub enters : next ≡ entered (add_all flat items) (inner_prefix place.prefix instance.name.name) None (n ∷ place.within) child
+  pub enters : next ≡ entered (add_all flat items) (inner_prefix place.prefix x.instance.name.name) None (n ∷ place.within) child
 
 -- Turns of a loop (12.4.1).
 
@@ -69,13 +68,13 @@ step_fault other at = e.Unknown at
 
 abbrev pub stepped : (place : ℕ) → Turn → Result ℕ ItemError → Task
 stepped k x (Err error) = t.Refuses error
-stepped k x (Ok value) = t.Turn k (record x { count = x.count + 1; value = value })
+stepped k x (Ok value) = t.Turn k (record x { count = x.count + 1; value = value; taken = None })
 
 abbrev pub next_turn : (place : ℕ) → Turn → Option What → Result ℕ ItemError → Task
 next_turn k x what value = if bytes_eq x.head.step_name.name x.head.name.name then stepped k x value else t.Refuses (step_fault what x.head.step_name.span)
 
-abbrev pub first_turn : (name : List ℕ) → GenerateLoop → Item → (value : ℕ) → Turn
-first_turn name head body value = record { name = name; head = head; body = body; count = 0; value = value }
+abbrev pub first_turn : (name : List ℕ) → GenerateLoop → Item → (value : ℕ) → (taken : Option Identifier) → Turn
+first_turn name head body value taken = record { name = name; head = head; body = body; count = 0; value = value; taken = taken }
 
 abbrev pub is_block_form : Item-F Item → Bool
 is_block_form (o.NullGenerate at) = false
@@ -87,54 +86,55 @@ is_construct_form (o.LoopGenerate head body) = true
 is_construct_form (o.IfGenerate at condition first second) = true
 is_construct_form other = false
 
--- A turn that there is, in the scope with the number k: its block is opened, and the next turn comes behind it.
+-- A turn that there is, in the scope with the number k: its block is opened, and the next turn comes behind it. In the first turn the
+-- label is told ahead of the block, where it stands already.
 pub record TurnsOnce (k : ℕ) (place : Place) (x : Turn) (start : Opened) (flat : Flat) (tasks : List Task) (next : Flat) : Type 0 where
   pub what : Option What
   pub sees : Sees flat.places x.head.step_name.name k what
   pub inner : List Task
   pub opens : OpensBlock k place (turn_name x.name x.value) start x.body flat inner next
-  pub all : tasks ≡ inner ++ next_turn k x what (integer_in start.names x.head.step) ∷ []
+  pub all : tasks ≡ taken_tasks x.taken ++ (inner ++ next_turn k x what (integer_in start.names x.head.step) ∷ [])
 
 -- One part of a design, with what there is so far, and what stands in its place and there is then.
 pub data Replaces (modules : List Module) : Task → Flat → List Task → Flat → Type 0 where
   step : (k : ℕ) (x : Step) (flat : Flat) → Replaces modules (t.Step k x) flat (step_tasks k x) (add_all flat (step_items k x))
   refused : (error : ItemError) (flat : Flat) → Replaces modules (t.Refuses error) flat [] (add_all flat (f.Refuses error ∷ []))
   -- instances
-  not_placed : (k : ℕ) (name : Identifier) (values : ParameterValues) (instance : Instance) (flat : Flat) (place : Place) (error : ItemError)
-      → slice_get flat.places k ≡ Some place → placed_in (is_full flat) name (module_at modules name.name) place.within ≡ Err error
-      → Replaces modules (t.Instance k name values instance) flat (t.Refuses error ∷ []) flat
-  placed : (k : ℕ) (name : Identifier) (values : ParameterValues) (instance : Instance) (flat next : Flat) (place : Place) (n : ℕ) (tasks : List Task)
-      → slice_get flat.places k ≡ Some place → placed_in (is_full flat) name (module_at modules name.name) place.within ≡ Ok n
-      → PlacesInstance modules n k place values instance flat tasks next
-      → Replaces modules (t.Instance k name values instance) flat tasks next
+  not_placed : (k : ℕ) (x : Placing) (flat : Flat) (place : Place) (error : ItemError)
+      → slice_get flat.places k ≡ Some place → placed_in (is_full flat) x.module_name (module_at modules x.module_name.name) place.within ≡ Err error
+      → Replaces modules (t.Instance k x) flat (t.Refuses error ∷ []) flat
+  placed : (k : ℕ) (x : Placing) (flat next : Flat) (place : Place) (n : ℕ) (tasks : List Task)
+      → slice_get flat.places k ≡ Some place → placed_in (is_full flat) x.module_name (module_at modules x.module_name.name) place.within ≡ Ok n
+      → PlacesInstance modules n k place x flat tasks next
+      → Replaces modules (t.Instance k x) flat tasks next
   -- conditions
-  condition : (k n : ℕ) (at : Span) (c : Expr) (first : Item) (second : Option Item) (flat : Flat) (place : Place)
+  condition : (k n : ℕ) (at : Span) (c : Expr) (first : Item) (second : Option Item) (taken : Option Identifier) (flat : Flat) (place : Place)
       → slice_get flat.places k ≡ Some place
-      → Replaces modules (t.Generates k n (i.IfGenerate at c first second)) flat (chosen_tasks k n (condition_in place.names c) first second) flat
-  arm_null : (k n : ℕ) (at : Span) (flat : Flat) → Replaces modules (t.Arm k n (i.NullGenerate at)) flat [] flat
+      → Replaces modules (t.Generates k n (i.IfGenerate at c first second) taken) flat (chosen_tasks k n (condition_in place.names c) first second taken) flat
+  arm_null : (k n : ℕ) (at : Span) (taken : Option Identifier) (flat : Flat) → Replaces modules (t.Arm k n (i.NullGenerate at) taken) flat (taken_tasks taken) flat
   -- a condition that a condition chooses belongs to the same construct
-  arm_condition : (k n : ℕ) (at : Span) (c : Expr) (first : Item) (second : Option Item) (flat : Flat)
-      → Replaces modules (t.Arm k n (i.IfGenerate at c first second)) flat (t.Generates k n (i.IfGenerate at c first second) ∷ []) flat
+  arm_condition : (k n : ℕ) (at : Span) (c : Expr) (first : Item) (second : Option Item) (taken : Option Identifier) (flat : Flat)
+      → Replaces modules (t.Arm k n (i.IfGenerate at c first second) taken) flat (t.Generates k n (i.IfGenerate at c first second) taken ∷ []) flat
   -- a block that a condition chooses has its scope, unless the design is full
-  arm_full : (k n : ℕ) (item : Item) (flat : Flat) → is_block_form (out-Item item) ≡ true → is_full flat ≡ true → Replaces modules (t.Arm k n item) flat (t.Refuses e.Scopes ∷ []) flat
-  arm_block : (k n : ℕ) (item : Item) (flat next : Flat) (place : Place) (name : List ℕ) (tasks : List Task)
+  arm_full : (k n : ℕ) (item : Item) (taken : Option Identifier) (flat : Flat) → is_block_form (out-Item item) ≡ true → is_full flat ≡ true → Replaces modules (t.Arm k n item taken) flat (t.Refuses e.Scopes ∷ []) flat
+  arm_block : (k n : ℕ) (item : Item) (taken : Option Identifier) (flat next : Flat) (place : Place) (name : List ℕ) (tasks : List Task)
       → is_block_form (out-Item item) ≡ true → is_full flat ≡ false → slice_get flat.places k ≡ Some place → IsBlockName place.own n (label_of item) name
       → OpensBlock k place name (unopened place.names flat.signals) item flat tasks next
-      → Replaces modules (t.Arm k n item) flat tasks next
+      → Replaces modules (t.Arm k n item taken) flat (taken_tasks taken ++ tasks) next
   -- loops
-  bad_genvar : (k n : ℕ) (head : GenerateLoop) (body : Item) (flat : Flat) (what : Option What) (error : ItemError)
+  bad_genvar : (k n : ℕ) (head : GenerateLoop) (body : Item) (taken : Option Identifier) (flat : Flat) (what : Option What) (error : ItemError)
       → Sees flat.places head.name.name k what → genvar_fault what head.name.span ≡ Some error
-      → Replaces modules (t.Generates k n (i.LoopGenerate head body)) flat (t.Refuses error ∷ []) flat
-  bad_start : (k n : ℕ) (head : GenerateLoop) (body : Item) (flat : Flat) (what : Option What) (place : Place) (error : ItemError)
+      → Replaces modules (t.Generates k n (i.LoopGenerate head body) taken) flat (t.Refuses error ∷ []) flat
+  bad_start : (k n : ℕ) (head : GenerateLoop) (body : Item) (taken : Option Identifier) (flat : Flat) (what : Option What) (place : Place) (error : ItemError)
       → Sees flat.places head.name.name k what → genvar_fault what head.name.span ≡ None → slice_get flat.places k ≡ Some place → integer_in place.names head.start ≡ Err error
-      → Replaces modules (t.Generates k n (i.LoopGenerate head body)) flat (t.Refuses error ∷ []) flat
-  loop : (k n : ℕ) (head : GenerateLoop) (body : Item) (flat : Flat) (what : Option What) (place : Place) (value : ℕ) (name : List ℕ)
+      → Replaces modules (t.Generates k n (i.LoopGenerate head body) taken) flat (t.Refuses error ∷ []) flat
+  loop : (k n : ℕ) (head : GenerateLoop) (body : Item) (taken : Option Identifier) (flat : Flat) (what : Option What) (place : Place) (value : ℕ) (name : List ℕ)
       → Sees flat.places head.name.name k what → genvar_fault what head.name.span ≡ None → slice_get flat.places k ≡ Some place → integer_in place.names head.start ≡ Ok value
       → IsBlockName place.own n (label_of body) name
-      → Replaces modules (t.Generates k n (i.LoopGenerate head body)) flat (t.Turn k (first_turn name head body value) ∷ []) flat
+      → Replaces modules (t.Generates k n (i.LoopGenerate head body) taken) flat (t.Turn k (first_turn name head body value taken) ∷ []) flat
   turn_ended : (k : ℕ) (x : Turn) (flat : Flat) (place : Place)
       → slice_get flat.places k ≡ Some place → outcome (is_full flat) (condition_in (turn_start place flat.signals x).names x.head.condition) x.count ≡ Ends
-      → Replaces modules (t.Turn k x) flat [] flat
+      → Replaces modules (t.Turn k x) flat (taken_tasks x.taken) flat
   bad_turn : (k : ℕ) (x : Turn) (flat : Flat) (place : Place) (error : ItemError)
       → slice_get flat.places k ≡ Some place → outcome (is_full flat) (condition_in (turn_start place flat.signals x).names x.head.condition) x.count ≡ Refused error
       → Replaces modules (t.Turn k x) flat (t.Refuses error ∷ []) flat
@@ -143,7 +143,7 @@ pub data Replaces (modules : List Module) : Task → Flat → List Task → Flat
       → TurnsOnce k place x (turn_start place flat.signals x) flat tasks next
       → Replaces modules (t.Turn k x) flat tasks next
   -- nothing else is a construct
-  no_construct : (k n : ℕ) (item : Item) (flat : Flat) → is_construct_form (out-Item item) ≡ false → Replaces modules (t.Generates k n item) flat [] flat
+  no_construct : (k n : ℕ) (item : Item) (taken : Option Identifier) (flat : Flat) → is_construct_form (out-Item item) ≡ false → Replaces modules (t.Generates k n item taken) flat [] flat
 
 -- The parts are replaced, the first one first, until none is left.
 pub data Flattens (modules : List Module) : List Task → Flat → Flat → Type 0 where

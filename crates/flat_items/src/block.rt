@@ -10,7 +10,7 @@ ghost use Rattle.flat_items.specs.Views.{flat_of};
 ghost use Rattle.flat_items.specs.declared.task.Task.TheVariants.{Arm as Chosen};
 
 use crate::flat::Flat;
-use crate::generate::one;
+use crate::generate::{one, told};
 use crate::names::block_name;
 use crate::task::Task;
 use flat_instances::{ItemError, inner_prefix};
@@ -19,7 +19,7 @@ use mcy_base::Text;
 use std::alloc::{AllocError, Global};
 use std::{mem, slice};
 use vlog_meaning::Scope;
-use vlog_syntax::{Boxed, Item, Listed};
+use vlog_syntax::{Boxed, Identifier, Item, Listed};
 
 /// The items of a block, which may be one item without `begin`.
 fn block_items(item: &Item) -> &[Item]
@@ -87,10 +87,11 @@ impl<'a> Flat<'a> {
         place: u32,
         number: u32,
         item: &'a Item,
+        taken: Option<Lent<'a, Identifier>>,
     ) -> Result<Vec<Task<'a>>, AllocError>
         requires form { is_block_form (out-Item item.now) ≡ true }
         requires room { is_full (flat_of self.old) ≡ false }
-        ensures { IfOk result (λ tasks. (ms : List Tree) → Replaces ms (Chosen place number item.now) (flat_of self.old) tasks.items (flat_of self.new)) }
+        ensures { IfOk result (λ tasks. (ms : List Tree) → Replaces ms (Chosen place number item.now taken.entry) (flat_of self.old) tasks.items (flat_of self.new)) }
     {
         let signals = self.take_signals();
         let Some(around) = self.place(place) else {
@@ -98,7 +99,9 @@ impl<'a> Flat<'a> {
         };
         let name = block_name(self.alloc, &around.own, number, item)?;
         let child = Opening::new(self.alloc, around.scope.copy()?, signals);
-        let tasks = self.open_block(place, name.as_str(), child, item)?;
+        let mut tasks = told(self.alloc, &taken)?;
+        let mut inner = self.open_block(place, name.as_str(), child, item)?;
+        tasks.append(&mut inner)?;
         Ok(tasks)
     }
 
@@ -109,14 +112,15 @@ impl<'a> Flat<'a> {
         place: u32,
         number: u32,
         item: &'a Item,
+        taken: Option<Lent<'a, Identifier>>,
     ) -> Result<Vec<Task<'a>>, AllocError>
         requires { is_block_form (out-Item item.now) ≡ true }
-        ensures { IfOk result (λ tasks. (ms : List Tree) → Replaces ms (Chosen place number item.now) (flat_of self.old) tasks.items (flat_of self.new)) }
+        ensures { IfOk result (λ tasks. (ms : List Tree) → Replaces ms (Chosen place number item.now taken.entry) (flat_of self.old) tasks.items (flat_of self.new)) }
     {
         if self.is_full() {
             return one(self.alloc, Task::Refuses(ItemError::Scopes));
         }
-        self.chosen_block(place, number, item)
+        self.chosen_block(place, number, item, taken)
     }
 
     /// What is left of what a condition chose.
@@ -126,19 +130,20 @@ impl<'a> Flat<'a> {
         place: u32,
         number: u32,
         item: &'a Item,
+        taken: Option<Lent<'a, Identifier>>,
     ) -> Result<Vec<Task<'a>>, AllocError>
-        ensures { IfOk result (λ tasks. (ms : List Tree) → Replaces ms (Chosen place number item.now) (flat_of self.old) tasks.items (flat_of self.new)) }
+        ensures { IfOk result (λ tasks. (ms : List Tree) → Replaces ms (Chosen place number item.now taken.entry) (flat_of self.old) tasks.items (flat_of self.new)) }
     {
         match item {
-            Item::NullGenerate(_) => Ok(Vec::new(self.alloc)),
+            Item::NullGenerate(_) => told(self.alloc, &taken),
             Item::IfGenerate(..) => {
                 let item = Boxed::new(self.alloc, Lent::of(item))?;
-                one(self.alloc, Task::Generates(place, number, item))
+                one(self.alloc, Task::Generates(place, number, item, taken))
             }
-            Item::Plain(_) => self.arm_block(place, number, item),
-            Item::GenerateRegion(..) => self.arm_block(place, number, item),
-            Item::LoopGenerate(..) => self.arm_block(place, number, item),
-            Item::GenerateBlock(..) => self.arm_block(place, number, item),
+            Item::Plain(_) => self.arm_block(place, number, item, taken),
+            Item::GenerateRegion(..) => self.arm_block(place, number, item, taken),
+            Item::LoopGenerate(..) => self.arm_block(place, number, item, taken),
+            Item::GenerateBlock(..) => self.arm_block(place, number, item, taken),
         }
     }
 }

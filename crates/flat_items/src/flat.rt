@@ -1,18 +1,17 @@
 //! A design that is being flattened: its signals, its scopes and its items so far.
-ghost use Rattle.std.specs.Prelude.{◌≡◌, ◌∷◌, [], map, length, slice_get, Some, IfOk, IfSome};
+ghost use Rattle.std.specs.Prelude.{◌≡◌, ◌∷◌, [], length, slice_get, Some, IfOk, IfSome};
 ghost use Rattle.vlog_meaning.specs.Scopes.{names_of};
 ghost use Rattle.flat_scopes.specs.Views.{opened_of};
-ghost use Rattle.flat_items.specs.Flattened.{add_all, entered as with_place, is_full, tasks_of, plain_items, plain_tasks, assigned_items, step_items, step_tasks, Sees};
+ghost use Rattle.flat_items.specs.Flattened.{add_all, entered as with_place, is_full, tasks_of, plain_items, assigned_items, step_items, step_tasks, Sees};
 ghost use Rattle.flat_instances.specs.Places.{place_of};
 ghost use Rattle.flat_items.specs.Views.{flat_of};
-ghost use Rattle.flat_items.specs.declared.task.Task.TheVariants.{Instance as Placed};
 
 use crate::task::Task;
 use flat_instances::{FlatItem, ItemError, Place};
 use flat_scopes::{Lent, Opening, Parts, Signal, Step, What};
 use mcy_base::Text;
 use std::alloc::{AllocError, Global};
-use vlog_syntax::{Assignment, Identifier, Instance, ParameterValues, PlainItem};
+use vlog_syntax::{Assignment, PlainItem};
 
 /// The most scopes of a design within its top.
 const MAX_SCOPES: usize = 65536;
@@ -37,23 +36,6 @@ fn step_tasks<'a>(
     let mut tasks = Vec::new(alloc);
     for step in steps {
         tasks.push(Task::Step(place, step))?;
-    }
-    Ok(tasks)
-}
-
-/// Instances of a module, each to be replaced.
-fn instance_tasks<'a>(
-    alloc: Global,
-    place: u32,
-    name: &'a Identifier,
-    values: &'a ParameterValues,
-    instances: &'a [Instance],
-) -> Result<Vec<Task<'a>>, AllocError>
-    ensures { IfOk result (λ tasks. tasks.items ≡ map (Placed place name.now values.now) instances.now) }
-{
-    let mut tasks = Vec::new(alloc);
-    for instance in instances {
-        tasks.push(Task::Instance(place, Lent::of(name), Lent::of(values), Lent::of(instance)))?;
     }
     Ok(tasks)
 }
@@ -181,27 +163,20 @@ impl<'a> Flat<'a> {
         Ok(())
     }
 
-    /// Lists an `assign` or a process, and gives the instances that are to be replaced.
-    fn plain(&mut self, place: u32, item: &'a PlainItem) -> Result<Vec<Task<'a>>, AllocError>
-        ensures items { IfOk result (λ tasks. flat_of self.new ≡ add_all (flat_of self.old) (plain_items place item.now)) }
-        ensures tasks { IfOk result (λ tasks. tasks.items ≡ plain_tasks place item.now) }
+    /// Lists an `assign` or a process.
+    fn plain(&mut self, place: u32, item: &'a PlainItem) -> Result<(), AllocError>
+        ensures { IfOk result (λ done. flat_of self.new ≡ add_all (flat_of self.old) (plain_items place item.now)) }
     {
         match item {
             PlainItem::ContinuousAssign(_, None, assignments) => {
-                self.assigns(place, assignments.as_slice())?;
+                self.assigns(place, assignments.as_slice())
             }
             PlainItem::ContinuousAssign(_, Some(delay), _) => {
-                self.list(FlatItem::Refuses(ItemError::Delay(delay.span)))?;
+                self.list(FlatItem::Refuses(ItemError::Delay(delay.span)))
             }
-            PlainItem::Process(process) => {
-                self.list(FlatItem::Runs(place, Lent::of(process)))?;
-            }
-            PlainItem::ModuleInstantiation(name, values, instances) => {
-                return instance_tasks(self.alloc, place, name, values, instances.as_slice());
-            }
-            _ => {}
+            PlainItem::Process(process) => self.list(FlatItem::Runs(place, Lent::of(process))),
+            _ => Ok(()),
         }
-        Ok(Vec::new(self.alloc))
     }
 
     /// Lists what a step of a scope lists, and gives what is left of it.
@@ -218,8 +193,11 @@ impl<'a> Flat<'a> {
             Step::RefusesGiven(_) => {}
             Step::Starts(number, value) => self.list(FlatItem::Starts(number, place, value))?,
             Step::Drives(name, value) => self.list(FlatItem::Drives(place, name, value))?,
-            Step::Lists(item) => return self.plain(place, item.get().get()),
-            Step::Generates(number, item) => tasks.push(Task::Generates(place, number, item))?,
+            Step::Lists(item) => self.plain(place, item.get().get())?,
+            Step::Places(placing) => tasks.push(Task::Instance(place, placing))?,
+            Step::Generates(number, item, taken) => {
+                tasks.push(Task::Generates(place, number, item, taken))?;
+            }
         }
         Ok(tasks)
     }

@@ -2,20 +2,20 @@
 ghost use Rattle.std.specs.Prelude.{◌≡◌, ◌∷◌, [], List, Some, IfOk};
 ghost use Rattle.vlog_syntax.specs.declared.item.Item.TheVariants.{LoopGenerate as Loops};
 ghost use Rattle.vlog_syntax.specs.declared.module.Module.{Module as Tree};
-ghost use Rattle.flat_items.specs.Flattened.{arm_tasks, chosen_tasks, genvar_fault};
+ghost use Rattle.flat_items.specs.Flattened.{taken_tasks, is_passed, other_tasks, chosen_tasks, genvar_fault};
 ghost use Rattle.flat_items.specs.Replacing.{first_turn, Replaces};
 ghost use Rattle.flat_items.specs.Views.{flat_of};
-ghost use Rattle.flat_items.specs.declared.task.Task.TheVariants.{Generates as Constructs, Turn as TurnTask};
+ghost use Rattle.flat_items.specs.declared.task.Task.TheVariants.{Arm as Chosen, Generates as Constructs, Turn as TurnTask};
 
 use crate::constants::{condition, integer};
 use crate::flat::Flat;
 use crate::names::block_name;
 use crate::task::{Task, Turn};
 use flat_instances::ItemError;
-use flat_scopes::{Lent, What};
+use flat_scopes::{Lent, Refusal, What, has_label};
 use mcy_base::{Span, Text};
 use std::alloc::{AllocError, Global};
-use vlog_syntax::{Boxed, GenerateLoop, Item};
+use vlog_syntax::{Boxed, GenerateLoop, Identifier, Item};
 
 /// One task.
 pub(crate) fn one<'a>(alloc: Global, task: Task<'a>) -> Result<Vec<Task<'a>>, AllocError>
@@ -26,17 +26,62 @@ pub(crate) fn one<'a>(alloc: Global, task: Task<'a>) -> Result<Vec<Task<'a>>, Al
     Ok(tasks)
 }
 
+/// That a label stands already, if one does.
+pub(crate) fn told<'a>(
+    alloc: Global,
+    taken: &Option<Lent<'a, Identifier>>,
+) -> Result<Vec<Task<'a>>, AllocError>
+    ensures { IfOk result (λ tasks. tasks.items ≡ taken_tasks taken.now) }
+{
+    let mut tasks = Vec::new(alloc);
+    if let Some(label) = taken {
+        let refusal = Refusal::Twice(label.get().span);
+        tasks.push(Task::Refuses(ItemError::Declaration(refusal)))?;
+    }
+    Ok(tasks)
+}
+
 /// What is left of an item that a condition chose.
 fn arm<'a>(
     alloc: Global,
     place: u32,
     number: u32,
     item: &'a Item,
-) -> Result<Vec<Task<'a>>, AllocError>
-    ensures { IfOk result (λ tasks. tasks.items ≡ arm_tasks place number (Some item.now)) }
+    taken: Option<Lent<'a, Identifier>>,
+) -> Result<Task<'a>, AllocError>
+    ensures { IfOk result (λ task. task ≡ Chosen place number item.now taken.entry) }
 {
     let item = Boxed::new(alloc, Lent::of(item))?;
-    one(alloc, Task::Arm(place, number, item))
+    Ok(Task::Arm(place, number, item, taken))
+}
+
+/// Whether a label is one of the part that is passed over.
+fn is_passed(first: &Item, taken: &Option<Lent<'_, Identifier>>) -> bool
+    ensures { result ≡ is_passed first.now taken.now }
+{
+    match taken {
+        Some(label) => has_label(first, label.get().name.as_str()),
+        None => false,
+    }
+}
+
+/// What stands behind `else`, and the label ahead of it, if it is one of the part before.
+fn other<'a>(
+    alloc: Global,
+    place: u32,
+    number: u32,
+    first: &Item,
+    second: &'a Item,
+    taken: Option<Lent<'a, Identifier>>,
+) -> Result<Vec<Task<'a>>, AllocError>
+    ensures { IfOk result (λ tasks. tasks.items ≡ other_tasks place number first.now (Some second.now) taken.entry) }
+{
+    if !is_passed(first, &taken) {
+        return one(alloc, arm(alloc, place, number, second, taken)?);
+    }
+    let mut tasks = told(alloc, &taken)?;
+    tasks.push(arm(alloc, place, number, second, None)?)?;
+    Ok(tasks)
 }
 
 /// What is left of a condition with this value.
@@ -47,18 +92,19 @@ fn choose<'a>(
     value: Result<u128, ItemError>,
     first: &'a Item,
     second: &'a Option<Boxed<Item>>,
+    taken: Option<Lent<'a, Identifier>>,
 ) -> Result<Vec<Task<'a>>, AllocError>
-    ensures { IfOk result (λ tasks. tasks.items ≡ chosen_tasks place number value first.now second.now) }
+    ensures { IfOk result (λ tasks. tasks.items ≡ chosen_tasks place number value first.now second.now taken.entry) }
 {
     match value {
         Err(error) => one(alloc, Task::Refuses(error)),
         Ok(value) => {
             if value != 0 {
-                return arm(alloc, place, number, first);
+                return one(alloc, arm(alloc, place, number, first, taken)?);
             }
             match second {
-                Some(second) => arm(alloc, place, number, second.get()),
-                None => Ok(Vec::new(alloc)),
+                Some(second) => other(alloc, place, number, first, second.get(), taken),
+                None => told(alloc, &taken),
             }
         }
     }
@@ -85,8 +131,9 @@ fn start<'a>(
     head: &'a GenerateLoop,
     body: &'a Item,
     value: u32,
+    taken: Option<Lent<'a, Identifier>>,
 ) -> Result<Vec<Task<'a>>, AllocError>
-    ensures { IfOk result (λ tasks. tasks.items ≡ TurnTask place (first_turn name head.now body.now value) ∷ []) }
+    ensures { IfOk result (λ tasks. tasks.items ≡ TurnTask place (first_turn name head.now body.now value taken.entry) ∷ []) }
 {
     let body = Boxed::new(alloc, Lent::of(body))?;
     one(
@@ -99,6 +146,7 @@ fn start<'a>(
                 body,
                 count: 0,
                 value,
+                taken,
             },
         ),
     )
@@ -112,8 +160,9 @@ impl<'a> Flat<'a> {
         number: u32,
         head: &'a GenerateLoop,
         body: &'a Item,
+        taken: Option<Lent<'a, Identifier>>,
     ) -> Result<Vec<Task<'a>>, AllocError>
-        ensures { IfOk result (λ tasks. (ms : List Tree) → Replaces ms (Constructs place number (Loops head.now body.now)) (flat_of self.now) tasks.items (flat_of self.now)) }
+        ensures { IfOk result (λ tasks. (ms : List Tree) → Replaces ms (Constructs place number (Loops head.now body.now) taken.entry) (flat_of self.now) tasks.items (flat_of self.now)) }
     {
         let what = self.sees(place, head.name.name.as_str())?;
         if let Some(error) = genvar_fault(what, head.name.span) {
@@ -126,7 +175,7 @@ impl<'a> Flat<'a> {
             Err(error) => one(self.alloc, Task::Refuses(error)),
             Ok(value) => {
                 let name = block_name(self.alloc, &around.own, number, body)?;
-                start(self.alloc, place, name, head, body, value)
+                start(self.alloc, place, name, head, body, value, taken)
             }
         }
     }
@@ -138,8 +187,9 @@ impl<'a> Flat<'a> {
         place: u32,
         number: u32,
         item: &'a Item,
+        taken: Option<Lent<'a, Identifier>>,
     ) -> Result<Vec<Task<'a>>, AllocError>
-        ensures { IfOk result (λ tasks. (ms : List Tree) → Replaces ms (Constructs place number item.now) (flat_of self.now) tasks.items (flat_of self.now)) }
+        ensures { IfOk result (λ tasks. (ms : List Tree) → Replaces ms (Constructs place number item.now taken.entry) (flat_of self.now) tasks.items (flat_of self.now)) }
     {
         match item {
             Item::IfGenerate(_, test, first, second) => {
@@ -147,9 +197,12 @@ impl<'a> Flat<'a> {
                     return Err(AllocError);
                 };
                 let value = condition(test.get(), &around.scope);
-                choose(self.alloc, place, number, value, first.get(), second)
+                let first = first.get();
+                choose(self.alloc, place, number, value, first, second, taken)
             }
-            Item::LoopGenerate(head, body) => self.starts(place, number, head, body.get()),
+            Item::LoopGenerate(head, body) => {
+                self.starts(place, number, head, body.get(), taken)
+            }
             Item::Plain(_) => Ok(Vec::new(self.alloc)),
             Item::GenerateRegion(..) => Ok(Vec::new(self.alloc)),
             Item::GenerateBlock(..) => Ok(Vec::new(self.alloc)),

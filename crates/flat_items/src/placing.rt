@@ -12,8 +12,9 @@ use crate::generate::one;
 use crate::numbers::ModuleNumbers;
 use crate::task::Task;
 use flat_instances::{Entered, FlatItem, ItemError, Joint, open_instance};
+use flat_scopes::Placing;
 use std::alloc::{AllocError, Global};
-use vlog_syntax::{Identifier, Instance, Module, ParameterValues};
+use vlog_syntax::{Identifier, Module};
 
 /// The number of the first module of this name.
 pub(crate) fn module_at(modules: &[Module], name: &str) -> Option<usize>
@@ -99,10 +100,9 @@ impl<'a> Flat<'a> {
         modules: &'a [Module],
         number: usize,
         place: u32,
-        values: &'a ParameterValues,
-        instance: &'a Instance,
+        placing: &Placing<'a>,
     ) -> Result<Vec<Task<'a>>, AllocError>
-        ensures { IfOk result (λ tasks. (p : Spot) → slice_get (flat_of self.old).places place ≡ Some p → PlacesInstance modules.now number place p values.now instance.now (flat_of self.old) tasks.items (flat_of self.new)) }
+        ensures { IfOk result (λ tasks. (p : Spot) → slice_get (flat_of self.old).places place ≡ Some p → PlacesInstance modules.now number place p placing.now (flat_of self.old) tasks.items (flat_of self.new)) }
     {
         let inside = self.next_place()?;
         let signals = self.take_signals();
@@ -117,15 +117,7 @@ impl<'a> Flat<'a> {
             inside,
         };
         let within = inner_modules(self.alloc, number, around.within.as_slice())?;
-        let entered = open_instance(
-            self.alloc,
-            joint,
-            around,
-            signals,
-            declaration,
-            values,
-            instance,
-        )?;
+        let entered = open_instance(self.alloc, joint, around, signals, declaration, placing)?;
         let Entered {
             prefix,
             child,
@@ -142,24 +134,23 @@ impl<'a> Flat<'a> {
         modules: &'a [Module],
         numbers: &ModuleNumbers,
         place: u32,
-        name: &'a Identifier,
-        values: &'a ParameterValues,
-        instance: &'a Instance,
+        placing: &Placing<'a>,
     ) -> Result<Vec<Task<'a>>, AllocError>
         requires { AreNumbered modules.now numbers.now }
-        ensures { IfOk result (λ tasks. Replaces modules.now (Placed place name.now values.now instance.now) (flat_of self.old) tasks.items (flat_of self.new)) }
+        ensures { IfOk result (λ tasks. Replaces modules.now (Placed place placing.now) (flat_of self.old) tasks.items (flat_of self.new)) }
     {
         let Some(around) = self.place(place) else {
             return Err(AllocError);
         };
         let full = self.is_full();
+        let name = placing.module_name.get();
         match placed_in(full, numbers, name, around.within.as_slice()) {
             Err(error) => {
                 let tasks = one(self.alloc, Task::Refuses(error))?;
                 Ok(tasks)
             }
             Ok(number) => {
-                let tasks = self.enter_instance(modules, number, place, values, instance)?;
+                let tasks = self.enter_instance(modules, number, place, placing)?;
                 Ok(tasks)
             }
         }

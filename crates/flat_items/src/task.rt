@@ -1,8 +1,8 @@
 //! Parts of a design that are still to be replaced by what they stand for.
 use flat_instances::ItemError;
-use flat_scopes::{Lent, Step};
+use flat_scopes::{Lent, Placing, Step};
 use mcy_base::Text;
-use vlog_syntax::{Boxed, GenerateLoop, Identifier, Instance, Item, ParameterValues};
+use vlog_syntax::{Boxed, GenerateLoop, Identifier, Item};
 
 /// A turn of a loop.
 #[derive(Drop)]
@@ -15,6 +15,8 @@ pub struct Turn<'a> {
     pub count: u32,
     /// The value of the loop's variable, in two's complement.
     pub value: u32,
+    /// The label of the loop's block, where it stands already and is not told yet.
+    pub taken: Option<Lent<'a, Identifier>>,
 }
 
 /// A part of a design, with the number of the scope in which it stands.
@@ -22,12 +24,11 @@ pub struct Turn<'a> {
 pub enum Task<'a> {
     /// What an item of the scope lists.
     Step(u32, Step<'a>),
-    /// The name of a module, the values of its parameters, and an instance.
-    Instance(u32, Lent<'a, Identifier>, Lent<'a, ParameterValues>, Lent<'a, Instance>),
-    /// A generate construct, and which of its scope it is.
-    Generates(u32, u32, Boxed<Lent<'a, Item>>),
-    /// What a condition chose, and which construct of its scope the condition belongs to.
-    Arm(u32, u32, Boxed<Lent<'a, Item>>),
+    Instance(u32, Placing<'a>),
+    /// A generate construct, which of its scope it is, and a label of its blocks that stands already and is not told yet.
+    Generates(u32, u32, Boxed<Lent<'a, Item>>, Option<Lent<'a, Identifier>>),
+    /// What a condition chose, which construct of its scope the condition belongs to, and a label of its blocks as above.
+    Arm(u32, u32, Boxed<Lent<'a, Item>>, Option<Lent<'a, Identifier>>),
     Turn(u32, Turn<'a>),
     /// The design is refused here.
     Refuses(ItemError),

@@ -10,7 +10,7 @@ ghost use Rattle.flat_items.specs.declared.task.Task.TheVariants.{Turn as TurnTa
 
 use crate::constants::{condition, integer};
 use crate::flat::Flat;
-use crate::generate::one;
+use crate::generate::{one, told};
 use crate::names::turn_name;
 use crate::task::{Task, Turn};
 use flat_instances::{ItemError, Place};
@@ -84,6 +84,7 @@ fn stepped<'a>(
                 body: turn.body,
                 count,
                 value,
+                taken: None,
             },
         )),
     }
@@ -133,8 +134,10 @@ impl<'a> Flat<'a> {
         let what = self.sees(place, head.step_name.name.as_str())?;
         let value = integer(head.step.get(), child.scope());
         let name = turn_name(self.alloc, turn.name.as_str(), turn.value)?;
-        let mut tasks = self.open_block(place, name.as_str(), child, turn.body.get().get())?;
-        tasks.push(next_turn(place, turn, what, value)?)?;
+        let mut tasks = told(self.alloc, &turn.taken)?;
+        let mut inner = self.open_block(place, name.as_str(), child, turn.body.get().get())?;
+        inner.push(next_turn(place, turn, what, value)?)?;
+        tasks.append(&mut inner)?;
         Ok(tasks)
     }
 
@@ -153,7 +156,7 @@ impl<'a> Flat<'a> {
             Outcome::Goes => self.turn_block(place, turn, child),
             Outcome::Ends => {
                 self.give_back(child);
-                Ok(Vec::new(self.alloc))
+                told(self.alloc, &turn.taken)
             }
             Outcome::Refused(error) => {
                 self.give_back(child);

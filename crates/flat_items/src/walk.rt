@@ -54,14 +54,13 @@ impl<'a> Flat<'a> {
     {
         match task {
             Task::Step(place, step) => self.step(place, step),
-            Task::Instance(place, name, values, instance) => {
-                let (name, values) = (name.get(), values.get());
-                self.instance(modules, numbers, place, name, values, instance.get())
+            Task::Instance(place, placing) => self.instance(modules, numbers, place, &placing),
+            Task::Generates(place, number, item, taken) => {
+                self.generates(place, number, item.get().get(), taken)
             }
-            Task::Generates(place, number, item) => {
-                self.generates(place, number, item.get().get())
+            Task::Arm(place, number, item, taken) => {
+                self.arm(place, number, item.get().get(), taken)
             }
-            Task::Arm(place, number, item) => self.arm(place, number, item.get().get()),
             Task::Turn(place, turn) => self.turn(place, turn),
             Task::Refuses(error) => {
                 self.list(FlatItem::Refuses(error))?;

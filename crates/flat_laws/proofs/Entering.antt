@@ -4,12 +4,11 @@ use Rattle.std.specs.Prelude.{slice_get}
 use Rattle.std.specs.Str.{bytes_eq}
 use Rattle.std.proofs.lemmas.List.{length_push, append-nil}
 use Rattle.std.proofs.lemmas.Option.{none-some}
-use Rattle.vlog_syntax.specs.declared.item.Instance.{Instance}
 use Rattle.vlog_syntax.specs.declared.item.Item.{Item}
-use Rattle.vlog_syntax.specs.declared.item.ParameterValues.{ParameterValues}
 use Rattle.vlog_syntax.specs.declared.module.Module.{Module}
 use Rattle.vlog_meaning.specs.declared.scope.Decl.TheVariants.{Constant}
 use Rattle.vlog_meaning.specs.Scopes.{Names}
+use Rattle.flat_scopes.specs.declared.opening.Placing.{Placing}
 use Rattle.flat_scopes.specs.declared.signal.Signal.{Signal}
 use Rattle.flat_scopes.specs.declared.signal.What.{What}
 use Rattle.flat_scopes.specs.declared.signal.What.TheVariants as w
@@ -20,7 +19,7 @@ use Rattle.flat_instances.specs.declared.item.FlatItem.{FlatItem}
 use Rattle.flat_items.specs.declared.task.Task.{Task}
 use Rattle.flat_items.specs.declared.task.Task.TheVariants as t
 use Rattle.flat_items.specs.declared.task.Turn.{Turn}
-use Rattle.flat_items.specs.Flattened.{Flat, block_head, block_items, add_all, entered, tasks_of, integer_in, OpensBlock, turn_start}
+use Rattle.flat_items.specs.Flattened.{Flat, block_head, block_items, add_all, entered, tasks_of, integer_in, taken_tasks, OpensBlock, turn_start}
 use Rattle.flat_instances.specs.Instances.{head_of, inner_prefix, no_names}
 use Rattle.flat_instances.specs.Gifts.{gift_of, parameters_of}
 use Rattle.flat_scopes.specs.Wires.{ports_of}
@@ -32,7 +31,7 @@ use Rattle.flat_laws.proofs.Growing.{Grows, AllSteps, listed, times_listed, grow
 use Rattle.flat_laws.proofs.Opening.{Keeps, kept_name}
 use Rattle.flat_laws.proofs.Opened.{kept_items, kept_module}
 use Rattle.flat_laws.proofs.Items.{items_on, items_more, declared_more, AreListed, listed_stand, listed_none, instance_listed}
-use Rattle.flat_laws.proofs.Parts.{AllTasks, tasks_more, left_more, steps_stand, steps_left, FlatStands, Moves, AreQuiet}
+use Rattle.flat_laws.proofs.Parts.{AllTasks, tasks_more, left_more, steps_stand, steps_left, FlatStands, Moves, AreQuiet, taken_quiet, ahead_moves}
 
 -- what was opened behind these signals
 record Added (signals : List Signal) (child : Opened) : Type 0 where
@@ -117,17 +116,17 @@ enters flat items mid prefix around within child h a signals places all listed =
 
 -- Instances.
 
-pub instance_moves : (modules : List Module) (n k : ℕ) (place : Place) (values : ParameterValues) (instance : Instance) (flat next : Flat) (tasks : List Task) → PlacesInstance modules n k place values instance flat tasks next
+pub instance_moves : (modules : List Module) (n k : ℕ) (place : Place) (x : Placing) (flat next : Flat) (tasks : List Task) → PlacesInstance modules n k place x flat tasks next
     → FlatStands flat → k < length flat.places → Moves (λ j. 0) flat tasks next
-instance_moves modules n k place values instance flat next tasks d h less =
+instance_moves modules n k place x flat next tasks d h less =
     let m = length flat.places in
     let start : Opened = unopened no_names flat.signals in
-    let prefix = inner_prefix place.prefix instance.name.name in
-    let kept : Keeps start d.child = kept_module start start d.child (head_of prefix d.m values) place.names d.m d.opens.opens (unopened_kept no_names flat.signals h.sized (λ name. tt)) in
+    let prefix = inner_prefix place.prefix x.instance.name.name in
+    let kept : Keeps start d.child = kept_module start start d.child (head_of prefix d.m x.values) place.names d.m d.opens.opens (unopened_kept no_names flat.signals h.sized (λ name. tt)) in
     let outside : k < m + 1 = omega (arith, less) in
     let inside : m < m + 1 = omega arith in
     let listed : AreListed (length d.child.signals) (m + 1) d.items =
-    subst (AreListed (length d.child.signals) (m + 1)) (sym d.opens.lists) (instance_listed (m + 1) k m outside inside (gift_of (parameters_of d.m) values).refused (ports_of d.m.ports) instance d.child) in
+    subst (AreListed (length d.child.signals) (m + 1)) (sym d.opens.lists) (instance_listed (m + 1) k m outside inside (gift_of (parameters_of d.m) x.values).refused (ports_of d.m.ports) x d.child) in
     let moves = enters flat d.items (add_all flat d.items) prefix None (n ∷ place.within) d.child h (added flat.signals start d.child refl refl kept) refl refl refl listed in
     subst (λ (xs : List Task). Moves (λ j. 0) flat xs next) (sym d.listed) (subst (Moves (λ j. 0) flat (tasks_of m d.child.steps)) (sym d.enters) moves)
 
@@ -190,7 +189,7 @@ turn_moves k place x flat next tasks d h p less =
     let wider = block.wider in
     let inside : k < length next.places = omega (arith, less, wider) in
     let after = next_turn k x d.what (integer_in start.names x.head.step) in
-    let moves = behind_moves flat next d.inner (after ∷ []) block (next_quiet (length next.signals) (length next.places) k x d.what (integer_in start.names x.head.step) inside) in
+    let moves = ahead_moves flat next (taken_tasks x.taken) (d.inner ++ after ∷ []) (taken_quiet (length next.signals) (length next.places) x.taken) (behind_moves flat next d.inner (after ∷ []) block (next_quiet (length next.signals) (length next.places) k x d.what (integer_in start.names x.head.step) inside)) in
     subst (λ (xs : List Task). Moves (λ j. 0) flat xs next) (sym d.all) moves
 
 -- The top.

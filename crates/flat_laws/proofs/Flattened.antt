@@ -14,7 +14,7 @@ use Rattle.flat_instances.specs.declared.item.FlatItem.TheVariants as f
 use Rattle.flat_instances.specs.declared.error.ItemError.TheVariants as err
 use Rattle.flat_items.specs.declared.task.Task.{Task}
 use Rattle.flat_items.specs.declared.task.Task.TheVariants as t
-use Rattle.flat_items.specs.Flattened.{Flat, entered, tasks_of, step_items, condition_in, module_at}
+use Rattle.flat_items.specs.Flattened.{Flat, entered, tasks_of, step_items, condition_in, taken_tasks, module_at}
 use Rattle.flat_instances.specs.Instances.{no_names}
 use Rattle.flat_instances.specs.Places.{Place}
 use Rattle.flat_scopes.specs.Wires.{ports_of}
@@ -28,26 +28,27 @@ use Rattle.flat_laws.proofs.Opening.{Keeps}
 use Rattle.flat_laws.proofs.Opened.{kept_module}
 use Rattle.flat_laws.proofs.Items.{AreListed}
 use Rattle.flat_laws.proofs.Ports.{port_on, module_ports}
-use Rattle.flat_laws.proofs.Parts.{AllTasks, TaskStands, FlatStands, Moves, left, times_left, left_more, tasks_on, tasks_more, step_moves, refusal_moves, one_moves, none_moves, chosen_moves}
+use Rattle.flat_laws.proofs.Parts.{AllTasks, TaskStands, FlatStands, Moves, left, times_left, left_more, tasks_on, tasks_more, step_moves, refusal_moves, one_moves, none_moves, taken_quiet, taken_moves, ahead_moves, chosen_moves}
 use Rattle.flat_laws.proofs.Entering.{instance_moves, block_moves, inner_kept, turn_moves, unopened_kept, start_moves}
 
 moved : (modules : List Module) (task : Task) (flat : Flat) (tasks : List Task) (next : Flat) → Replaces modules task flat tasks next → FlatStands flat → TaskStands (length flat.signals) (length flat.places) task → Moves (λ k. left k task) flat tasks next
 moved modules task flat tasks next (step k x old) h there = step_moves k x old h there
 moved modules task flat tasks next (refused error old) h there = refusal_moves error old h
-moved modules task flat tasks next (not_placed k name values instance old place error got found) h there = one_moves (t.Refuses error) old h tt (λ j. refl)
-moved modules task flat tasks next (placed k name values instance old new place n xs got found d) h there = instance_moves modules n k place values instance old new xs d h there
-moved modules task flat tasks next (condition k n at c first second old place got) h there = chosen_moves k n (condition_in place.names c) first second old h there
-moved modules task flat tasks next (arm_null k n at old) h there = none_moves old h
-moved modules task flat tasks next (arm_condition k n at c first second old) h there = one_moves (t.Generates k n (i.IfGenerate at c first second)) old h there (λ j. refl)
-moved modules task flat tasks next (arm_full k n item old form full) h there = one_moves (t.Refuses err.Scopes) old h tt (λ j. refl)
-moved modules task flat tasks next (arm_block k n item old new place name xs form room got named d) h there = block_moves k place name (unopened place.names old.signals) item old new xs d h refl refl (inner_kept place old h (h.places k place got))
-moved modules task flat tasks next (bad_genvar k n head body old what error sees fault) h there = one_moves (t.Refuses error) old h tt (λ j. refl)
-moved modules task flat tasks next (bad_start k n head body old what place error sees fault got value) h there = one_moves (t.Refuses error) old h tt (λ j. refl)
-moved modules task flat tasks next (loop k n head body old what place value name sees fault got start named) h there = one_moves (t.Turn k (first_turn name head body value)) old h there (λ j. refl)
-moved modules task flat tasks next (turn_ended k x old place got ends) h there = none_moves old h
+moved modules task flat tasks next (not_placed k x old place error got found) h there = one_moves (t.Refuses error) old h tt (λ j. refl)
+moved modules task flat tasks next (placed k x old new place n xs got found d) h there = instance_moves modules n k place x old new xs d h there
+moved modules task flat tasks next (condition k n at c first second taken old place got) h there = chosen_moves k n (condition_in place.names c) first second taken old h there
+moved modules task flat tasks next (arm_null k n at taken old) h there = taken_moves taken old h
+moved modules task flat tasks next (arm_condition k n at c first second taken old) h there = one_moves (t.Generates k n (i.IfGenerate at c first second) taken) old h there (λ j. refl)
+moved modules task flat tasks next (arm_full k n item taken old form full) h there = one_moves (t.Refuses err.Scopes) old h tt (λ j. refl)
+moved modules task flat tasks next (arm_block k n item taken old new place name xs form room got named d) h there =
+    ahead_moves old new (taken_tasks taken) xs (taken_quiet (length new.signals) (length new.places) taken) (block_moves k place name (unopened place.names old.signals) item old new xs d h refl refl (inner_kept place old h (h.places k place got)))
+moved modules task flat tasks next (bad_genvar k n head body taken old what error sees fault) h there = one_moves (t.Refuses error) old h tt (λ j. refl)
+moved modules task flat tasks next (bad_start k n head body taken old what place error sees fault got value) h there = one_moves (t.Refuses error) old h tt (λ j. refl)
+moved modules task flat tasks next (loop k n head body taken old what place value name sees fault got start named) h there = one_moves (t.Turn k (first_turn name head body value taken)) old h there (λ j. refl)
+moved modules task flat tasks next (turn_ended k x old place got ends) h there = taken_moves x.taken old h
 moved modules task flat tasks next (bad_turn k x old place error got bad) h there = one_moves (t.Refuses error) old h tt (λ j. refl)
 moved modules task flat tasks next (turn k x old new place xs got goes d) h there = turn_moves k place x old new xs d h (h.places k place got) there
-moved modules task flat tasks next (no_construct k n item old form) h there = none_moves old h
+moved modules task flat tasks next (no_construct k n item taken old form) h there = none_moves old h
 
 -- What holds from part to part: the design so far stands, so do the parts that are left, and each signal is declared once.
 record Holds (tasks : List Task) (flat : Flat) : Type 0 where
@@ -149,25 +150,26 @@ step_accepted k (s.RefusesGiven x) items h = tt
 step_accepted k (s.Starts n value) items h = tt
 step_accepted k (s.Drives name value) items h = tt
 step_accepted k (s.Lists x) items h = tt
-step_accepted k (s.Generates n item) items h = tt
+step_accepted k (s.Places x) items h = tt
+step_accepted k (s.Generates n item taken) items h = tt
 
 task_accepted : (modules : List Module) (task : Task) (flat : Flat) (tasks : List Task) (next : Flat) → Replaces modules task flat tasks next → AreAccepted next.items → TaskAccepted task
 task_accepted modules task flat tasks next (step k x old) h = step_accepted k x old.items h
 task_accepted modules task flat tasks next (refused error old) h = tt
-task_accepted modules task flat tasks next (not_placed k name values instance old place error got found) h = tt
-task_accepted modules task flat tasks next (placed k name values instance old new place n xs got found d) h = tt
-task_accepted modules task flat tasks next (condition k n at c first second old place got) h = tt
-task_accepted modules task flat tasks next (arm_null k n at old) h = tt
-task_accepted modules task flat tasks next (arm_condition k n at c first second old) h = tt
-task_accepted modules task flat tasks next (arm_full k n item old form full) h = tt
-task_accepted modules task flat tasks next (arm_block k n item old new place name xs form room got named d) h = tt
-task_accepted modules task flat tasks next (bad_genvar k n head body old what error sees fault) h = tt
-task_accepted modules task flat tasks next (bad_start k n head body old what place error sees fault got value) h = tt
-task_accepted modules task flat tasks next (loop k n head body old what place value name sees fault got start named) h = tt
+task_accepted modules task flat tasks next (not_placed k x old place error got found) h = tt
+task_accepted modules task flat tasks next (placed k x old new place n xs got found d) h = tt
+task_accepted modules task flat tasks next (condition k n at c first second taken old place got) h = tt
+task_accepted modules task flat tasks next (arm_null k n at taken old) h = tt
+task_accepted modules task flat tasks next (arm_condition k n at c first second taken old) h = tt
+task_accepted modules task flat tasks next (arm_full k n item taken old form full) h = tt
+task_accepted modules task flat tasks next (arm_block k n item taken old new place name xs form room got named d) h = tt
+task_accepted modules task flat tasks next (bad_genvar k n head body taken old what error sees fault) h = tt
+task_accepted modules task flat tasks next (bad_start k n head body taken old what place error sees fault got value) h = tt
+task_accepted modules task flat tasks next (loop k n head body taken old what place value name sees fault got start named) h = tt
 task_accepted modules task flat tasks next (turn_ended k x old place got ends) h = tt
 task_accepted modules task flat tasks next (bad_turn k x old place error got bad) h = tt
 task_accepted modules task flat tasks next (turn k x old new place xs got goes d) h = tt
-task_accepted modules task flat tasks next (no_construct k n item old form) h = tt
+task_accepted modules task flat tasks next (no_construct k n item taken old form) h = tt
 
 -- what is there in a design is there in the whole one
 record Follows (tasks : List Task) (flat last : Flat) : Type 0 where
@@ -195,7 +197,8 @@ clash (s.RefusesGiven x) h i = i
 clash (s.Starts n value) h i = i
 clash (s.Drives name value) h i = i
 clash (s.Lists x) h i = i
-clash (s.Generates n item) h i = i
+clash (s.Places x) h i = i
+clash (s.Generates n item taken) h i = i
 
 none_refused : (k : ℕ) (xs : List Step) → AllAccepted (tasks_of k xs) → SomeRefused xs → ⊥
 none_refused k [] h some = some

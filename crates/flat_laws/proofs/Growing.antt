@@ -111,7 +111,8 @@ step_on n m (s.Refuses x) le h = tt
 step_on n m (s.RefusesGiven x) le h = tt
 step_on n m (s.Drives name value) le h = tt
 step_on n m (s.Lists x) le h = tt
-step_on n m (s.Generates k item) le h = tt
+step_on n m (s.Places x) le h = tt
+step_on n m (s.Generates k item taken) le h = tt
 
 pub steps_on : (n m : ℕ) (xs : List Step) → n ≤ m → AllSteps n xs → AllSteps m xs
 steps_on n m [] le h = tt

@@ -7,8 +7,8 @@ use Rattle.vlog_syntax.specs.declared.expr.Expr.{Expr}
 use Rattle.vlog_syntax.specs.declared.identifier.Identifier.{Identifier}
 use Rattle.vlog_syntax.specs.declared.item.Direction.{Direction}
 use Rattle.vlog_syntax.specs.declared.item.Direction.TheVariants.{Input, Output}
-use Rattle.vlog_syntax.specs.declared.item.Instance.{Instance}
 use Rattle.vlog_syntax.specs.Places.{first_token}
+use Rattle.flat_scopes.specs.declared.opening.Placing.{Placing}
 use Rattle.flat_scopes.specs.declared.signal.Port.{Port}
 use Rattle.flat_scopes.specs.declared.signal.Signal.{Signal}
 use Rattle.flat_scopes.specs.declared.signal.What.{What}
@@ -22,7 +22,7 @@ use Rattle.flat_instances.specs.declared.item.FlatItem.TheVariants as f
 use Rattle.flat_scopes.specs.declared.wire.Wire.{Wire}
 use Rattle.flat_scopes.specs.declared.wire.Wire.TheVariants.{To, Mismatch}
 use Rattle.flat_instances.specs.Gifts.{value_faults, first_of}
-use Rattle.flat_instances.specs.Instances.{fault_item, listed_of}
+use Rattle.flat_instances.specs.Instances.{fault_item, name_item, own_faults, listed_of}
 use Rattle.flat_scopes.specs.Wires.{wires_of}
 use Rattle.flat_instances.specs.Wires.{is_left, output_item, port_item, found_item, wire_item, wired, is_wired, open_item, open_found, unwired_item, unwired, connected}
 use Rattle.flat_laws.specs.Sound.{ItemStands, AllStand, declares, times_declared}
@@ -140,10 +140,15 @@ module _ (m outside inside : ℕ) (o : outside < m) (i : inside < m) where
   fault_listed n None = tt
   fault_listed n (Some e) = ((tt, λ k. refl), tt)
 
-  pub instance_listed : (refused : List ParameterError) (ports : List Identifier) (instance : Instance) (child : Opened) → AreListed (length child.signals) m (listed_of outside inside refused ports instance child)
-  instance_listed refused ports instance child =
+  name_listed : (n : ℕ) (is_twice : Bool) (name : Identifier) → AreListed n m (option_to_list (name_item is_twice name))
+  name_listed n false name = tt
+  name_listed n true name = ((tt, λ k. refl), tt)
+
+  pub instance_listed : (refused : List ParameterError) (ports : List Identifier) (x : Placing) (child : Opened) → AreListed (length child.signals) m (listed_of outside inside refused ports x child)
+  instance_listed refused ports x child =
       let n = length child.signals in
-      let wires = wires_of ports instance in
+      let wires = wires_of ports x.instance in
       let fault = first_of (first_of None refused) (value_faults child.steps) in
-      listed_more n m (option_to_list (fault_item fault)) (connected outside inside child wires ports) (fault_listed n fault)
+      let own = listed_more n m (option_to_list (fault_item fault)) (option_to_list (name_item x.is_twice x.instance.name)) (fault_listed n fault) (name_listed n x.is_twice x.instance.name) in
+      listed_more n m (own_faults refused x child) (connected outside inside child wires ports) own
       (listed_more n m (wired outside inside child wires) (unwired child wires ports) (wired_listed child wires) (unwired_listed child wires ports))

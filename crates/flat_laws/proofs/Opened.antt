@@ -1,9 +1,9 @@
 -- What the items of a scope and whole modules keep of it.
-use Rattle.std.proofs.Common.{◌≡◌, inr, ℕ, ◌+◌, List, [], ◌∷◌, ◌++◌, length, Option, None, Some, refl, sym, subst, arith}
+use Rattle.std.proofs.Common.{◌≡◌, inr, ℕ, ◌+◌, true, List, [], ◌∷◌, ◌++◌, length, Option, None, Some, refl, sym, subst, arith}
 use Rattle.std.specs.Prelude.{is_some, if◌then◌else◌}
 use Rattle.vlog_syntax.specs.declared.identifier.Identifier.{Identifier}
 use Rattle.vlog_syntax.specs.declared.expr.Expr.{Expr}
-use Rattle.vlog_syntax.specs.declared.item.Item.{Item}
+use Rattle.vlog_syntax.specs.declared.item.Item.{Item, out-Item}
 use Rattle.vlog_syntax.specs.declared.item.Item.TheVariants as i
 use Rattle.vlog_syntax.specs.declared.item.ParameterKind.{ParameterKind}
 use Rattle.vlog_syntax.specs.declared.item.ParameterType.{ParameterType}
@@ -31,15 +31,16 @@ use Rattle.flat_scopes.specs.declared.refusal.Refusal.TheVariants as r
 use Rattle.flat_scopes.specs.declared.signal.Signal.{Signal}
 use Rattle.flat_scopes.specs.declared.signal.What.{What}
 use Rattle.flat_scopes.specs.declared.signal.What.TheVariants as w
-use Rattle.flat_scopes.specs.Openings.{Opened, step, refuse, plain_name, instance_names, is_among, refused_type, type_of, port_names}
-use Rattle.flat_scopes.specs.Opens.{declared, labels_of, merged, block_names, construct, Opens, opened, open_plain, open_region, open_loop, open_if, open_block, open_null, port_at, all_parameters, header_names, all_ports, header, undeclared, footer, OpensModule}
+use Rattle.flat_scopes.specs.Openings.{Opened, step, refuse, is_among, refused_type, type_of, port_names}
+use Rattle.flat_scopes.specs.Insides.{block_names, first_taken}
+use Rattle.flat_scopes.specs.Opens.{declared, labels_of, body_labels, merged, construct, Opens, opened, open_plain, open_region, open_loop, open_if, open_block, open_null, port_at, all_parameters, header_names, all_ports, header, undeclared, footer, OpensModule}
 use Rattle.flat_scopes.specs.Parameters.{parameter_faults}
 use Rattle.flat_scopes.specs.Ranges.{bits_of_range}
 use Rattle.flat_scopes.specs.Valued.{refused_bits, parameter_bits, given_for, value_sense, value_fault, declared_as, zero_as, constant_name, valued, parameter_name, parameter_names, parameters}
 use Rattle.flat_laws.specs.Sound.{NamesSignal}
 use Rattle.flat_laws.proofs.Lists.{either}
 use Rattle.flat_laws.proofs.Growing.{AllSteps, SomeRefused, times_listed, times_more, steps_more}
-use Rattle.flat_laws.proofs.Opening.{Keeps, kept_step, kept_refuse, kept_name, kept_plain, kept_genvars, kept_instances, kept_range, kept_type, kept_ports, kept_all_data}
+use Rattle.flat_laws.proofs.Opening.{Keeps, kept_step, kept_refuse, kept_name, kept_genvars, kept_instances, kept_blocks, kept_range, kept_type, kept_ports, kept_all_data}
 
 -- Parameters.
 
@@ -94,11 +95,7 @@ kept_declared start o head outside (p.GenvarDeclaration at names) h = kept_genva
 kept_declared start o head outside (p.ParameterDeclaration x) h = kept_parameters start o head outside x h
 kept_declared start o head outside (p.ContinuousAssign at delay assignments) h = kept_step start o (s.Lists (p.ContinuousAssign at delay assignments)) h tt (λ k. refl)
 kept_declared start o head outside (p.Process x) h = kept_step start o (s.Lists (p.Process x)) h tt (λ k. refl)
-kept_declared start o head outside (p.ModuleInstantiation name values instances) h = kept_step start (instance_names o instances) (s.Lists (p.ModuleInstantiation name values instances)) (kept_instances start o instances h) tt (λ k. refl)
-
-kept_blocks : (start o : Opened) (labels : List Identifier) → Keeps start o → Keeps start (block_names o labels)
-kept_blocks start o [] h = h
-kept_blocks start o (b ∷ more) h = kept_blocks start (plain_name o b w.Inside (o.own b.name)) more (kept_plain start o b w.Inside (o.own b.name) h refl tt)
+kept_declared start o head outside (p.ModuleInstantiation name values list) h = kept_instances start o name values true list h
 
 -- the number of constructs plays no part
 kept_counted : (start o : Opened) (n : ℕ) → Keeps start o → Keeps start (record o { constructs = n })
@@ -106,15 +103,15 @@ kept_counted start o n h = record { grows = h.grows; sized = h.sized; names = h.
 
 kept_construct : (start o : Opened) (item : Item) (labels : List Identifier) → Keeps start o → Keeps start (construct o item labels)
 kept_construct start o item labels h =
-    let mid = block_names o (merged [] labels) in
-    kept_step start (record mid { constructs = mid.constructs + 1 }) (s.Generates (mid.constructs + 1) item) (kept_counted start mid (mid.constructs + 1) (kept_blocks start o (merged [] labels) h)) tt (λ k. refl)
+    let mid = block_names o labels in
+    kept_step start (record mid { constructs = mid.constructs + 1 }) (s.Generates (mid.constructs + 1) item (first_taken o labels)) (kept_counted start mid (mid.constructs + 1) (kept_blocks start o labels h)) tt (λ k. refl)
 
 pub kept_items : (start : Opened) (head : Head) (outside : Names) (o last : Opened) (items : List Item) → Opens head outside o items last → Keeps start o → Keeps start last
 kept_items start head outside o last items (opened x) h = h
 kept_items start head outside o last items (open_plain x end item more d) h = kept_items start head outside (declared head outside x item) end more d (kept_declared start x head outside item h)
 kept_items start head outside o last items (open_region x mid end at inner more d e) h = kept_items start head outside mid end more e (kept_items start head outside x mid inner d h)
-kept_items start head outside o last items (open_loop x end loop body more d) h = kept_items start head outside (construct x (i.LoopGenerate loop body) (labels_of body)) end more d (kept_construct start x (i.LoopGenerate loop body) (labels_of body) h)
-kept_items start head outside o last items (open_if x end at c first second more d) h = kept_items start head outside (construct x (i.IfGenerate at c first second) (labels_of (i.IfGenerate at c first second))) end more d (kept_construct start x (i.IfGenerate at c first second) (labels_of (i.IfGenerate at c first second)) h)
+kept_items start head outside o last items (open_loop x end loop body more d) h = kept_items start head outside (construct x (i.LoopGenerate loop body) (body_labels (out-Item body))) end more d (kept_construct start x (i.LoopGenerate loop body) (body_labels (out-Item body)) h)
+kept_items start head outside o last items (open_if x end at c first second more d) h = kept_items start head outside (construct x (i.IfGenerate at c first second) (merged [] (labels_of (i.IfGenerate at c first second)))) end more d (kept_construct start x (i.IfGenerate at c first second) (merged [] (labels_of (i.IfGenerate at c first second))) h)
 kept_items start head outside o last items (open_block x end at name inner more d) h = kept_items start head outside x end more d h
 kept_items start head outside o last items (open_null x end at more d) h = kept_items start head outside x end more d h
 

@@ -12,6 +12,7 @@ use Rattle.vlog_syntax.specs.declared.item.DataType.{DataType}
 use Rattle.vlog_syntax.specs.declared.item.DataType.TheVariants.{Wire, Reg, Integer}
 use Rattle.vlog_syntax.specs.declared.item.DeclaredName.{DeclaredName}
 use Rattle.vlog_syntax.specs.declared.item.Instance.{Instance}
+use Rattle.vlog_syntax.specs.declared.item.ParameterValues.{ParameterValues}
 use Rattle.vlog_meaning.specs.declared.scope.Decl.{Decl}
 use Rattle.vlog_meaning.specs.declared.scope.Decl.TheVariants as d
 use Rattle.vlog_meaning.specs.Scopes.{Names}
@@ -25,7 +26,8 @@ use Rattle.flat_scopes.specs.declared.refusal.Refusal.TheVariants as r
 use Rattle.flat_scopes.specs.declared.signal.Signal.{Signal}
 use Rattle.flat_scopes.specs.declared.signal.What.{What}
 use Rattle.flat_scopes.specs.declared.signal.What.TheVariants as w
-use Rattle.flat_scopes.specs.Openings.{Opened, step, refuse, own_name, plain_name, genvar_names, instance_names, refused_range, refused_type, type_of, new_signal, same_signal, has_bits, again_port, again_data, is_among, port_found, port_name, data_name, variable_start, initial, port_names, data_names}
+use Rattle.flat_scopes.specs.Openings.{Opened, step, refuse, own_name, plain_name, genvar_names, refused_range, refused_type, type_of, new_signal, same_signal, has_bits, again_port, again_data, is_among, port_found, port_name, data_name, variable_start, initial, port_names, data_names}
+use Rattle.flat_scopes.specs.Insides.{inner_name, placing, placed, instances, block_names}
 use Rattle.flat_scopes.specs.Ranges.{bits_of_range}
 use Rattle.flat_laws.specs.Ports.{IsDirected}
 use Rattle.flat_laws.specs.Sound.{AreSized, HasBits, NamesSignal, OwnsSignal}
@@ -85,7 +87,7 @@ kept_name start o name what decl h none owns named = record {
   refused = h.refused;
 }
 
--- a name for an instance, a block or a genvar
+-- a name for a genvar
 pub kept_plain : (start o : Opened) (id : Identifier) (what : What) (found : Option What) → Keeps start o → o.own id.name ≡ found → OwnsSignal (length o.signals) (Some what) → Keeps start (plain_name o id what found)
 kept_plain start o id what None h e owns = kept_name start o id.name what None h e owns tt
 kept_plain start o id what (Some other) h e owns = kept_refuse start o (r.Twice id.span) h
@@ -94,9 +96,20 @@ pub kept_genvars : (start o : Opened) (names : List DeclaredName) → Keeps star
 kept_genvars start o [] h = h
 kept_genvars start o (n ∷ more) h = kept_genvars start (plain_name o n.name w.Genvar (o.own n.name.name)) more (kept_plain start o n.name w.Genvar (o.own n.name.name) h refl tt)
 
-pub kept_instances : (start o : Opened) (instances : List Instance) → Keeps start o → Keeps start (instance_names o instances)
-kept_instances start o [] h = h
-kept_instances start o (x ∷ more) h = kept_instances start (plain_name o x.name w.Inside (o.own x.name.name)) more (kept_plain start o x.name w.Inside (o.own x.name.name) h refl tt)
+-- a name for an instance or a block
+kept_inner : (start o : Opened) (name : List ℕ) (found : Option What) → Keeps start o → o.own name ≡ found → Keeps start (inner_name o name found)
+kept_inner start o name None h e = kept_name start o name w.Inside None h e tt tt
+kept_inner start o name (Some other) h e = h
+
+pub kept_instances : (start o : Opened) (name : Identifier) (values : ParameterValues) (is_first : Bool) (xs : List Instance) → Keeps start o → Keeps start (instances o name values is_first xs)
+kept_instances start o name values is_first [] h = h
+kept_instances start o name values is_first (x ∷ more) h =
+    let mid = inner_name o x.name.name (o.own x.name.name) in
+    kept_instances start (placed o name values is_first x) name values false more (kept_step start mid (s.Places (placing o name values is_first x)) (kept_inner start o x.name.name (o.own x.name.name) h refl) tt (λ k. refl))
+
+pub kept_blocks : (start o : Opened) (labels : List Identifier) → Keeps start o → Keeps start (block_names o labels)
+kept_blocks start o [] h = h
+kept_blocks start o (b ∷ more) h = kept_blocks start (inner_name o b.name (o.own b.name)) more (kept_inner start o b.name (o.own b.name) h refl)
 
 -- types
 

@@ -1,11 +1,9 @@
 -- What each part of a design keeps where it is replaced: the design so far stands, and so do the parts that are left.
-use Rattle.std.proofs.Common.{◌≡◌, ℕ, ◌+◌, ◌<◌, ◌≤◌, List, [], ◌∷◌, ◌++◌, map, length, Option, None, Some, Result, Ok, Err, refl, sym, ap, arith}
-use Rattle.std.specs.Prelude.{slice_get, ◌==◌, if◌then◌else◌}
+use Rattle.std.proofs.Common.{◌≡◌, ℕ, ◌+◌, ◌<◌, ◌≤◌, List, [], ◌∷◌, ◌++◌, length, Option, None, Some, Result, Ok, Err, refl, sym, ap, arith}
+use Rattle.std.specs.Prelude.{slice_get, ◌==◌}
 use Rattle.std.proofs.lemmas.List.{append-nil}
 use Rattle.vlog_syntax.specs.declared.identifier.Identifier.{Identifier}
-use Rattle.vlog_syntax.specs.declared.item.Instance.{Instance}
 use Rattle.vlog_syntax.specs.declared.item.Item.{Item}
-use Rattle.vlog_syntax.specs.declared.item.ParameterValues.{ParameterValues}
 use Rattle.vlog_syntax.specs.declared.item.PlainItem.{PlainItem}
 use Rattle.vlog_syntax.specs.declared.item.PlainItem.TheVariants as p
 use Rattle.vlog_syntax.specs.declared.stmt.Assignment.{Assignment}
@@ -17,10 +15,10 @@ use Rattle.flat_instances.specs.declared.item.FlatItem.{FlatItem}
 use Rattle.flat_instances.specs.declared.item.FlatItem.TheVariants as f
 use Rattle.flat_items.specs.declared.task.Task.{Task}
 use Rattle.flat_items.specs.declared.task.Task.TheVariants as t
-use Rattle.flat_items.specs.Flattened.{Flat, add_all, tasks_of, assigned_items, plain_items, plain_tasks, step_items, step_tasks, arm_tasks, chosen_tasks}
+use Rattle.flat_items.specs.Flattened.{Flat, add_all, tasks_of, assigned_items, plain_items, step_items, step_tasks, taken_tasks, is_passed, other_tasks, chosen_tasks}
 use Rattle.flat_instances.specs.Places.{Place}
 use Rattle.flat_laws.specs.Sound.{AreSized, PlaceStands, AllStand, times_declared}
-use Rattle.flat_laws.proofs.Lists.{below}
+use Rattle.flat_laws.proofs.Lists.{either, below}
 use Rattle.flat_laws.proofs.Growing.{Grows, AllSteps, StepStands, listed, times_listed, grows_self, step_on}
 use Rattle.flat_laws.proofs.Items.{items_more, declared_more, AreListed, listed_stand, listed_none}
 
@@ -28,9 +26,9 @@ use Rattle.flat_laws.proofs.Items.{items_more, declared_more, AreListed, listed_
 
 abbrev pub TaskStands : ℕ → ℕ → Task → Type 0
 TaskStands n m (t.Step k x) = (k < m) × StepStands n x
-TaskStands n m (t.Instance k name values instance) = k < m
-TaskStands n m (t.Generates k number item) = k < m
-TaskStands n m (t.Arm k number item) = k < m
+TaskStands n m (t.Instance k x) = k < m
+TaskStands n m (t.Generates k number item taken) = k < m
+TaskStands n m (t.Arm k number item taken) = k < m
 TaskStands n m (t.Turn k x) = k < m
 TaskStands n m (t.Refuses error) = Unit {0}
 
@@ -49,9 +47,9 @@ times_left k (x ∷ more) = left k x + times_left k more
 
 task_on : (n m n' m' : ℕ) (x : Task) → n ≤ n' → m ≤ m' → TaskStands n m x → TaskStands n' m' x
 task_on n m n' m' (t.Step k x) a b h = let y = h.0 in (omega (arith, b, y), step_on n n' x a h.1)
-task_on n m n' m' (t.Instance k name values instance) a b h = omega (arith, b, h)
-task_on n m n' m' (t.Generates k number item) a b h = omega (arith, b, h)
-task_on n m n' m' (t.Arm k number item) a b h = omega (arith, b, h)
+task_on n m n' m' (t.Instance k x) a b h = omega (arith, b, h)
+task_on n m n' m' (t.Generates k number item taken) a b h = omega (arith, b, h)
+task_on n m n' m' (t.Arm k number item taken) a b h = omega (arith, b, h)
 task_on n m n' m' (t.Turn k x) a b h = omega (arith, b, h)
 task_on n m n' m' (t.Refuses error) a b h = tt
 
@@ -142,21 +140,6 @@ plain_stand n m k (p.ModuleInstantiation name values instances) less = tt
 abbrev pub AreQuiet : ℕ → ℕ → List Task → Type 0
 AreQuiet n m xs = AllTasks n m xs × ((k : ℕ) → times_left k xs ≡ 0)
 
-instances_quiet : (n m k : ℕ) (name : Identifier) (values : ParameterValues) (xs : List Instance) → k < m → AreQuiet n m (map (t.Instance k name values) xs)
-instances_quiet n m k name values [] less = (tt, λ j. refl)
-instances_quiet n m k name values (x ∷ xs) less =
-    let more = instances_quiet n m k name values xs less in
-    ((less, more.0), λ j. let z = more.1 j in omega (arith, z))
-
-plain_quiet : (n m k : ℕ) (x : PlainItem) → k < m → AreQuiet n m (plain_tasks k x)
-plain_quiet n m k (p.ModuleInstantiation name values instances) less = instances_quiet n m k name values instances less
-plain_quiet n m k (p.ContinuousAssign at delay assignments) less = (tt, λ j. refl)
-plain_quiet n m k (p.Process process) less = (tt, λ j. refl)
-plain_quiet n m k (p.PortDeclaration x) less = (tt, λ j. refl)
-plain_quiet n m k (p.DataDeclaration x) less = (tt, λ j. refl)
-plain_quiet n m k (p.GenvarDeclaration at names) less = (tt, λ j. refl)
-plain_quiet n m k (p.ParameterDeclaration x) less = (tt, λ j. refl)
-
 pub step_moves : (k : ℕ) (x : Step) (flat : Flat) → FlatStands flat → (k < length flat.places) × StepStands (length flat.signals) x → Moves (λ j. listed j x) flat (step_tasks k x) (add_all flat (step_items k x))
 step_moves k (s.Declares n) flat h there = lists (λ j. listed j (s.Declares n)) flat [] (f.Declares n ∷ []) h (there.1, tt) tt (λ j. omega arith)
 step_moves k (s.Refuses x) flat h there = lists (λ j. 0) flat [] (f.Refuses (err.Declaration x) ∷ []) h (tt, tt) tt (λ j. omega arith)
@@ -167,12 +150,9 @@ step_moves k (s.Lists x) flat h there =
     let n = length flat.signals in
     let m = length flat.places in
     let items = plain_stand n m k x there.0 in
-    let quiet = plain_quiet n m k x there.0 in
-    lists (λ j. 0) flat (plain_tasks k x) (plain_items k x) h (listed_stand n m (plain_items k x) items) quiet.0 (λ j.
-    let a = listed_none n m j (plain_items k x) items in
-    let b = quiet.1 j in
-    omega (arith, a, b))
-step_moves k (s.Generates n item) flat h there = lists (λ j. 0) flat (t.Generates k n item ∷ []) [] h tt (there.0, tt) (λ j. omega arith)
+    lists (λ j. 0) flat [] (plain_items k x) h (listed_stand n m (plain_items k x) items) tt (λ j. let a = listed_none n m j (plain_items k x) items in omega (arith, a))
+step_moves k (s.Places x) flat h there = lists (λ j. 0) flat (t.Instance k x ∷ []) [] h tt (there.0, tt) (λ j. omega arith)
+step_moves k (s.Generates n item taken) flat h there = lists (λ j. 0) flat (t.Generates k n item taken ∷ []) [] h tt (there.0, tt) (λ j. omega arith)
 
 pub refusal_moves : (error : ItemError) (flat : Flat) → FlatStands flat → Moves (λ j. 0) flat [] (add_all flat (f.Refuses error ∷ []))
 refusal_moves error flat h = lists (λ j. 0) flat [] (f.Refuses error ∷ []) h (tt, tt) tt (λ j. omega arith)
@@ -185,10 +165,40 @@ one_moves x flat h there none = stays (λ j. 0) flat (x ∷ []) h (there, tt) (�
 pub none_moves : (flat : Flat) → FlatStands flat → Moves (λ j. 0) flat [] flat
 none_moves flat h = stays (λ j. 0) flat [] h tt (λ k. refl)
 
-arm_moves : (k n : ℕ) (o : Option Item) (flat : Flat) → FlatStands flat → k < length flat.places → Moves (λ j. 0) flat (arm_tasks k n o) flat
-arm_moves k n None flat h less = none_moves flat h
-arm_moves k n (Some item) flat h less = one_moves (t.Arm k n item) flat h less (λ j. refl)
+-- a label that is told
+pub taken_quiet : (n m : ℕ) (taken : Option Identifier) → AreQuiet n m (taken_tasks taken)
+taken_quiet n m None = (tt, λ j. refl)
+taken_quiet n m (Some label) = ((tt, tt), λ j. omega arith)
 
-pub chosen_moves : (k n : ℕ) (value : Result ℕ ItemError) (first : Item) (second : Option Item) (flat : Flat) → FlatStands flat → k < length flat.places → Moves (λ j. 0) flat (chosen_tasks k n value first second) flat
-chosen_moves k n (Err x) first second flat h less = one_moves (t.Refuses x) flat h tt (λ j. refl)
-chosen_moves k n (Ok value) first second flat h less = arm_moves k n (if value == 0 then second else Some first) flat h less
+pub taken_moves : (taken : Option Identifier) (flat : Flat) → FlatStands flat → Moves (λ j. 0) flat (taken_tasks taken) flat
+taken_moves taken flat h = let q = taken_quiet (length flat.signals) (length flat.places) taken in stays (λ j. 0) flat (taken_tasks taken) h q.0 q.1
+
+-- more parts come ahead
+pub ahead_moves : (flat next : Flat) (xs ys : List Task) → AreQuiet (length next.signals) (length next.places) xs → Moves (λ j. 0) flat ys next → Moves (λ j. 0) flat (xs ++ ys) next
+ahead_moves flat next xs ys q h = record {
+  grows = h.grows;
+  wider = h.wider;
+  stands = h.stands;
+  tasks_stand = tasks_more (length next.signals) (length next.places) xs ys q.0 h.tasks_stand;
+  kept = h.kept;
+  first = h.first;
+  once = λ k.
+      let x = left_more k xs ys in
+      let y = q.1 k in
+      let z = h.once k in
+      omega (arith, x, y, z);
+}
+
+arm_moves : (k n : ℕ) (item : Item) (taken : Option Identifier) (flat : Flat) → FlatStands flat → k < length flat.places → Moves (λ j. 0) flat (t.Arm k n item taken ∷ []) flat
+arm_moves k n item taken flat h less = one_moves (t.Arm k n item taken) flat h less (λ j. refl)
+
+other_moves : (k n : ℕ) (first : Item) (second : Option Item) (taken : Option Identifier) (flat : Flat) → FlatStands flat → k < length flat.places → Moves (λ j. 0) flat (other_tasks k n first second taken) flat
+other_moves k n first None taken flat h less = taken_moves taken flat h
+other_moves k n first (Some second) taken flat h less =
+    either (λ (xs : List Task). Moves (λ j. 0) flat xs flat) (is_passed first taken) (taken_tasks taken ++ t.Arm k n second None ∷ []) (t.Arm k n second taken ∷ [])
+    (ahead_moves flat flat (taken_tasks taken) (t.Arm k n second None ∷ []) (taken_quiet (length flat.signals) (length flat.places) taken) (arm_moves k n second None flat h less)) (arm_moves k n second taken flat h less)
+
+pub chosen_moves : (k n : ℕ) (value : Result ℕ ItemError) (first : Item) (second : Option Item) (taken : Option Identifier) (flat : Flat) → FlatStands flat → k < length flat.places → Moves (λ j. 0) flat (chosen_tasks k n value first second taken) flat
+chosen_moves k n (Err x) first second taken flat h less = one_moves (t.Refuses x) flat h tt (λ j. refl)
+chosen_moves k n (Ok value) first second taken flat h less =
+    either (λ (xs : List Task). Moves (λ j. 0) flat xs flat) (value == 0) (other_tasks k n first second taken) (t.Arm k n first taken ∷ []) (other_moves k n first second taken flat h less) (arm_moves k n first taken flat h less)

@@ -8,15 +8,15 @@ use Rattle.vlog_syntax.specs.declared.module.Module.{Module}
 use Rattle.vlog_meaning.specs.Scopes.{Names}
 use Rattle.flat_scopes.specs.declared.opening.Head.{Head}
 use Rattle.flat_scopes.specs.Openings.{Opened}
-use Rattle.flat_scopes.specs.Opens.{declared, construct, labels_of, Opens, opened, open_plain, open_region, open_loop, open_if, open_block, open_null, footer, OpensModule}
+use Rattle.flat_scopes.specs.Opens.{declared, construct, labels_of, body_labels, merged, Opens, opened, open_plain, open_region, open_loop, open_if, open_block, open_null, footer, OpensModule}
 use Rattle.flat_once.proofs.Forms.{out-plain, out-region, out-loop, out-if, out-block, out-null}
 
 -- what an item of this form stands for, with those behind it
 abbrev AsForm : Head → Names → Opened → Item → Item-F Item → List Item → Opened → Type 0
 AsForm h outside o x (t.Plain y) more last = Opens h outside (declared h outside o y) more last
 AsForm h outside o x (t.GenerateRegion at items) more last = (mid : Opened) × Opens h outside o items mid × Opens h outside mid more last
-AsForm h outside o x (t.LoopGenerate loop body) more last = Opens h outside (construct o x (labels_of body)) more last
-AsForm h outside o x (t.IfGenerate at c first second) more last = Opens h outside (construct o x (labels_of x)) more last
+AsForm h outside o x (t.LoopGenerate loop body) more last = Opens h outside (construct o x (body_labels (out-Item body))) more last
+AsForm h outside o x (t.IfGenerate at c first second) more last = Opens h outside (construct o x (merged [] (labels_of x))) more last
 AsForm h outside o x (t.GenerateBlock at name items) more last = Opens h outside o more last
 AsForm h outside o x (t.NullGenerate at) more last = Opens h outside o more last
 
@@ -45,9 +45,9 @@ opens_once h outside o items last other (open_region x mid end at inner more d f
     let same : mid ≡ got.0 = opens_once h outside x inner mid got.0 d got.1 in
     opens_once h outside mid more end other f (subst (λ (m : Opened). Opens h outside m more other) (sym same) got.2)
 opens_once h outside o items last other (open_loop x end loop body more d) e =
-    opens_once h outside (construct x (i.LoopGenerate loop body) (labels_of body)) more end other d (as_form h outside x (i.LoopGenerate loop body) (t.LoopGenerate loop body) more other (out-loop loop body) e)
+    opens_once h outside (construct x (i.LoopGenerate loop body) (body_labels (out-Item body))) more end other d (as_form h outside x (i.LoopGenerate loop body) (t.LoopGenerate loop body) more other (out-loop loop body) e)
 opens_once h outside o items last other (open_if x end at c first second more d) e =
-    opens_once h outside (construct x (i.IfGenerate at c first second) (labels_of (i.IfGenerate at c first second))) more end other d (as_form h outside x (i.IfGenerate at c first second) (t.IfGenerate at c first second) more other (out-if at c first second) e)
+    opens_once h outside (construct x (i.IfGenerate at c first second) (merged [] (labels_of (i.IfGenerate at c first second)))) more end other d (as_form h outside x (i.IfGenerate at c first second) (t.IfGenerate at c first second) more other (out-if at c first second) e)
 opens_once h outside o items last other (open_block x end at name inner more d) e = opens_once h outside x more end other d (as_form h outside x (i.GenerateBlock at name inner) (t.GenerateBlock at name inner) more other (out-block at name inner) e)
 opens_once h outside o items last other (open_null x end at more d) e = opens_once h outside x more end other d (as_form h outside x (i.NullGenerate at) (t.NullGenerate at) more other (out-null at) e)
 

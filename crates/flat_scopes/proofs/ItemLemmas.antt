@@ -4,13 +4,13 @@ use Rattle.mcy_base.specs.declared.span.Span.{Span}
 use Rattle.vlog_syntax.specs.declared.expr.Expr.{Expr}
 use Rattle.vlog_syntax.specs.declared.identifier.Identifier.{Identifier}
 use Rattle.vlog_syntax.specs.declared.item.GenerateLoop.{GenerateLoop}
-use Rattle.vlog_syntax.specs.declared.item.Item.{Item}
+use Rattle.vlog_syntax.specs.declared.item.Item.{Item, out-Item}
 use Rattle.vlog_syntax.specs.declared.item.Item.TheVariants as i
 use Rattle.vlog_syntax.specs.declared.item.PlainItem.{PlainItem}
 use Rattle.vlog_meaning.specs.Scopes.{Names}
 use Rattle.flat_scopes.specs.declared.opening.Head.{Head}
 use Rattle.flat_scopes.specs.Openings.{Opened}
-use Rattle.flat_scopes.specs.Opens.{declared, labels_of, construct, Opens, opened, open_plain, open_region, open_loop, open_if, open_block, open_null}
+use Rattle.flat_scopes.specs.Opens.{declared, labels_of, body_labels, merged, construct, Opens, opened, open_plain, open_region, open_loop, open_if, open_block, open_null}
 
 module _ (h : Head) (outside : Names) (o n : Opened) (item : Item) where
   -- what is left of the items from here gives the same end
@@ -23,11 +23,11 @@ module _ (h : Head) (outside : Names) (o n : Opened) (item : Item) where
   pub region_opens : (at : Span) (items : List Item) → item ≡ i.GenerateRegion at items → Opens h outside o items n → Goes
   region_opens at items e f more last d = subst (λ (y : Item). Opens h outside o (y ∷ more) last) (sym e) (open_region o n last at items more f d)
 
-  pub loop_opens : (loop : GenerateLoop) (body : Item) → item ≡ i.LoopGenerate loop body → n ≡ construct o item (labels_of body) → Goes
-  loop_opens loop body e f more last d = subst (λ (y : Item). Opens h outside o (y ∷ more) last) (sym e) (open_loop o last loop body more (subst (λ (y : Item). Opens h outside (construct o y (labels_of body)) more last) e (subst (λ (y : Opened). Opens h outside y more last) f d)))
+  pub loop_opens : (loop : GenerateLoop) (body : Item) → item ≡ i.LoopGenerate loop body → n ≡ construct o item (body_labels (out-Item body)) → Goes
+  loop_opens loop body e f more last d = subst (λ (y : Item). Opens h outside o (y ∷ more) last) (sym e) (open_loop o last loop body more (subst (λ (y : Item). Opens h outside (construct o y (body_labels (out-Item body))) more last) e (subst (λ (y : Opened). Opens h outside y more last) f d)))
 
-  pub condition_opens : (at : Span) (condition : Expr) (first : Item) (second : Option Item) → item ≡ i.IfGenerate at condition first second → n ≡ construct o item (labels_of item) → Goes
-  condition_opens at condition first second e f more last d = subst (λ (y : Item). Opens h outside o (y ∷ more) last) (sym e) (open_if o last at condition first second more (subst (λ (y : Item). Opens h outside (construct o y (labels_of y)) more last) e (subst (λ (y : Opened). Opens h outside y more last) f d)))
+  pub condition_opens : (at : Span) (condition : Expr) (first : Item) (second : Option Item) → item ≡ i.IfGenerate at condition first second → n ≡ construct o item (merged [] (labels_of item)) → Goes
+  condition_opens at condition first second e f more last d = subst (λ (y : Item). Opens h outside o (y ∷ more) last) (sym e) (open_if o last at condition first second more (subst (λ (y : Item). Opens h outside (construct o y (merged [] (labels_of y))) more last) e (subst (λ (y : Opened). Opens h outside y more last) f d)))
 
   pub block_opens : (at : Span) (name : Option Identifier) (items : List Item) → item ≡ i.GenerateBlock at name items → n ≡ o → Goes
   block_opens at name items e f more last d = subst (λ (y : Item). Opens h outside o (y ∷ more) last) (sym e) (open_block o last at name items more (subst (λ (y : Opened). Opens h outside y more last) f d))

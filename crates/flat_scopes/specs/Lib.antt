@@ -5,6 +5,7 @@ pub mod Known
 pub mod Openings
 pub mod Words
 pub mod Valued
+pub mod Insides
 pub mod Opens
 pub mod Views
 pub mod Wires

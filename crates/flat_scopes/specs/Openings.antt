@@ -6,7 +6,6 @@ use Rattle.vlog_syntax.specs.declared.item.Direction.{Direction}
 use Rattle.vlog_syntax.specs.declared.item.DataType.{DataType}
 use Rattle.vlog_syntax.specs.declared.item.DataType.TheVariants.{Wire, Reg, Integer}
 use Rattle.vlog_syntax.specs.declared.item.DeclaredName.{DeclaredName}
-use Rattle.vlog_syntax.specs.declared.item.Instance.{Instance}
 use Rattle.vlog_meaning.specs.declared.scope.Decl.{Decl}
 use Rattle.vlog_meaning.specs.declared.scope.Decl.TheVariants as d
 use Rattle.vlog_meaning.specs.Scopes.{Names, with_name}
@@ -49,7 +48,7 @@ refuse o e = step o (s.Refuses e)
 abbrev pub own_name : Opened → List ℕ → What → Option Decl → Opened
 own_name o name what decl = record o { own = with_own o.own name what; names = with_name o.names name decl }
 
--- Names that have no value: genvars, instances and blocks.
+-- Genvars, which have no value (12.4.1).
 
 abbrev pub plain_name : Opened → Identifier → What → Option What → Opened
 plain_name o id what None = own_name o id.name what None
@@ -58,10 +57,6 @@ plain_name o id what (Some other) = refuse o (r.Twice id.span)
 abbrev pub genvar_names : Opened → List DeclaredName → Opened
 genvar_names o [] = o
 genvar_names o (n ∷ more) = genvar_names (plain_name o n.name w.Genvar (o.own n.name.name)) more
-
-abbrev pub instance_names : Opened → List Instance → Opened
-instance_names o [] = o
-instance_names o (i ∷ more) = instance_names (plain_name o i.name w.Inside (o.own i.name.name)) more
 
 -- Types (4.2 and 4.3). A range that is refused reads as one bit.
 

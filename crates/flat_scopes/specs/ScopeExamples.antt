@@ -1,16 +1,21 @@
 -- Scopes that were opened by hand: which signals and steps there are.
-use Rattle.std.specs.Prelude.{◌≡◌, true, false, List, [], ◌∷◌, None, Some}
+use Rattle.std.specs.Prelude.{◌≡◌, Bool, true, false, List, [], ◌∷◌, None, Some}
 use Rattle.mcy_base.specs.declared.span.Span.{Span}
 use Rattle.vlog_syntax.specs.declared.identifier.Identifier.{Identifier}
+use Rattle.vlog_syntax.specs.declared.item.Connections.TheVariants.{Ordered as ByPlace}
 use Rattle.vlog_syntax.specs.declared.item.DeclaredName.{DeclaredName}
 use Rattle.vlog_syntax.specs.declared.item.Direction.TheVariants.{Input, Output}
+use Rattle.vlog_syntax.specs.declared.item.Instance.{Instance}
+use Rattle.vlog_syntax.specs.declared.item.ParameterValues.TheVariants.{Ordered}
 use Rattle.flat_scopes.specs.declared.declare.Typed.{Typed}
 use Rattle.flat_scopes.specs.declared.opening.Head.{Head}
-use Rattle.flat_scopes.specs.declared.opening.Step.TheVariants.{Declares, Refuses}
+use Rattle.flat_scopes.specs.declared.opening.Step.{Step}
+use Rattle.flat_scopes.specs.declared.opening.Step.TheVariants.{Declares, Places, Refuses}
 use Rattle.flat_scopes.specs.declared.refusal.Refusal.TheVariants.{Twice, Unknown}
 use Rattle.flat_scopes.specs.declared.signal.Signal.{Signal}
 use Rattle.flat_scopes.specs.Openings.{Opened, unopened, one_bit, vector_type, port_names, data_names}
-use Rattle.flat_scopes.specs.Opens.{merged, block_names, header_names, undeclared}
+use Rattle.flat_scopes.specs.Insides.{instances, block_names, first_taken}
+use Rattle.flat_scopes.specs.Opens.{merged, header_names, undeclared}
 
 -- the name q at a place
 abbrev pub q : Span → Identifier
@@ -18,6 +23,10 @@ q at = record { name = 113 ∷ []; span = at }
 
 abbrev pub alone : Identifier → List DeclaredName
 alone id = record { name = id; initial = None } ∷ []
+
+-- the instance `q()`
+abbrev pub instance : Span → Instance
+instance at = record { name = q at; ports = ByPlace [] }
 
 -- the scope u of a module with q in its head
 abbrev pub head : Span → Head
@@ -62,4 +71,12 @@ HeadTwice = (a b : Span) → (header_names nothing [] (q a ∷ q b ∷ [])).step
 
 -- two blocks of one construct may have one label, and blocks of two constructs may not
 abbrev pub LabelsOnce : Type 0
-LabelsOnce = (a b : Span) → ((block_names nothing (merged [] (q a ∷ q b ∷ []))).steps ≡ []) × ((block_names (block_names nothing (q a ∷ [])) (q b ∷ [])).steps ≡ Refuses (Twice b) ∷ [])
+LabelsOnce = (a b : Span) → (first_taken nothing (merged [] (q a ∷ q b ∷ [])) ≡ None) × (first_taken (block_names nothing (q a ∷ [])) (q b ∷ []) ≡ Some (q b))
+
+-- an instance of m, the first of its item or not, whose name stands already or not
+abbrev pub in_step : Identifier → (is_first is_twice : Bool) → Span → Step
+in_step m is_first is_twice at = Places (record { module_name = m; values = Ordered []; instance = instance at; is_first = is_first; is_twice = is_twice })
+
+-- `m q(), q();` are two steps, of which the second one has the mark; so is `m q();` one with the mark where a port is named q
+abbrev pub InstancesTwice : Type 0
+InstancesTwice = (a b : Span) (m : Identifier) → ((instances nothing m (Ordered []) true (instance a ∷ instance b ∷ [])).steps ≡ in_step m true false a ∷ in_step m false true b ∷ []) × ((instances (output a nothing) m (Ordered []) true (instance b ∷ [])).steps ≡ Declares 0 ∷ in_step m true true b ∷ [])

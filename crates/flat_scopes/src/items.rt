@@ -1,15 +1,14 @@
 //! The items of a scope, one after the other (IEEE 1364-2005, 12.4).
-ghost use Rattle.std.specs.Prelude.{◌≡◌, ◌+◌, ◌∷◌, List, IfOk};
-ghost use Rattle.vlog_syntax.specs.declared.item.Item.{Item as Part};
+ghost use Rattle.std.specs.Prelude.{◌≡◌, ◌||◌, ◌+◌, ◌∷◌, [], List, IfOk};
+ghost use Rattle.vlog_syntax.specs.declared.item.Item.{Item as Part, out-Item};
 ghost use Rattle.vlog_meaning.specs.Scopes.{names_of};
-ghost use Rattle.flat_scopes.specs.Openings.{Opened, step as with_step};
-ghost use Rattle.flat_scopes.specs.Opens.{declared, labels_of, with_label, merged, block_names as with_blocks, numbered as with_number, construct as with_construct, Opens};
+ghost use Rattle.flat_scopes.specs.Openings.{Opened, step as with_step, is_among as among};
+ghost use Rattle.flat_scopes.specs.Opens.{declared, labels_of, body_labels, with_label, merged, numbered as with_number, construct as with_construct, Opens};
 ghost use Rattle.flat_scopes.specs.Views.{opened_of};
 ghost use Rattle.flat_scopes.specs.declared.opening.Step.TheVariants.{Lists};
 
 use crate::lent::Lent;
 use crate::opening::{Head, Opening, Step, is_among};
-use crate::signal::What;
 use std::alloc::AllocError;
 use vlog_meaning::Scope;
 use vlog_syntax::{Boxed, Identifier, Item, PlainItem};
@@ -44,8 +43,32 @@ fn add_labels<'a>(labels: &mut Vec<Lent<'a, Identifier>>, item: &'a Item) -> Res
     }
 }
 
+/// Whether one of two is so.
+fn either(first: bool, second: bool) -> bool
+    ensures { result ≡ (first || second) }
+{
+    first || second
+}
+
+/// Whether a block of an item has this label.
+pub fn has_label(item: &Item, name: &str) -> bool
+    ensures { result ≡ among (labels_of item.now) name.now }
+{
+    match item {
+        Item::GenerateBlock(_, Some(label), _) => label.name.as_str() == name,
+        Item::IfGenerate(_, _, first, second) => {
+            let found = has_label(first.get(), name);
+            match second {
+                Some(second) => either(found, has_label(second.get(), name)),
+                None => found,
+            }
+        }
+        _ => false,
+    }
+}
+
 impl<'a> Opening<'a> {
-    /// Lists an assign, a process or instances.
+    /// Lists an assign or a process.
     fn list(&mut self, item: &'a PlainItem) -> Result<(), AllocError>
         ensures { IfOk result (λ done. opened_of self.new ≡ with_step (opened_of self.old) (Lists item.now)) }
     {
@@ -76,21 +99,10 @@ impl<'a> Opening<'a> {
                 self.parameters(head, outside, parameter)
             }
             PlainItem::ContinuousAssign(..) | PlainItem::Process(_) => self.list(item),
-            PlainItem::ModuleInstantiation(_, _, instances) => {
-                self.instance_names(instances.as_slice())?;
-                self.list(item)
+            PlainItem::ModuleInstantiation(name, values, instances) => {
+                self.instances(name, values, instances.as_slice())
             }
         }
-    }
-
-    /// The names of blocks.
-    fn block_names(&mut self, labels: &[Lent<'a, Identifier>]) -> Result<(), AllocError>
-        ensures { IfOk result (λ done. opened_of self.new ≡ with_blocks (opened_of self.old) labels.now) }
-    {
-        for label in labels {
-            self.plain_name(label.get(), What::Inside)?;
-        }
-        Ok(())
     }
 
     /// The number of the next generate construct.
@@ -103,24 +115,51 @@ impl<'a> Opening<'a> {
         }
     }
 
-    /// Lists the next generate construct.
-    fn number(&mut self, item: &'a Item) -> Result<(), AllocError>
-        ensures { IfOk result (λ done. opened_of self.new ≡ with_number (opened_of self.old) item.now) }
+    /// Lists the next generate construct, with a label of its blocks that stands already.
+    fn number(
+        &mut self,
+        item: &'a Item,
+        taken: Option<Lent<'a, Identifier>>,
+    ) -> Result<(), AllocError>
+        ensures { IfOk result (λ done. opened_of self.new ≡ with_number (opened_of self.old) item.now taken.entry) }
     {
         let number = self.next_number()?;
         self.constructs = number;
         let item = Boxed::new(self.alloc, Lent::of(item))?;
-        self.step(Step::Generates(number, item))
+        self.step(Step::Generates(number, item, taken))
     }
 
-    /// A generate construct of the scope, with the labels of the blocks of a part of it.
-    fn construct(&mut self, item: &'a Item, labelled: &'a Item) -> Result<(), AllocError>
-        ensures { IfOk result (λ done. opened_of self.new ≡ with_construct (opened_of self.old) item.now (labels_of labelled.now)) }
+    /// A generate construct of the scope, whose blocks have these labels.
+    fn construct(
+        &mut self,
+        item: &'a Item,
+        labels: &[Lent<'a, Identifier>],
+    ) -> Result<(), AllocError>
+        ensures { IfOk result (λ done. opened_of self.new ≡ with_construct (opened_of self.old) item.now labels.now) }
+    {
+        let taken = self.first_taken(labels);
+        self.block_names(labels)?;
+        self.number(item, taken)
+    }
+
+    /// A loop, with the label of its block.
+    fn loop_construct(&mut self, item: &'a Item, body: &'a Item) -> Result<(), AllocError>
+        ensures { IfOk result (λ done. opened_of self.new ≡ with_construct (opened_of self.old) item.now (body_labels (out-Item body.now))) }
     {
         let mut labels = Vec::new(self.alloc);
-        add_labels(&mut labels, labelled)?;
-        self.block_names(labels.as_slice())?;
-        self.number(item)
+        if let Item::GenerateBlock(_, Some(label), _) = body {
+            labels.push(Lent::of(label))?;
+        }
+        self.construct(item, labels.as_slice())
+    }
+
+    /// A condition, with the labels of its blocks.
+    fn condition_construct(&mut self, item: &'a Item) -> Result<(), AllocError>
+        ensures { IfOk result (λ done. opened_of self.new ≡ with_construct (opened_of self.old) item.now (merged [] (labels_of item.now))) }
+    {
+        let mut labels = Vec::new(self.alloc);
+        add_labels(&mut labels, item)?;
+        self.construct(item, labels.as_slice())
     }
 
     /// Opens one item.
@@ -137,8 +176,8 @@ impl<'a> Opening<'a> {
         match item {
             Item::Plain(plain) => self.declare(head, outside, plain.get()),
             Item::GenerateRegion(_, items) => self.open_items(head, outside, items.as_slice()),
-            Item::LoopGenerate(_, body) => self.construct(item, body.get()),
-            Item::IfGenerate(..) => self.construct(item, item),
+            Item::LoopGenerate(_, body) => self.loop_construct(item, body.get()),
+            Item::IfGenerate(..) => self.condition_construct(item),
             Item::GenerateBlock(..) | Item::NullGenerate(_) => Ok(()),
         }
     }

@@ -5,17 +5,18 @@
 //! values, initial values of nets, assigns, processes, instances and generate constructs. Nothing is refused on the way; a
 //! refusal is a step at its place.
 //!
-//! In its specs, `Openings` says what nets, variables, ports, genvars and instances do to a scope, `Valued` what parameters do,
-//! and `Opens` what the items of a scope and a whole module do, a rule for each kind of item; `Views` says what the code's
+//! In its specs, `Openings` says what nets, variables, ports and genvars do to a scope, `Valued` what parameters do, `Insides` what
+//! instances and labels of blocks do, and `Opens` what the items of a scope and a whole module do, a rule for each kind of item; `Views` says what the code's
 //! structure stands for, `Owns` what a scope's own names are. `Ranges` and `Parameters` have the bits of a range and the constant
 //! of a value, each by the constants of `vlog_meaning`; `Examples` has ranges and `ScopeExamples` small scopes that were worked
 //! out by hand. `own` is the map of own names, `names` a list of names with a set of them beside it, so that no port looks at all
-//! names in the head (`Known` in the specs says what the set has), `opening` the names that have no value, `declare` nets,
+//! names in the head (`Known` in the specs says what the set has), `opening` genvars, `inside` instances and labels, `declare` nets,
 //! variables and ports, `values` parameters, `items` the items in turn, and `modules` the head of a module. `wire` pairs the
 //! expressions of an instance's connections with ports (`Wires`); instances of a bench are read by it too.
 #![tactic(auto)]
 
 mod declare;
+mod inside;
 mod items;
 mod laws;
 mod lent;
@@ -30,10 +31,11 @@ mod signal;
 mod values;
 mod wire;
 
+pub use items::has_label;
 pub use laws::{ranges_of_examples, scopes_of_examples};
 pub use lent::Lent;
 pub use names::NameList;
-pub use opening::{Given, Head, Opening, Parts, Step, is_among};
+pub use opening::{Given, Head, Opening, Parts, Placing, Step, is_among};
 pub use own::OwnNames;
 pub use parameter::{ParameterBits, parameter_decl};
 pub use range::{RangeError, VectorBits, range_bits};

@@ -6,7 +6,7 @@ ghost use Rattle.std.specs.Prelude.{◌≡◌, [], IfOk, OnOk};
 ghost use Rattle.vlog_meaning.specs.Scopes.{names_of, with_name};
 ghost use Rattle.flat_scopes.specs.Owns.{what_of};
 ghost use Rattle.flat_scopes.specs.Views.{opened_of};
-ghost use Rattle.flat_scopes.specs.Openings.{unopened, step as with_step, refuse as with_refusal, own_name as with_own_name, plain_name as with_plain, genvar_names as with_genvars, instance_names as with_instances, is_among as among};
+ghost use Rattle.flat_scopes.specs.Openings.{unopened, step as with_step, refuse as with_refusal, own_name as with_own_name, plain_name as with_plain, genvar_names as with_genvars, is_among as among};
 
 use crate::lent::Lent;
 use crate::names::NameList;
@@ -16,7 +16,21 @@ use crate::signal::{Signal, What};
 use mcy_base::Text;
 use std::alloc::{AllocError, Global};
 use vlog_meaning::{ConstError, Decl, Scope};
-use vlog_syntax::{Boxed, DeclaredName, Expr, Identifier, Instance, Item, Listed, PlainItem};
+use vlog_syntax::{
+    Boxed, DeclaredName, Expr, Identifier, Instance, Item, Listed, ParameterValues, PlainItem,
+};
+
+/// An instance of an item, which says what module it has and which values it gives.
+#[derive(Drop)]
+pub struct Placing<'a> {
+    pub module_name: Lent<'a, Identifier>,
+    pub values: Lent<'a, ParameterValues>,
+    pub instance: Lent<'a, Instance>,
+    /// Whether it is the first instance of its item.
+    pub is_first: bool,
+    /// Whether its name stands already.
+    pub is_twice: bool,
+}
 
 /// What an item of a scope lists.
 #[derive(Drop)]
@@ -30,10 +44,13 @@ pub enum Step<'a> {
     Starts(u32, Lent<'a, Expr>),
     /// A net and its initial value.
     Drives(Lent<'a, Identifier>, Lent<'a, Expr>),
-    /// An `assign`, a process or instances.
+    /// An `assign` or a process.
     Lists(Boxed<Lent<'a, PlainItem>>),
-    /// A loop or a condition, and which generate construct of the scope it is, from 1 on.
-    Generates(u32, Boxed<Lent<'a, Item>>),
+    /// An instance.
+    Places(Placing<'a>),
+    /// A loop or a condition, which generate construct of the scope it is, from 1 on, and the first of the labels of its blocks
+    /// that stands already.
+    Generates(u32, Boxed<Lent<'a, Item>>, Option<Lent<'a, Identifier>>),
 }
 
 /// A parameter that an instance gives a value.
@@ -192,7 +209,7 @@ impl<'a> Opening<'a> {
         self.own.set(name, what)
     }
 
-    /// A name that has no value.
+    /// A name of a declaration that has no value.
     pub(crate) fn plain_name(&mut self, name: &Identifier, what: What) -> Result<(), AllocError>
         ensures { IfOk result (λ done. opened_of self.new ≡ with_plain (opened_of self.old) name.now what ((opened_of self.old).own name.now.name)) }
     {
@@ -208,16 +225,6 @@ impl<'a> Opening<'a> {
     {
         for name in names {
             self.plain_name(&name.name, What::Genvar)?;
-        }
-        Ok(())
-    }
-
-    /// The names of instances.
-    pub(crate) fn instance_names(&mut self, instances: &[Instance]) -> Result<(), AllocError>
-        ensures { IfOk result (λ done. opened_of self.new ≡ with_instances (opened_of self.old) instances.now) }
-    {
-        for instance in instances {
-            self.plain_name(&instance.name, What::Inside)?;
         }
         Ok(())
     }

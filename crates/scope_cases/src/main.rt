@@ -7,7 +7,9 @@
 
 mod page;
 
-use flat_scopes::{Given, Head, Lent, NameList, Opening, RangeError, Refusal, Signal, Step};
+use flat_scopes::{
+    Given, Head, Lent, NameList, Opening, Placing, RangeError, Refusal, Signal, Step,
+};
 use mcy_base::{Span, Text};
 use page::Page;
 use std::alloc::{AllocError, Global};
@@ -54,6 +56,15 @@ fn put_refusal(page: &mut Page, refusal: Refusal) {
     }
 }
 
+fn put_placing(page: &mut Page, placing: &Placing<'_>) {
+    let name = &placing.instance.get().name;
+    page.put("instance ");
+    page.put(name.name.as_str());
+    if placing.is_twice {
+        put_at(page, " Twice", name.span);
+    }
+}
+
 fn put_step(page: &mut Page, step: &Step<'_>) {
     page.put("; ");
     match step {
@@ -75,9 +86,13 @@ fn put_step(page: &mut Page, step: &Step<'_>) {
             page.put(name.get().name.as_str());
         }
         Step::Lists(_) => page.put("item"),
-        Step::Generates(number, _) => {
+        Step::Places(placing) => put_placing(page, placing),
+        Step::Generates(number, _, taken) => {
             page.put("generates ");
             page.put_number((*number).into());
+            if let Some(label) = taken {
+                put_at(page, " Twice", label.get().span);
+            }
         }
     }
 }

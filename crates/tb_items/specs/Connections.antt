@@ -9,12 +9,12 @@ use Rattle.vlog_syntax.specs.declared.expr.Expr.{Expr, out-Expr}
 use Rattle.vlog_syntax.specs.declared.expr.Expr.TheOpen as e
 use Rattle.vlog_syntax.specs.declared.expr.Expr.TheOpen.{Expr-F}
 use Rattle.vlog_syntax.specs.declared.identifier.Identifier.{Identifier}
-use Rattle.vlog_syntax.specs.declared.item.Instance.{Instance}
 use Rattle.vlog_syntax.specs.declared.left_side.LeftSide.{LeftSide}
+use Rattle.flat_scopes.specs.declared.opening.Placing.{Placing}
 use Rattle.flat_scopes.specs.declared.wire.Wire.{Wire}
 use Rattle.flat_scopes.specs.declared.wire.Wire.TheVariants.{To, Mismatch}
 use Rattle.flat_scopes.specs.Wires.{wires_of}
-use Rattle.tb_faults.specs.declared.fault.BenchFault.TheVariants.{PortMismatch}
+use Rattle.tb_faults.specs.declared.fault.BenchFault.TheVariants.{PortMismatch, Twice}
 use Rattle.tb_items.specs.declared.design.Design.{Design}
 use Rattle.tb_items.specs.declared.design.Role.{Role}
 use Rattle.tb_items.specs.declared.design.Role.TheVariants.{Clock, Input, Output}
@@ -65,9 +65,13 @@ abbrev pub clock_missing : Option (List ℕ) → Span → List Wire → List Ben
 clock_missing None at wires = []
 clock_missing (Some clock) at wires = if gives_clock clock wires then [] else b.Refused (PortMismatch at) ∷ []
 
-abbrev pub wired_items : Design → (clock : Option (List ℕ)) → Span → Identifier → List Wire → List BenchItem
-wired_items d clock at instance wires = clock_missing d.clock at wires ++ flat_map (wire_items d clock instance) wires
+-- the name of an instance stands already
+abbrev pub taken : Placing → List BenchItem
+taken x = if x.is_twice then b.Refused (Twice x.instance.name.span) ∷ [] else []
 
--- the connections of an instance of the module named at a place
-abbrev pub connections : Design → (clock : Option (List ℕ)) → Span → Instance → List BenchItem
-connections d clock at instance = wired_items d clock at instance.name (wires_of d.ports instance)
+abbrev pub wired_items : Design → (clock : Option (List ℕ)) → Placing → List Wire → List BenchItem
+wired_items d clock x wires = clock_missing d.clock x.module_name.span wires ++ (taken x ++ flat_map (wire_items d clock x.instance.name) wires)
+
+-- the connections of an instance, with what is wrong in it ahead of them
+abbrev pub connections : Design → (clock : Option (List ℕ)) → Placing → List BenchItem
+connections d clock x = wired_items d clock x (wires_of d.ports x.instance)

@@ -6,7 +6,6 @@ use Rattle.mcy_base.specs.declared.span.Span.{Span}
 use Rattle.vlog_syntax.specs.declared.feature.Feature.TheVariants as f
 use Rattle.vlog_syntax.specs.declared.identifier.Identifier.{Identifier}
 use Rattle.vlog_syntax.specs.declared.item.Delay.{Delay}
-use Rattle.vlog_syntax.specs.declared.item.Instance.{Instance}
 use Rattle.vlog_syntax.specs.declared.item.Item.{Item, out-Item}
 use Rattle.vlog_syntax.specs.declared.item.Item.TheOpen as t
 use Rattle.vlog_syntax.specs.declared.item.Item.TheOpen.{Item-F}
@@ -16,6 +15,7 @@ use Rattle.vlog_syntax.specs.declared.item.PlainItem.{PlainItem}
 use Rattle.vlog_syntax.specs.declared.item.PlainItem.TheVariants as p
 use Rattle.vlog_syntax.specs.declared.item.Process.{Process}
 use Rattle.vlog_meaning.specs.Scopes.{Names}
+use Rattle.flat_scopes.specs.declared.opening.Placing.{Placing}
 use Rattle.flat_scopes.specs.declared.opening.Step.{Step}
 use Rattle.flat_scopes.specs.declared.opening.Step.TheVariants as s
 use Rattle.tb_faults.specs.declared.fault.BenchFault.TheVariants.{Unsupported}
@@ -23,7 +23,7 @@ use Rattle.tb_items.specs.declared.design.Design.{Design}
 use Rattle.tb_items.specs.declared.generator.Generator.{Generator}
 use Rattle.tb_items.specs.declared.item.BenchItem.{BenchItem}
 use Rattle.tb_items.specs.declared.item.BenchItem.TheVariants as b
-use Rattle.tb_items.specs.Connections.{connections}
+use Rattle.tb_items.specs.Connections.{connections, taken}
 use Rattle.tb_items.specs.Generators.{generator_of}
 use Rattle.tb_items.specs.Reasons.{of_const, of_refusal}
 
@@ -31,7 +31,7 @@ use Rattle.tb_items.specs.Reasons.{of_const, of_refusal}
 abbrev pub helper : Span → BenchItem
 helper at = b.Refused (Unsupported at f.Helper)
 
--- a loop or a condition, at its first token
+-- a loop or a condition, at its first token, which stands before the labels of its blocks
 abbrev pub generates : Item-F Item → List BenchItem
 generates (t.LoopGenerate loop body) = helper loop.span ∷ []
 generates (t.IfGenerate at condition first second) = helper at ∷ []
@@ -53,25 +53,20 @@ has_values (v.Ordered []) = false
 has_values (v.Named []) = false
 has_values other = true
 
-abbrev pub instance_place : Instance → BenchItem
-instance_place i = b.Holds i.name.span
-
-abbrev pub held : Design → (clock : Option (List ℕ)) → Span → List Instance → List BenchItem
-held d clock at [] = []
-held d clock at (i ∷ more) = (b.Holds at ∷ connections d clock at i) ++ map instance_place more
+abbrev pub held : Design → (clock : Option (List ℕ)) → Placing → List BenchItem
+held d clock x = if x.is_first then b.Holds x.module_name.span ∷ connections d clock x else taken x ++ b.Holds x.instance.name.span ∷ []
 
 -- another module, or one with parameters
 abbrev pub is_strange : Design → Identifier → ParameterValues → Bool
 is_strange d name values = not (bytes_eq d.name name.name) || has_values values
 
-abbrev pub instances : Design → (clock : Option (List ℕ)) → Identifier → ParameterValues → List Instance → List BenchItem
-instances d clock name values list = if is_strange d name values then helper name.span ∷ [] else held d clock name.span list
+abbrev pub placed : Design → (clock : Option (List ℕ)) → Placing → List BenchItem
+placed d clock x = if is_strange d x.module_name x.values then helper x.module_name.span ∷ [] else held d clock x
 
-abbrev pub listed : Names → Design → (clock : Option (List ℕ)) → PlainItem → List BenchItem
-listed names d clock (p.ContinuousAssign at delay assignments) = delay_items delay ++ map b.Assigns assignments
-listed names d clock (p.Process x) = process_item x (generator_of names x) ∷ []
-listed names d clock (p.ModuleInstantiation name values list) = instances d clock name values list
-listed names d clock other = []
+abbrev pub listed : Names → PlainItem → List BenchItem
+listed names (p.ContinuousAssign at delay assignments) = delay_items delay ++ map b.Assigns assignments
+listed names (p.Process x) = process_item x (generator_of names x) ∷ []
+listed names other = []
 
 abbrev pub step_items : Names → Design → (clock : Option (List ℕ)) → Step → List BenchItem
 step_items names d clock (s.Declares k) = []
@@ -79,8 +74,9 @@ step_items names d clock (s.Refuses refusal) = b.Refused (of_refusal refusal) �
 step_items names d clock (s.RefusesGiven error) = b.Refused (of_const error) ∷ []
 step_items names d clock (s.Starts k x) = b.Starts k x ∷ []
 step_items names d clock (s.Drives name x) = b.Drives name x ∷ []
-step_items names d clock (s.Lists item) = listed names d clock item
-step_items names d clock (s.Generates k item) = generates (out-Item item)
+step_items names d clock (s.Lists item) = listed names item
+step_items names d clock (s.Places x) = placed d clock x
+step_items names d clock (s.Generates k item taken) = generates (out-Item item)
 
 -- The items of an opened module in the order of its steps, with the names of its scope, the design and the name of the clock that
 -- is generated.
@@ -107,16 +103,11 @@ clock_of names (x ∷ more) = first_clock (step_clock names x) (clock_of names m
 
 -- The instance of the design: the first of its module without parameters.
 
-abbrev pub first_name : List Instance → Option Identifier
-first_name [] = None
-first_name (i ∷ more) = Some i.name
-
-abbrev pub listed_instance : Design → PlainItem → Option Identifier
-listed_instance d (p.ModuleInstantiation name values list) = if is_strange d name values then None else first_name list
-listed_instance d other = None
+abbrev pub placed_instance : Design → Placing → Option Identifier
+placed_instance d x = if is_strange d x.module_name x.values then None else Some x.instance.name
 
 abbrev pub step_instance : Design → Step → Option Identifier
-step_instance d (s.Lists item) = listed_instance d item
+step_instance d (s.Places x) = placed_instance d x
 step_instance d other = None
 
 abbrev pub or_later : Option Identifier → Option Identifier → Option Identifier

@@ -2,16 +2,16 @@
 ghost use Rattle.std.specs.Prelude.{◌≡◌, ◌||◌, ◌++◌, [], IfOk};
 ghost use Rattle.std.specs.List.{flat_map};
 ghost use Rattle.vlog_syntax.specs.declared.expr.Expr.{out-Expr};
-ghost use Rattle.tb_items.specs.Connections.{hidden, is_name, clock_item, output_item, role_items, wire_items, wire_gives, gives_clock, clock_missing, connections};
+ghost use Rattle.tb_items.specs.Connections.{hidden, is_name, clock_item, output_item, role_items, wire_items, wire_gives, gives_clock, clock_missing, taken, connections};
 
 use crate::design::{Design, Role, hidden_name};
 use crate::item::BenchItem;
 use crate::left::left_of;
-use flat_scopes::{Lent, Wire, wires_of};
+use flat_scopes::{Lent, Placing, Wire, wires_of};
 use mcy_base::{Span, Text};
 use std::alloc::{AllocError, Global};
 use tb_faults::BenchFault;
-use vlog_syntax::{Expr, Identifier, Instance, LeftSide};
+use vlog_syntax::{Expr, Identifier, LeftSide};
 
 /// The hidden signal of a port, at the place of the instance's name.
 fn hidden(alloc: Global, instance: &Identifier, port: &Identifier) -> Result<Identifier, AllocError>
@@ -155,6 +155,20 @@ fn add_missing(
     Ok(())
 }
 
+/// Adds the refusal of an instance whose name stands already.
+pub(crate) fn add_taken(
+    placing: &Placing<'_>,
+    items: &mut Vec<BenchItem<'_>>,
+) -> Result<(), AllocError>
+    ensures { IfOk result (λ done. items.new.items ≡ items.old.items ++ taken placing.now) }
+{
+    if placing.is_twice {
+        let at = placing.instance.get().name.span;
+        items.push(BenchItem::Refused(BenchFault::Twice(at)))?;
+    }
+    Ok(())
+}
+
 /// Adds what connections are.
 fn add_wires<'a>(
     alloc: Global,
@@ -172,19 +186,25 @@ fn add_wires<'a>(
     Ok(())
 }
 
-/// Adds the connections of an instance of the module that is named at a place.
+/// Adds the connections of an instance, and what is wrong in it ahead of them.
 pub(crate) fn add_connections<'a>(
     alloc: Global,
     design: &Design<'a>,
     clock: &Option<Text>,
-    at: Span,
-    instance: &'a Instance,
+    placing: &Placing<'a>,
     items: &mut Vec<BenchItem<'a>>,
 ) -> Result<(), AllocError>
-    ensures { IfOk result (λ done. items.new.items ≡ items.old.items ++ connections design.now clock.now at instance.now) }
+    ensures { IfOk result (λ done. items.new.items ≡ items.old.items ++ connections design.now clock.now placing.now) }
 {
+    let instance = placing.instance.get();
     let wires = wires_of(alloc, &design.ports, instance)?;
-    add_missing(design, at, wires.as_slice(), items)?;
+    add_missing(
+        design,
+        placing.module_name.get().span,
+        wires.as_slice(),
+        items,
+    )?;
+    add_taken(placing, items)?;
     add_wires(
         alloc,
         design,

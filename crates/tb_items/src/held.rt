@@ -1,36 +1,20 @@
 //! The instance of the design in a testbench: the first of its module without parameters.
 ghost use Rattle.std.specs.Prelude.{◌≡◌};
-ghost use Rattle.tb_items.specs.Items.{first_name, listed_instance, step_instance, held_instance};
+ghost use Rattle.tb_items.specs.Items.{placed_instance, step_instance, held_instance};
 
 use crate::design::Design;
 use crate::instance::is_strange;
-use flat_scopes::{Lent, Step};
-use vlog_syntax::{Identifier, Instance, PlainItem};
+use flat_scopes::{Lent, Placing, Step};
+use vlog_syntax::Identifier;
 
-/// The name of the first instance.
-fn first_name(instances: &[Instance]) -> Option<Lent<'_, Identifier>>
-    ensures { result ≡ first_name instances.now }
+/// The name of an instance, if it is of the design.
+fn placed_instance<'a>(design: &Design<'_>, placing: &Placing<'a>) -> Option<Lent<'a, Identifier>>
+    ensures { result ≡ placed_instance design.now placing.now }
 {
-    match instances {
-        [first, ..] => Some(Lent::of(&first.name)),
-        [] => None,
+    if is_strange(design, placing.module_name.get(), placing.values.get()) {
+        return None;
     }
-}
-
-/// The name of the first instance of the design that an item lists.
-fn listed_instance<'a>(design: &Design<'_>, item: &'a PlainItem) -> Option<Lent<'a, Identifier>>
-    ensures { result ≡ listed_instance design.now item.now }
-{
-    match item {
-        PlainItem::ModuleInstantiation(name, values, instances) => {
-            if is_strange(design, name, values) {
-                None
-            } else {
-                first_name(instances.as_slice())
-            }
-        }
-        _ => None,
-    }
+    Some(Lent::of(&placing.instance.get().name))
 }
 
 /// The same of a step.
@@ -38,7 +22,7 @@ fn step_instance<'a>(design: &Design<'_>, step: &Step<'a>) -> Option<Lent<'a, Id
     ensures { result ≡ step_instance design.now step.now }
 {
     match step {
-        Step::Lists(item) => listed_instance(design, item.get().get()),
+        Step::Places(placing) => placed_instance(design, placing),
         _ => None,
     }
 }

@@ -9,7 +9,7 @@ ghost use Rattle.tb_items.specs.Items.{generates, delay_items, process_item, lis
 
 use crate::design::Design;
 use crate::generator::{Generator, generator_of};
-use crate::instance::add_instances;
+use crate::instance::add_instance;
 use crate::item::BenchItem;
 use crate::reason::{of_const, of_refusal};
 use flat_scopes::{Lent, Step};
@@ -71,16 +71,13 @@ fn process_item<'a>(process: &'a Process, generator: Option<Generator<'a>>) -> B
     }
 }
 
-/// Adds what an assign, a process or instances are.
+/// Adds what an assign or a process is.
 fn add_listed<'a>(
-    alloc: Global,
     scope: &Scope,
-    design: &Design<'a>,
-    clock: &Option<Text>,
     item: &'a PlainItem,
     items: &mut Vec<BenchItem<'a>>,
 ) -> Result<(), AllocError>
-    ensures { IfOk result (λ done. items.new.items ≡ items.old.items ++ listed (names_of scope.now) design.now clock.now item.now) }
+    ensures { IfOk result (λ done. items.new.items ≡ items.old.items ++ listed (names_of scope.now) item.now) }
 {
     match item {
         PlainItem::ContinuousAssign(_, delay, assignments) => {
@@ -90,17 +87,6 @@ fn add_listed<'a>(
         PlainItem::Process(process) => {
             items.push(process_item(process, generator_of(scope, process)))?;
             Ok(())
-        }
-        PlainItem::ModuleInstantiation(name, values, instances) => {
-            add_instances(
-                alloc,
-                design,
-                clock,
-                name,
-                values,
-                instances.as_slice(),
-                items,
-            )
         }
         _ => Ok(()),
     }
@@ -127,8 +113,9 @@ fn add_step<'a>(
         Step::Drives(name, value) => {
             items.push(BenchItem::Drives(Lent::of(name.get()), Lent::of(value.get())))?;
         }
-        Step::Lists(item) => add_listed(alloc, scope, design, clock, item.get().get(), items)?,
-        Step::Generates(_, item) => add_generate(item.get().get(), items)?,
+        Step::Lists(item) => add_listed(scope, item.get().get(), items)?,
+        Step::Places(placing) => add_instance(alloc, design, clock, placing, items)?,
+        Step::Generates(_, item, _) => add_generate(item.get().get(), items)?,
     }
     Ok(())
 }

@@ -5,7 +5,6 @@ use Rattle.std.specs.Prelude.{Option, None, Some}
 use Rattle.std.proofs.lemmas.List.{append_assoc, append-nil}
 use Rattle.vlog_syntax.specs.declared.identifier.Identifier.{Identifier}
 use Rattle.vlog_syntax.specs.declared.item.Delay.{Delay}
-use Rattle.vlog_syntax.specs.declared.item.Instance.{Instance}
 use Rattle.vlog_syntax.specs.declared.item.Item.{Item, out-Item}
 use Rattle.vlog_syntax.specs.declared.item.Item.TheOpen as t
 use Rattle.vlog_syntax.specs.declared.item.Item.TheOpen.{Item-F}
@@ -18,6 +17,7 @@ use Rattle.netlist_core.specs.declared.port.Port.{Port}
 use Rattle.netlist_core.specs.declared.raw.RawNetlist.{RawNetlist}
 use Rattle.netlist_core.specs.Runs.{bits_at}
 use Rattle.vlog_meaning.specs.Scopes.{Names, names_of}
+use Rattle.flat_scopes.specs.declared.opening.Placing.{Placing}
 use Rattle.flat_scopes.specs.declared.opening.Step.{Step}
 use Rattle.flat_scopes.specs.declared.opening.Step.TheVariants as s
 use Rattle.flat_scopes.specs.declared.signal.Signal.{Signal}
@@ -27,7 +27,7 @@ use Rattle.tb_items.specs.declared.design.Design.{Design}
 use Rattle.tb_items.specs.declared.generator.Generator.{Generator}
 use Rattle.tb_items.specs.declared.item.BenchItem.{BenchItem}
 use Rattle.tb_items.specs.declared.item.BenchItem.TheVariants as b
-use Rattle.tb_items.specs.Items.{helper, generates, delay_items, process_item, held, is_strange, listed, step_items, items_of, first_name, listed_instance, step_instance, or_later, held_instance, first_region}
+use Rattle.tb_items.specs.Items.{helper, generates, delay_items, process_item, held, is_strange, listed, step_items, items_of, step_instance, or_later, held_instance, first_region}
 use Rattle.tb_items.specs.Generators.{generator_of}
 use Rattle.tb_contents.specs.Hidden.{numbers_from, port_widths}
 use Rattle.tb_settling.specs.Nodes.{PortsFit}
@@ -59,10 +59,9 @@ no_process : (x : Process) (o : Option Generator) → some_item is_design (proce
 no_process x None = refl
 no_process x (Some g) = refl
 
-no_instance : (d : Design) (clock : Option (List ℕ)) (name : Identifier) (list : List Instance) (strange : Bool) → (if strange then None else first_name list) ≡ None → some_item is_design (if strange then helper name.span ∷ [] else held d clock name.span list) ≡ false
-no_instance d clock name list true e = refl
-no_instance d clock name [] false e = refl
-no_instance d clock name (i ∷ more) false e = absurd cc
+no_instance : (d : Design) (clock : Option (List ℕ)) (x : Placing) (strange : Bool) → (if strange then None else Some x.instance.name) ≡ None → some_item is_design (if strange then helper x.module_name.span ∷ [] else held d clock x) ≡ false
+no_instance d clock x true e = refl
+no_instance d clock x false e = absurd cc
 
 no_generates : (x : Item-F Item) → some_item is_design (generates x) ≡ false
 no_generates (t.Plain i) = refl
@@ -75,14 +74,14 @@ no_generates (t.NullGenerate at) = refl
 none_or : (xs ys : List BenchItem) → some_item is_design xs ≡ false → some_item is_design ys ≡ false → some_item is_design (xs ++ ys) ≡ false
 none_or xs ys e f = some_both xs ys ∙ ap (λ (c : Bool). c || some_item is_design ys) e ∙ f
 
-no_listed : (names : Names) (d : Design) (clock : Option (List ℕ)) (x : PlainItem) → listed_instance d x ≡ None → some_item is_design (listed names d clock x) ≡ false
-no_listed names d clock (p.PortDeclaration x) e = refl
-no_listed names d clock (p.DataDeclaration x) e = refl
-no_listed names d clock (p.GenvarDeclaration at xs) e = refl
-no_listed names d clock (p.ParameterDeclaration x) e = refl
-no_listed names d clock (p.ContinuousAssign at delay xs) e = none_or (delay_items delay) (map b.Assigns xs) (no_delay delay) (no_assign xs)
-no_listed names d clock (p.Process x) e = no_process x (generator_of names x)
-no_listed names d clock (p.ModuleInstantiation name values list) e = no_instance d clock name list (is_strange d name values) e
+no_listed : (names : Names) (x : PlainItem) → some_item is_design (listed names x) ≡ false
+no_listed names (p.PortDeclaration x) = refl
+no_listed names (p.DataDeclaration x) = refl
+no_listed names (p.GenvarDeclaration at xs) = refl
+no_listed names (p.ParameterDeclaration x) = refl
+no_listed names (p.ContinuousAssign at delay xs) = none_or (delay_items delay) (map b.Assigns xs) (no_delay delay) (no_assign xs)
+no_listed names (p.Process x) = no_process x (generator_of names x)
+no_listed names (p.ModuleInstantiation name values list) = refl
 
 no_step : (names : Names) (d : Design) (clock : Option (List ℕ)) (x : Step) → step_instance d x ≡ None → some_item is_design (step_items names d clock x) ≡ false
 no_step names d clock (s.Declares k) e = refl
@@ -90,8 +89,9 @@ no_step names d clock (s.Refuses refusal) e = refl
 no_step names d clock (s.RefusesGiven error) e = refl
 no_step names d clock (s.Starts k x) e = refl
 no_step names d clock (s.Drives name x) e = refl
-no_step names d clock (s.Lists item) e = no_listed names d clock item e
-no_step names d clock (s.Generates k item) e = no_generates (out-Item item)
+no_step names d clock (s.Lists item) e = no_listed names item
+no_step names d clock (s.Places x) e = no_instance d clock x (is_strange d x.module_name x.values) e
+no_step names d clock (s.Generates k item taken) e = no_generates (out-Item item)
 
 -- where the design is among the items, its instance is found
 pub held_there : (names : Names) (d : Design) (clock : Option (List ℕ)) (steps : List Step) → some_item is_design (items_of names d clock steps) ≡ true → (i : Identifier) × (held_instance d steps ≡ Some i)

@@ -1,17 +1,14 @@
 -- What a design gives to a testbench is the same, whichever opening of its top it holds.
-use Rattle.std.proofs.Common.{◌≡◌, ℕ, ◌+◌, Bool, not, ◌||◌, List, [], ◌∷◌, ◌++◌, map, length, Option, None, refl, sym, ap, ◌∙◌, if◌then◌else◌}
+use Rattle.std.proofs.Common.{◌≡◌, ℕ, ◌+◌, Bool, not, ◌||◌, List, [], ◌∷◌, ◌++◌, length, Option, None, Some, refl, sym, ap, ◌∙◌, if◌then◌else◌}
 use Rattle.std.specs.List.{flat_map}
 use Rattle.std.specs.Str.{bytes_eq}
-use Rattle.mcy_base.specs.declared.span.Span.{Span}
 use Rattle.netlist_core.specs.declared.port.Port.{Port}
 use Rattle.netlist_core.specs.declared.raw.RawNetlist.{RawNetlist}
 use Rattle.vlog_syntax.specs.declared.identifier.Identifier.{Identifier}
-use Rattle.vlog_syntax.specs.declared.item.Instance.{Instance}
 use Rattle.vlog_syntax.specs.declared.item.ParameterValues.{ParameterValues}
-use Rattle.vlog_syntax.specs.declared.item.PlainItem.{PlainItem}
-use Rattle.vlog_syntax.specs.declared.item.PlainItem.TheVariants as p
 use Rattle.vlog_syntax.specs.declared.module.Module.{Module}
 use Rattle.vlog_meaning.specs.Scopes.{Names, with_name}
+use Rattle.flat_scopes.specs.declared.opening.Placing.{Placing}
 use Rattle.flat_scopes.specs.declared.opening.Step.{Step}
 use Rattle.flat_scopes.specs.declared.opening.Step.TheVariants as s
 use Rattle.flat_scopes.specs.Openings.{Opened, unopened}
@@ -25,9 +22,9 @@ use Rattle.flat_once.proofs.Scopes.{module_once}
 use Rattle.tb_items.specs.declared.design.Design.{Design}
 use Rattle.tb_items.specs.declared.design.Role.TheVariants.{Clock}
 use Rattle.tb_items.specs.declared.item.BenchItem.TheVariants as b
-use Rattle.tb_items.specs.Connections.{clock_missing, connections, hidden, role_items, wire_items}
+use Rattle.tb_items.specs.Connections.{clock_missing, connections, taken, hidden, role_items, wire_items}
 use Rattle.tb_items.specs.Designs.{hidden_name, is_clock, named_port, port_role, port_sign, role_of, sign_at}
-use Rattle.tb_items.specs.Items.{first_name, has_values, held, held_instance, helper, instance_place, is_strange, items_of, listed, listed_instance, or_later, step_instance, step_items}
+use Rattle.tb_items.specs.Items.{has_values, held, held_instance, helper, is_strange, items_of, or_later, step_instance, step_items}
 use Rattle.tb_signals.specs.Opened.{IsOpened}
 use Rattle.tb_signals.specs.Tables.{hidden_decl}
 use Rattle.tb_contents.specs.Designs.{IsDesign}
@@ -60,33 +57,24 @@ wire_same : (d e : Design) → AreSame d e → (clock : Option (List ℕ)) (inst
 wire_same d e same clock instance (Mismatch at) = refl
 wire_same d e same clock instance (To port value) = λ i. role_items clock (role_same d e same port.name i) (hidden instance port) value
 
-connections_same : (d e : Design) → AreSame d e → (clock : Option (List ℕ)) (at : Span) (instance : Instance) → connections d clock at instance ≡ connections e clock at instance
-connections_same d e same clock at instance = λ i. clock_missing (same.clock i) at (wires_of (same.ports i) instance) ++ flat_map (λ w. wire_same d e same clock instance.name w i) (wires_of (same.ports i) instance)
+connections_same : (d e : Design) → AreSame d e → (clock : Option (List ℕ)) (x : Placing) → connections d clock x ≡ connections e clock x
+connections_same d e same clock x = λ i. clock_missing (same.clock i) x.module_name.span (wires_of (same.ports i) x.instance) ++ (taken x ++ flat_map (λ w. wire_same d e same clock x.instance.name w i) (wires_of (same.ports i) x.instance))
 
-held_same : (d e : Design) → AreSame d e → (clock : Option (List ℕ)) (at : Span) (list : List Instance) → held d clock at list ≡ held e clock at list
-held_same d e same clock at [] = refl
-held_same d e same clock at (x ∷ more) = λ i. (b.Holds at ∷ connections_same d e same clock at x i) ++ map instance_place more
+held_same : (d e : Design) → AreSame d e → (clock : Option (List ℕ)) (x : Placing) → held d clock x ≡ held e clock x
+held_same d e same clock x = λ i. if x.is_first then b.Holds x.module_name.span ∷ connections_same d e same clock x i else taken x ++ b.Holds x.instance.name.span ∷ []
 
 strange_same : (d e : Design) → AreSame d e → (name : Identifier) (values : ParameterValues) → is_strange d name values ≡ is_strange e name values
 strange_same d e same name values = λ i. not (bytes_eq (same.name i) name.name) || has_values values
 
-listed_same : (names : Names) (d e : Design) → AreSame d e → (clock : Option (List ℕ)) (x : PlainItem) → listed names d clock x ≡ listed names e clock x
-listed_same names d e same clock (p.ModuleInstantiation name values list) = λ i. if strange_same d e same name values i then helper name.span ∷ [] else held_same d e same clock name.span list i
-listed_same names d e same clock other = refl
-
 step_same : (names : Names) (d e : Design) → AreSame d e → (clock : Option (List ℕ)) (x : Step) → step_items names d clock x ≡ step_items names e clock x
-step_same names d e same clock (s.Lists item) = listed_same names d e same clock item
+step_same names d e same clock (s.Places x) = λ i. if strange_same d e same x.module_name x.values i then helper x.module_name.span ∷ [] else held_same d e same clock x i
 step_same names d e same clock other = refl
 
 pub items_same : (names : Names) (d e : Design) → AreSame d e → (clock : Option (List ℕ)) (steps : List Step) → items_of names d clock steps ≡ items_of names e clock steps
 items_same names d e same clock steps = λ i. flat_map (λ x. step_same names d e same clock x i) steps
 
-listed_instance_same : (d e : Design) → AreSame d e → (x : PlainItem) → listed_instance d x ≡ listed_instance e x
-listed_instance_same d e same (p.ModuleInstantiation name values list) = λ i. if strange_same d e same name values i then None else first_name list
-listed_instance_same d e same other = refl
-
 step_instance_same : (d e : Design) → AreSame d e → (x : Step) → step_instance d x ≡ step_instance e x
-step_instance_same d e same (s.Lists item) = listed_instance_same d e same item
+step_instance_same d e same (s.Places x) = λ i. if strange_same d e same x.module_name x.values i then None else Some x.instance.name
 step_instance_same d e same other = refl
 
 pub held_instance_same : (d e : Design) → AreSame d e → (steps : List Step) → held_instance d steps ≡ held_instance e steps

@@ -15,3 +15,6 @@ returns-clause-head_twice c = λ a b. refl
 
 pub returns-clause-labels : goal.returns-clause-labels
 returns-clause-labels c = λ a b. (refl, refl)
+
+pub returns-clause-instances : goal.returns-clause-instances
+returns-clause-instances c = λ a b m. (refl, refl)

@@ -1,5 +1,5 @@
 use Rattle.std.proofs.Common.{◌≡◌, drop}
-use Rattle.flat_scopes.specs.Opens.{block_names}
+use Rattle.flat_scopes.specs.Insides.{block_names}
 use Rattle.flat_scopes.specs.Views.{opened_of}
 use Rattle.flat_scopes.proofs.opening.Opening.block_names.Given as goal
 

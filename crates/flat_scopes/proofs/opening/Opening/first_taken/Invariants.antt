@@ -1,0 +1,7 @@
+use Rattle.std.proofs.Common.{◌≡◌, drop}
+use Rattle.flat_scopes.specs.Insides.{first_taken}
+use Rattle.flat_scopes.specs.Views.{opened_of}
+use Rattle.flat_scopes.proofs.opening.Opening.first_taken.Given as goal
+
+abbrev pub invariant-loop-label : goal.invariant-loop-label
+invariant-loop-label l = first_taken (opened_of l.self) (drop l.label-index l.labels) ≡ first_taken (opened_of l.self) l.labels
