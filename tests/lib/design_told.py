@@ -946,6 +946,108 @@ endmodule
 elaborate top
 step 1
 > outputs 15
+# two registers of one name after flattening, where one has an escaped name: the later one in the order of declaration
+module unit(input clk, input d, output reg q);
+  always @(posedge clk) q <= d;
+endmodule
+module top(input clk, input d, output y, output z);
+  unit u(.clk(clk), .d(d), .q(y));
+  reg \\u.q ;
+  always @(posedge clk) \\u.q <= ~d;
+  assign z = \\u.q ;
+endmodule
+elaborate top
+> Twice 6:7
+# the escaped name may be declared first
+module unit(input clk, input d, output reg q);
+  always @(posedge clk) q <= d;
+endmodule
+module top(input clk, input d, output y, output z);
+  reg \\u.q ;
+  unit u(.clk(clk), .d(d), .q(y));
+  always @(posedge clk) \\u.q <= ~d;
+  assign z = \\u.q ;
+endmodule
+elaborate top
+> Twice 1:44
+# so it is with the block of a turn of a loop
+module top(input clk, input d, output [2:0] y);
+  reg a, \\n[1].q , b;
+  genvar g;
+  for (g = 0; g < 2; g = g + 1) begin : n
+    reg q;
+    always @(posedge clk) q <= d;
+    assign y[g] = q;
+  end
+  always @(posedge clk) begin
+    a <= d;
+    \\n[1].q <= d;
+    b <= d;
+  end
+  assign y[2] = a ^ b ^ \\n[1].q ;
+endmodule
+elaborate top
+> Twice 5:9
+# a wire may have the name of a register, and so may a variable that is none
+module unit(input clk, input d, output reg q, output reg r);
+  always @(posedge clk) begin
+    q <= d;
+    r <= ~d;
+  end
+endmodule
+module top(input clk, input d, output [3:0] y);
+  unit u(.clk(clk), .d(d), .q(y[0]), .r(y[1]));
+  wire \\u.q = d;
+  reg \\u.r ;
+  always @* \\u.r = ~d;
+  assign y[3:2] = {\\u.q , \\u.r };
+endmodule
+elaborate top
+step 1
+> outputs 8
+step 0
+> outputs 5
+# a loop of nets comes before two registers of one name
+module top(input clk, input d);
+  genvar g;
+  for (g = 0; g < 1; g = g + 1) begin : n
+    reg q;
+    always @(posedge clk) q <= d;
+  end
+  reg \\n[0].q ;
+  always @(posedge clk) \\n[0].q <= d;
+  wire a, b;
+  assign a = b;
+  assign b = a;
+endmodule
+elaborate top
+> Loop 10:10
+# so do too many bits
+module top(input clk, input d);
+  genvar g;
+  for (g = 0; g < 33; g = g + 1) begin : n
+    reg [127:0] q;
+    always @(posedge clk) q <= {128{d}};
+  end
+  reg \\n[0].q ;
+  always @(posedge clk) \\n[0].q <= d;
+endmodule
+elaborate top
+> TooMany RegisterBits
+# a loop through cells comes after them
+module top(input clk, input d, output y);
+  genvar g;
+  for (g = 0; g < 1; g = g + 1) begin : n
+    reg q;
+    always @(posedge clk) q <= d;
+  end
+  reg \\n[0].q ;
+  always @(posedge clk) \\n[0].q <= d;
+  wire z = ~y;
+  assign y = ~z;
+endmodule
+elaborate top
+> Twice 7:7
 # more net bits than the limit
 module top(input a);
   genvar g;

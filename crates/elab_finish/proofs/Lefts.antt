@@ -8,7 +8,7 @@ use Rattle.net_builder.specs.Building.{Building}
 use Rattle.net_builder.proofs.Following.{loop_goes}
 use Rattle.flat_runs.proofs.Lists.{contains_get}
 use Rattle.elab_finish.specs.declared.error.DesignError.{DesignError}
-use Rattle.elab_finish.specs.declared.error.DesignError.TheVariants.{Loop, TooMany, Memory}
+use Rattle.elab_finish.specs.declared.error.DesignError.TheVariants.{Loop, TooMany, Twice, Memory}
 use Rattle.elab_finish.specs.declared.left.Left.{Left}
 use Rattle.elab_finish.specs.Loops.{next_of, IsLooped, IsLoopFree, IsLeftLooped, IsFirstLooped, AreCovered}
 use Rattle.elab_finish.specs.Laws.{JoinedAreCovered}
@@ -83,6 +83,7 @@ free_of_loops b lefts k all none covered n loop =
 pub over_refused : (b : Building) (name : List ℕ) (clocked : Option (List ℕ)) (ins outs declared : List ℕ) (lefts : List Left) (netlist : RawNetlist) (e : DesignError) → IsEnding b name clocked ins outs declared netlist → IsOver b netlist e → IsRefused b name clocked ins outs declared lefts e
 over_refused b name clocked ins outs declared lefts netlist (Loop span) ending over = inr (netlist, ending, over)
 over_refused b name clocked ins outs declared lefts netlist (TooMany kind) ending over = (netlist, ending, over)
+over_refused b name clocked ins outs declared lefts netlist (Twice span) ending over = (netlist, ending, over)
 over_refused b name clocked ins outs declared lefts netlist Memory ending over = tt
 
 -- Each loop is of joined nets.

@@ -1,6 +1,7 @@
 pub mod Joined
 pub mod Searching
 pub mod Orders
+pub mod Naming
 pub mod Registering
 pub mod Finishing
 pub mod Ended

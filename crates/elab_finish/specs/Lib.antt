@@ -1,6 +1,7 @@
 pub mod Loops
 pub mod Searching
 pub mod Endings
+pub mod Names
 pub mod Refusals
 pub mod Heads
 pub mod Ordering

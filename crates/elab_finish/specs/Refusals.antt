@@ -9,10 +9,11 @@ use Rattle.netlist_core.specs.Orders.{IsOnLoop}
 use Rattle.netlist_core.specs.Checked.{IsFirst, all_bits, net_bits}
 use Rattle.net_builder.specs.Building.{Building}
 use Rattle.elab_finish.specs.declared.error.DesignError.{DesignError}
-use Rattle.elab_finish.specs.declared.error.DesignError.TheVariants.{Loop, TooMany, Memory}
+use Rattle.elab_finish.specs.declared.error.DesignError.TheVariants.{Loop, TooMany, Twice, Memory}
 use Rattle.elab_finish.specs.declared.left.Left.{Left}
 use Rattle.elab_finish.specs.Loops.{IsFirstLooped}
 use Rattle.elab_finish.specs.Endings.{IsEnding}
+use Rattle.elab_finish.specs.Names.{AreNamedApart, IsAgainAt}
 
 -- the most bits of inputs, outputs, registers and cells' Y together, and of registers
 abbrev pub max_net_bits : ℕ
@@ -39,10 +40,11 @@ IsLoopAt b netlist span = (c : ℕ) × IsFirst (IsOnLoop netlist) c × IsAt (sli
 
 -- The design has a netlist, which is refused for this.
 abbrev pub IsOver : Building → RawNetlist → DesignError → Type 0
-IsOver b netlist (Loop span) = IsWithin netlist × IsLoopAt b netlist span
+IsOver b netlist (Loop span) = IsWithin netlist × AreNamedApart netlist.registers × IsLoopAt b netlist span
 IsOver b netlist (TooMany NetBits) = max_net_bits < net_bits netlist
 IsOver b netlist (TooMany RegisterBits) = (net_bits netlist ≤ max_net_bits) × (max_register_bits < register_bits netlist)
 IsOver b netlist (TooMany other) = ⊥
+IsOver b netlist (Twice span) = IsWithin netlist × IsAgainAt netlist.registers span
 IsOver b netlist Memory = Unit {0}
 
 -- The first left side that writes a net on a loop stands at the place.

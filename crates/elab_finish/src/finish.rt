@@ -3,13 +3,13 @@ ghost use Rattle.std.specs.Prelude.{IfOk, IfErr};
 ghost use Rattle.flat_runs.specs.Designs.{Design as Flattened};
 ghost use Rattle.flat_runs.specs.Finishing.{Finishes};
 ghost use Rattle.elab_finish.specs.Endings.{CanFinish, IsDesignOf, IsEnding};
+ghost use Rattle.elab_finish.specs.Names.{AreNamedApart};
 ghost use Rattle.elab_finish.specs.Refusals.{IsRefused, IsWithin};
 
-use crate::checking::{checked, spans_of};
+use crate::checking::{checked, spans_of, test_netlist};
 use crate::ending::ending;
 use crate::error::DesignError;
 use crate::left::{Left, first_looped};
-use crate::limits::test_limits;
 use mcy_base::Text;
 use net_builder::Builder;
 use netlist_core::Netlist;
@@ -21,7 +21,8 @@ use netlist_core::Netlist;
 /// and within an item from the left on.
 ///
 /// Nets that lead back to themselves without passing through a cell are refused first, at the first left side that writes one;
-/// then too many net bits, then too many register bits, and last a loop through cells, at the least numbered cell on one.
+/// then too many net bits, then too many register bits, then two registers of one name, at the second of them, and last a loop
+/// through cells, at the least numbered cell on one.
 pub fn finish_design(
     builder: Builder,
     top: Text,
@@ -35,6 +36,7 @@ pub fn finish_design(
     ensures ending { IfOk result (λ n. IsEnding builder top clock inputs.now outputs.now declared.now n.raw) }
     ensures finishes { IfOk result (λ n. (design : Flattened) → IsDesignOf builder inputs.now outputs.now declared.now design → Finishes builder design n.raw) }
     ensures within { IfOk result (λ n. IsWithin n.raw) }
+    ensures apart { IfOk result (λ n. AreNamedApart n.raw.registers) }
     ensures refused { IfErr result (IsRefused builder top clock inputs.now outputs.now declared.now lefts.now) }
 {
     let alloc = builder.alloc();
@@ -43,7 +45,7 @@ pub fn finish_design(
     }
     let spans = spans_of(alloc, builder.cells())?;
     let netlist = ending(builder, top, clock, inputs, outputs, declared)?;
-    match test_limits(&netlist) {
+    match test_netlist(alloc, &netlist) {
         Ok(()) => checked(alloc, netlist, &spans),
         Err(error) => Err(error),
     }

@@ -4,15 +4,15 @@
 //! follows each net once, from joint to joint, and `nets` tells how many there may be. `ending` makes the netlist by `finish` of
 //! the builder, with the ports of `ports`, and puts its registers in the order in which their signals are declared: `ordering`
 //! makes them without what they take, and fills that in from the register that has the same lowest bit, which `heads` tells.
-//! `limits` counts bits, and `checking` checks the netlist. `laws` says how what is asked of the builder follows from what its
-//! items leave.
+//! `limits` counts bits, `names` looks for registers of one name, and `checking` checks the netlist. `laws` says how what is asked
+//! of the builder follows from what its items leave.
 //!
 //! In its specs, `Endings` says what is asked of the builder and what its netlist is, `Loops` which left side is the first on a
-//! loop, and `Refusals` why there is no netlist; `Searching`, `Heads`, `Ordering` and `Checking` are about the code's parts. In
-//! its proofs, `Searching` shows that a net was met on the way just where it is on a loop, `Joined` and `Lefts` are about joined
-//! nets and left sides, `Orders` and `Registering` about registers, `Finishing` and `Ended` go to the finished netlist of a
-//! design, `Leading` is about bits, ports and cells that are led, and `Sound` shows that the check refuses the netlist for
-//! nothing but loops.
+//! loop, `Names` which register has the name of another, and `Refusals` why there is no netlist; `Searching`, `Heads`, `Ordering`
+//! and `Checking` are about the code's parts. In its proofs, `Searching` shows that a net was met on the way just where it is on a
+//! loop, `Joined` and `Lefts` are about joined nets and left sides, `Orders` and `Registering` about registers, `Naming` about their
+//! names, `Finishing` and `Ended` go to the finished netlist of a design, `Leading` is about bits, ports and cells that are led, and
+//! `Sound` shows that the check refuses the netlist for nothing but loops.
 #![tactic(auto)]
 
 mod checking;
@@ -23,6 +23,7 @@ mod heads;
 mod laws;
 mod left;
 mod limits;
+mod names;
 mod nets;
 mod ordering;
 mod ports;

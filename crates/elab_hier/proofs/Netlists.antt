@@ -24,6 +24,7 @@ use Rattle.elab_items.specs.Starts.{start_values}
 use Rattle.elab_finish.specs.declared.left.Left.{Left}
 use Rattle.elab_finish.specs.Endings.{CanFinish, IsDesignOf, IsEnding}
 use Rattle.elab_finish.specs.Loops.{AreCovered}
+use Rattle.elab_finish.specs.Names.{AreNamedApart}
 use Rattle.elab_finish.specs.Refusals.{IsRefused, IsWithin}
 use Rattle.elab_lefts.specs.Lefts.{design_lefts}
 use Rattle.elab_lefts.specs.Laws.{BuiltAreCovered}
@@ -72,9 +73,9 @@ module _ (flat : Flat) (ports : List Identifier) (flags : List Bool) (sound : Is
   -- the netlist is that of the source
   pub ended : ItemsAreAdded → DesignsBegin → BuildersAreOfDesigns → BuiltRuns → (top : List ℕ) (name : Option (List ℕ)) (ins outs ks : List ℕ) (netlist : RawNetlist)
       → name ≡ clock_name (source_of flat ports flags) → ins ≡ input_numbers ports (clocks_of flags flat).clock flat → outs ≡ output_numbers ports flat → ks ≡ declared_numbers flat.items
-      → IsEnding last top name ins outs ks netlist → ((design : Design) → IsDesignOf last ins outs ks design → Finishes last design netlist) → IsWithin netlist → CanRun netlist
+      → IsEnding last top name ins outs ks netlist → ((design : Design) → IsDesignOf last ins outs ks design → Finishes last design netlist) → IsWithin netlist → AreNamedApart netlist.registers → CanRun netlist
       → IsNetlistOf flat ports top netlist
-  ended items begins_law belongs runs top name ins outs ks netlist name_is in_is out_is k_is ending finishes within can_run =
+  ended items begins_law belongs runs top name ins outs ks netlist name_is in_is out_is k_is ending finishes within apart can_run =
       let a = added items in
       let design : Design = a.0 in
       let start_is : start_values (widths_of flat.signals) flat.places flat.items ≡ design.start = sym (ap (λ (d : Design). d.start) a.1.2) in
@@ -96,6 +97,7 @@ module _ (flat : Flat) (ports : List Identifier) (flags : List Bool) (sound : Is
         builds = built.builds;
         ends = ends;
         within = within;
+        apart = apart;
         runnable = can_run;
         design = design;
         is_design = a.1;

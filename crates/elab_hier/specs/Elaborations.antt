@@ -18,6 +18,7 @@ use Rattle.elab_items.specs.Designs.{IsDesign}
 use Rattle.elab_items.specs.Signals.{bits_of, declared, max_bits}
 use Rattle.elab_items.specs.Timed.{BuildsAll}
 use Rattle.elab_finish.specs.Endings.{IsEnding}
+use Rattle.elab_finish.specs.Names.{AreNamedApart}
 use Rattle.elab_finish.specs.Refusals.{IsWithin}
 use Rattle.elab_writers.specs.Numbers.{declared_numbers}
 use Rattle.elab_hier.specs.Tops.{Source, IsSource, clock, clock_name, inputs, outputs}
@@ -48,6 +49,7 @@ pub record HasNetlist (source : Source) (top : List ℕ) (netlist : RawNetlist) 
   pub builds : HasItems source.flat source.flags first last
   pub ends : Ends source top last netlist
   pub within : IsWithin netlist
+  pub apart : AreNamedApart netlist.registers
   pub runnable : CanRun netlist
   -- runs
   pub design : Design

@@ -10,7 +10,7 @@ use Rattle.flat_items.specs.Flattened.{Flat, module_at}
 use Rattle.flat_clocks.specs.Clocks.{clocks_of}
 use Rattle.process_cells.specs.Starts.{StartsWith}
 use Rattle.elab_items.specs.declared.answer.ElabError.{ElabError}
-use Rattle.elab_items.specs.declared.answer.ElabError.TheVariants.{NoTop, TooMany, Loop, Memory}
+use Rattle.elab_items.specs.declared.answer.ElabError.TheVariants.{NoTop, Twice, TooMany, Loop, Memory}
 use Rattle.elab_items.specs.declared.error.BuildError.{BuildError}
 use Rattle.elab_items.specs.declared.error.BuildError.TheVariants as build
 use Rattle.elab_items.specs.Answers.{item_answer, reason_answer}
@@ -47,6 +47,7 @@ build_answer signals build.Memory = Memory
 abbrev pub end_answer : DesignError → ElabError
 end_answer (ending.Loop span) = Loop span
 end_answer (ending.TooMany kind) = TooMany kind
+end_answer (ending.Twice span) = Twice span
 end_answer ending.Memory = Memory
 
 -- An item is not built, where those before it are: the first one that is refused, or for which there is no room.
@@ -58,7 +59,7 @@ pub record RefusesItem (flat : Flat) (flags : List Bool) (error : ElabError) : T
   pub answers : error ≡ build_answer flat.signals reason
 
 -- All items are built, in the builder with the start values of the source, and there is no netlist: nets loop, at the first left side that is on a loop; or there are too many bits; or
--- cells loop, at the least numbered one.
+-- two registers have one name, at the second one's; or cells loop, at the least numbered one.
 pub record RefusesEnd (source : Source) (top : List ℕ) (error : ElabError) : Type 0 where
   pub first : Building
   pub begins : HasSignals source.flat first

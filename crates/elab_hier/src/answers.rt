@@ -42,6 +42,7 @@ pub(crate) fn end_answer(error: DesignError) -> ElabError
     match error {
         DesignError::Loop(span) => ElabError::Loop(span),
         DesignError::TooMany(kind) => ElabError::TooMany(kind),
+        DesignError::Twice(span) => ElabError::Twice(span),
         DesignError::Memory => ElabError::Memory,
     }
 }

@@ -3,6 +3,7 @@ ghost use Rattle.std.specs.Prelude.{IfErr, IfOk};
 ghost use Rattle.flat_runs.specs.Designs.{Design};
 ghost use Rattle.flat_runs.specs.Finishing.{Finishes};
 ghost use Rattle.elab_finish.specs.Endings.{CanFinish, IsDesignOf, IsEnding};
+ghost use Rattle.elab_finish.specs.Names.{AreNamedApart};
 ghost use Rattle.elab_finish.specs.Refusals.{IsWithin};
 ghost use Rattle.elab_hier.specs.Elaborations.{CanRun};
 ghost use Rattle.elab_hier.specs.Parts.{IsRefusedAs};
@@ -26,6 +27,7 @@ pub(crate) fn end(
     ensures ending { IfOk result (λ n. IsEnding builder name lists.clock lists.inputs.items outputs.now lists.declared.items n.raw) }
     ensures finishes { IfOk result (λ n. (design : Design) → IsDesignOf builder lists.inputs.items outputs.now lists.declared.items design → Finishes builder design n.raw) }
     ensures within { IfOk result (λ n. IsWithin n.raw) }
+    ensures apart { IfOk result (λ n. AreNamedApart n.raw.registers) }
     ensures runnable { IfOk result (λ n. CanRun n.raw) }
     ensures refused { IfErr result (IsRefusedAs builder name lists.clock lists.inputs.items outputs.now lists.declared.items lists.lefts.items) }
 {

@@ -93,7 +93,7 @@ end_not_refused : (source : Source) (top : List ℕ) (n : RawNetlist) (e : ElabE
 end_not_refused source top n e h r =
     let same : r.last ≡ h.last = last_once source r.first h.first r.last h.last _ r.begins h.begins r.starts (starts_are source top n h) r.builds h.builds in
     let here = refused_here source top r.last h.last r.reason same r.refused in
-    r.answers ∙ ap end_answer (ended_not_refused h.last top (clock_name source) (inputs source) (outputs source) (declared_numbers source.flat.items) (design_lefts source.flat) n r.reason h.ends h.within h.runnable.2.loops here)
+    r.answers ∙ ap end_answer (ended_not_refused h.last top (clock_name source) (inputs source) (outputs source) (declared_numbers source.flat.items) (design_lefts source.flat) n r.reason h.ends h.within h.apart h.runnable.2.loops here)
 
 -- A source that has a netlist is not refused.
 source_not_refused : (source : Source) (top : List ℕ) (n : RawNetlist) (e : ElabError) → IsSound source.flat → HasNetlist source top n → RefusesSource source top e → e ≡ Memory

@@ -8,6 +8,7 @@ use Rattle.mcy_base.specs.declared.span.Span.{Span}
 use Rattle.netlist_core.specs.declared.bit.Bit.{Bit}
 use Rattle.netlist_core.specs.declared.bit.Bit.TheVariants.{Fixed, Net}
 use Rattle.netlist_core.specs.declared.cell.Cell.{Cell}
+use Rattle.netlist_core.specs.declared.port.Register.{Register}
 use Rattle.netlist_core.specs.declared.raw.RawNetlist.{RawNetlist}
 use Rattle.netlist_core.specs.Orders.{IsOnLoop}
 use Rattle.netlist_core.specs.Checked.{IsFirst, Never, net_bits}
@@ -17,10 +18,11 @@ use Rattle.net_builder.specs.Finished.{Follows, direct, further, step_of, steppe
 use Rattle.net_builder.specs.Written.{joint_of}
 use Rattle.net_builder.proofs.Following.{leads_no_loop}
 use Rattle.elab_finish.specs.declared.error.DesignError.{DesignError}
-use Rattle.elab_finish.specs.declared.error.DesignError.TheVariants.{Loop, TooMany, Memory}
+use Rattle.elab_finish.specs.declared.error.DesignError.TheVariants.{Loop, TooMany, Twice, Memory}
 use Rattle.elab_finish.specs.declared.left.Left.{Left}
 use Rattle.elab_finish.specs.Endings.{IsEnding}
 use Rattle.elab_finish.specs.Loops.{IsFirstLooped, IsLeftLooped, next_of}
+use Rattle.elab_finish.specs.Names.{AreNamedApart, IsAgainAt, IsNamedAgain, IsRegisterAt}
 use Rattle.elab_finish.specs.Refusals.{IsAt, IsLeftAt, IsLoopAt, IsOver, IsRefused, IsWithin, max_net_bits, max_register_bits, register_bits}
 use Rattle.hier_once.proofs.Endings.{ending_once}
 
@@ -75,6 +77,19 @@ loop_once b n s t (c, first, at) (d, also, there) =
     let same : d ≡ c = first_once (IsOnLoop n) d c also first in
     place_once (slice_get b.cells c) s t at (subst (λ (k : ℕ). IsAt (slice_get b.cells k) t) same there)
 
+named_place : (o : Option Register) (s t : Span) → IsRegisterAt o s → IsRegisterAt o t → s ≡ t
+named_place None s t h g = absurd h
+named_place (Some r) s t h g = sym h ∙ g
+
+-- the first register that has the name of one before it stands at one place
+again_once : (rs : List Register) (s t : Span) → IsAgainAt rs s → IsAgainAt rs t → s ≡ t
+again_once rs s t (p, first, at) (q, also, there) =
+    let same : q ≡ p = first_once (IsNamedAgain rs) q p also first in
+    named_place (slice_get rs p) s t at (subst (λ (k : ℕ). IsRegisterAt (slice_get rs k) t) same there)
+
+apart_none : (rs : List Register) (s : Span) → AreNamedApart rs → IsAgainAt rs s → ⊥
+apart_none rs s apart (p, first, at) = apart p first.here
+
 abbrev OverNets : RawNetlist → Kind → Type 0
 OverNets n k = (max_net_bits < net_bits n) × (k ≡ kind.NetBits)
 
@@ -108,25 +123,33 @@ limit_once b n j k h g = both (which_limit b n j h) (which_limit b n k g) where
   both (inr x) (inr y) = x.2 ∙ sym y.2
 
 over_once : (b : Building) (n : RawNetlist) (x y : DesignError) → x ≢ Memory → y ≢ Memory → IsOver b n x → IsOver b n y → x ≡ y
-over_once b n (Loop s) (Loop t) found also h g = ap Loop (loop_once b n s t h.1 g.1)
+over_once b n (Loop s) (Loop t) found also h g = ap Loop (loop_once b n s t h.2 g.2)
 over_once b n (Loop s) (TooMany k) found also h g = absurd (within_not_over b n k h.0 g)
+over_once b n (Loop s) (Twice t) found also h g = absurd (apart_none n.registers t h.1 g.1)
 over_once b n (Loop s) Memory found also h g = absurd (also refl)
 over_once b n (TooMany k) (Loop t) found also h g = absurd (within_not_over b n k g.0 h)
 over_once b n (TooMany j) (TooMany k) found also h g = ap TooMany (limit_once b n j k h g)
+over_once b n (TooMany k) (Twice t) found also h g = absurd (within_not_over b n k g.0 h)
 over_once b n (TooMany k) Memory found also h g = absurd (also refl)
+over_once b n (Twice s) (Loop t) found also h g = absurd (apart_none n.registers s g.1 h.1)
+over_once b n (Twice s) (TooMany k) found also h g = absurd (within_not_over b n k h.0 g)
+over_once b n (Twice s) (Twice t) found also h g = ap Twice (again_once n.registers s t h.1 g.1)
+over_once b n (Twice s) Memory found also h g = absurd (also refl)
 over_once b n Memory y found also h g = absurd (found refl)
 
--- a netlist that can be run within its limits is not refused
-sound_not_over : (b : Building) (n : RawNetlist) (x : DesignError) → x ≢ Memory → Never (IsOnLoop n) → IsWithin n → IsOver b n x → ⊥
-sound_not_over b n (Loop s) found none within (fits, (c, first, at)) = none c first.here
-sound_not_over b n (TooMany k) found none within over = within_not_over b n k within over
-sound_not_over b n Memory found none within over = found refl
+-- a netlist that can be run within its limits, and whose registers have names of their own, is not refused
+sound_not_over : (b : Building) (n : RawNetlist) (x : DesignError) → x ≢ Memory → Never (IsOnLoop n) → IsWithin n → AreNamedApart n.registers → IsOver b n x → ⊥
+sound_not_over b n (Loop s) found none within apart (fits, named, (c, first, at)) = none c first.here
+sound_not_over b n (TooMany k) found none within apart over = within_not_over b n k within over
+sound_not_over b n (Twice s) found none within apart over = apart_none n.registers s apart over.1
+sound_not_over b n Memory found none within apart over = found refl
 
 -- The end.
 
 memory_or : (x : DesignError) → (x ≡ Memory) ⊎ (x ≢ Memory)
 memory_or (Loop s) = inr (λ e. absurd cc)
 memory_or (TooMany k) = inr (λ e. absurd cc)
+memory_or (Twice s) = inr (λ e. absurd cc)
 memory_or Memory = inl refl
 
 module _ (b : Building) (top : List ℕ) (clock : Option (List ℕ)) (ins outs declared : List ℕ) (lefts : List Left) where
@@ -141,6 +164,7 @@ module _ (b : Building) (top : List ℕ) (clock : Option (List ℕ)) (ins outs d
   which_end (Loop s) found (inl h) = inl (s, refl, h)
   which_end (Loop s) found (inr h) = inr h
   which_end (TooMany k) found h = inr h
+  which_end (Twice s) found h = inr h
   which_end Memory found h = absurd (found refl)
 
   pub refused_once : (x y : DesignError) → x ≢ Memory → y ≢ Memory → IsRefused b top clock ins outs declared lefts x → IsRefused b top clock ins outs declared lefts y → x ≡ y
@@ -155,11 +179,11 @@ module _ (b : Building) (top : List ℕ) (clock : Option (List ℕ)) (ins outs d
         over_once b n x y found also over (subst (λ (r : RawNetlist). IsOver b r y) same past)
 
   -- Where there is a netlist that can be run, none is refused.
-  pub ended_not_refused : (n : RawNetlist) (x : DesignError) → IsEnding b top clock ins outs declared n → IsWithin n → Never (IsOnLoop n) → IsRefused b top clock ins outs declared lefts x → x ≡ Memory
-  ended_not_refused n x ends within none h = elim (memory_or x) [
+  pub ended_not_refused : (n : RawNetlist) (x : DesignError) → IsEnding b top clock ins outs declared n → IsWithin n → AreNamedApart n.registers → Never (IsOnLoop n) → IsRefused b top clock ins outs declared lefts x → x ≡ Memory
+  ended_not_refused n x ends within apart none h = elim (memory_or x) [
     | inl is ↦ is
     | inr found ↦ elim (which_end x found h) [
       | inl (s, is, at) ↦ absurd (loops_end_not b top clock ins outs declared lefts s n at ends)
-      | inr (m, close, past) ↦ (let same : m ≡ n = ending_once b top clock ins outs declared m n close ends in absurd (sound_not_over b n x found none within (subst (λ (r : RawNetlist). IsOver b r x) same past)))
+      | inr (m, close, past) ↦ (let same : m ≡ n = ending_once b top clock ins outs declared m n close ends in absurd (sound_not_over b n x found none within apart (subst (λ (r : RawNetlist). IsOver b r x) same past)))
     ]
   ]

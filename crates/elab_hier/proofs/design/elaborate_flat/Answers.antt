@@ -44,11 +44,11 @@ returns-clause-ok c =
     let clock_is = c.clock.ensures ∙ ap (λ (k : Clocks). k.clock) c.in_ok-clocks.ensures in
     let in_is = c.in_ok-lists.ensures.inputs ∙ (ap (λ (o : Option ℕ). without o c.as_slice.result.now) clock_is ∙ ap (without _) (c.as_slice.ensures.value ∙ c.in_ok-ports.ensures.inputs)) in
     let name_is = c.in_ok-lists.ensures.clock ∙ ap (option_map (name_of flat.signals)) clock_is in
-    all_told c.end.result _ _ _ _ (λ n. IsNetlistOf flat ports c.args.top.now n.raw)
-    (λ n ending finishes within runnable. subst (λ (t : List ℕ). IsNetlistOf flat ports t n.raw) c.in_ok-name.ensures
+    all_told c.end.result _ _ _ _ _ (λ n. IsNetlistOf flat ports c.args.top.now n.raw)
+    (λ n ending finishes within apart runnable. subst (λ (t : List ℕ). IsNetlistOf flat ports t n.raw) c.in_ok-name.ensures
     (ended flat ports c.as_slice-flags.result.now c.requires are c.in_ok-builder.builder c.in_ok-builder.ensures.built items_added designs_begin c.designs_can_finish.ensures.design built_runs
-    c.in_ok-name.name lists.clock lists.inputs.items c.as_slice-2.result.now lists.declared.items n.raw name_is in_is (c.as_slice-2.ensures.value ∙ c.in_ok-ports.ensures.outputs) c.in_ok-lists.ensures.declared ending finishes within runnable))
-    c.end.ensures.ending c.end.ensures.finishes c.end.ensures.within c.end.ensures.runnable
+    c.in_ok-name.name lists.clock lists.inputs.items c.as_slice-2.result.now lists.declared.items n.raw name_is in_is (c.as_slice-2.ensures.value ∙ c.in_ok-ports.ensures.outputs) c.in_ok-lists.ensures.declared ending finishes within apart runnable))
+    c.end.ensures.ending c.end.ensures.finishes c.end.ensures.within c.end.ensures.apart c.end.ensures.runnable
 
 pub returns-clause-refused : goal.returns-clause-refused
 returns-clause-refused c =

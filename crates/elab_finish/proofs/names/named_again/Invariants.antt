@@ -1,0 +1,10 @@
+use Rattle.std.proofs.Common.{map, take}
+use Rattle.elab_finish.specs.Names.{HasMet, register_name}
+use Rattle.elab_finish.proofs.Naming.{NoneAgain}
+use Rattle.elab_finish.proofs.names.named_again.Given as goal
+
+abbrev pub invariant-loop-register : goal.invariant-loop-register
+invariant-loop-register l = record {
+  met : HasMet (map register_name (take l.register-index l.registers)) l.met;
+  none : NoneAgain l.registers l.register-index;
+}
