@@ -391,6 +391,8 @@ def by_hand():
         ("assigns that loop", gate_bench(clock, gate, "assign z = ~z;"), "t g 1 5", helper(6, 10)),
         ("a loop through the design", gate_bench(clock, "wire x; g u(x, b, y);", "assign x = y;"), "t g 1 5", helper(5, 11)),
         ("a second writer", gate_bench(clock, gate, "assign y = a;"), "t g 1 5", helper(6, 10)),
+        ("the clock is set by a nonblocking assignment in a block", gate_bench("always #1 clk = ~(clk);", gate, 'initial begin a = 1; begin clk <= 0; end @(posedge clk) $display("up"); @(negedge clk) $display("down"); $finish; end'), "t g 1 5", "up\ndown\nfinished\n"),
+        ("and by its generator", gate_bench("initial begin clk <= 0; forever #1 clk = !((clk)); end", gate, 'initial begin @(posedge clk) a = 1; @(negedge clk) $display("%b", clk); $finish; end'), "t g 1 5", "0\nfinished\n"),
         ("a wait in an `always`", gate_bench(clock, gate, "always @(posedge clk) @(negedge clk) a = 1;"), "t g 1 5", f"Unsupported({place(6, 25)}, ClockList)\n"),
     ]
 

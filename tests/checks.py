@@ -121,9 +121,12 @@ always @(posedge clk) >#1 a = 0;	Delay
 >always a = b;	ClockList
 >always begin @(posedge clk) a = b; end	ClockList
 >always #5 a = b;	ClockList
-# the clock is written by its generator, and once at the start
-initial begin a = 1; >clk = 0; end	Helper
-initial >clk <= 0;	Helper
+# the clock is written by its generator, and once at the start, before the first wait
+initial begin a = 1; @(posedge clk) a = 0; >clk = 0; end	Helper
+initial begin if (a) @(posedge clk); >clk <= 0; end	Helper
+initial begin begin @(negedge clk); end >clk = 0; end	Helper
+initial begin if (a) >clk = 0; end	Helper
+initial @(posedge clk) >clk = 0;	Helper
 initial {a, >clk} = 0;	Helper
 initial for (>clk = 0; a < 2; a = a + 1) b = 1;	Helper
 initial >clk[0] = 0;	Helper
@@ -141,6 +144,33 @@ reg clk 1 0
 constant Z 0
 clock clk
 initial clk = Z;	nothing
+initial >clk <= 0;	Helper
+end
+reg clk 1 0
+clock clk
+initial clk <= 0;	nothing
+initial begin >clk = 0; end	Helper
+end
+reg clk 1 0
+reg a 1 0
+clock clk
+initial begin a = 1; if (a) a = 0; begin : start clk <= 0; a = 1; end @(posedge clk); >clk = 0; end	Helper
+end
+reg clk 1 0
+reg a 1 0
+clock clk
+initial begin a = 1; begin begin clk = 0; end end @(posedge clk) a = 0; end	nothing
+initial begin >clk = 0; end	Helper
+end
+reg clk 1 0
+reg a 1 0
+clock clk
+initial begin a = 1; >clk <= 1; end	ClockStart
+end
+reg clk 1 0
+reg a 1 0
+clock clk
+initial begin begin clk <= 0; end >clk <= 0; end	Helper
 end
 reg clk 1 0
 reg a 1 0

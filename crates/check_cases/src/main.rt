@@ -6,9 +6,9 @@
 //! |---|---|
 //! | `reg NAME WIDTH LOW` | Declares the next signal, whose lowest bit has the declared number LOW. |
 //! | `constant NAME NUMBER` | Declares a constant of 32 bits. |
-//! | `clock NAME` | The clock has this name, and the next `initial` may set it at its start. |
+//! | `clock NAME` | The clock has this name, and the next `initial` may set it before its first wait. |
 //! | `always STATEMENT` | Prints the first fault of the process with its column, or that it has none. |
-//! | `initial STATEMENT` | The same. Where it begins with an assignment to the clock, a later one may not. |
+//! | `initial STATEMENT` | The same. Where it sets the clock before its first wait, a later one may not. |
 //! | `assign LEFT = VALUE;` | The same of an assign. |
 //! | `end` | Forgets what was said. |
 //!

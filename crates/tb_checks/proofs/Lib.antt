@@ -6,3 +6,4 @@ pub mod Layers
 pub mod Arms
 pub mod Tasked
 pub mod Starts
+pub mod Begun

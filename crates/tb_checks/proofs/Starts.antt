@@ -1,11 +1,8 @@
 -- The start of the clock.
-use Rattle.std.proofs.Common.{◌≡◌, ℕ, ◌≤◌, Bool, true, false, List, [], ◌∷◌, ◌++◌, sym, ap, ◌∙◌, subst, arith, length, get_or, drop, take, ◌-◌, if◌then◌else◌}
-use Rattle.std.proofs.lemmas.List.{take_all}
-use Rattle.std.specs.List.{flat_map}
+use Rattle.std.proofs.Common.{◌≡◌, ℕ, ◌≤◌, Bool, true, false, List, [], ◌∷◌, ◌++◌, sym, ap, ◌∙◌, subst, if◌then◌else◌}
 use Rattle.std.specs.Prelude.{Option, None, Some}
 use Rattle.mcy_base.specs.declared.span.Span.{Span}
 use Rattle.vlog_syntax.specs.declared.feature.Feature.TheVariants.{ClockList}
-use Rattle.vlog_syntax.specs.declared.identifier.Identifier.{Identifier}
 use Rattle.vlog_syntax.specs.declared.expr.Expr.{Expr}
 use Rattle.vlog_syntax.specs.declared.left_side.LeftSide.{LeftSide, out-LeftSide}
 use Rattle.vlog_syntax.specs.declared.left_side.LeftSide.TheOpen as l
@@ -36,7 +33,8 @@ use Rattle.tb_faults.specs.Order.{IsFirst}
 use Rattle.tb_faults.proofs.Firsts.{first_wrong}
 use Rattle.tb_checks.specs.Expressions.{wrong, sides_faults}
 use Rattle.tb_checks.specs.Lefts.{is_clock}
-use Rattle.tb_checks.specs.Processes.{signal_width, clock_width, unless, start_value, start_faults, first_layer, first_faults, begun_faults, always_faults}
+use Rattle.tb_checks.specs.Processes.{always_faults}
+use Rattle.tb_checks.specs.Starts.{signal_width, clock_width, unless, start_value, start_faults}
 use Rattle.tb_checks.specs.Statements.{Rules, control_faults, stmt_faults}
 
 unless_some : (fs : List Fault) (those : List BenchFault) (f : Fault) → Some f ≡ least fs → IsFirst (unless fs those) (Some (Wrong f))
@@ -84,15 +82,9 @@ module _ (r : Rules) (y : Assignment) (width : ℕ) (form value : Expr) (found :
       let faultless : (sense r.names left).faults ≡ [] = left_nil (sense r.names left).faults (sense r.names left).features (left_nil (wrong r.names left) (wrong r.names y.value) both) in
       layer_sized (out-LeftSide y.left) w (sym (ap (λ (x : Expr). (sense r.names x).faults) (fold_out-LeftSide Expr form_step y.left)) ∙ faultless)
 
--- the statement that begins with the start
-
-blocking_layer : (x : Stmt) (y : Assignment) → x ≡ sv.BlockingAssignment y → out-Stmt x ≡ s.BlockingAssignment y
-blocking_layer x y e = ap out-Stmt (e ∙ sym (sv.rolls-BlockingAssignment y)) ∙ out-roll-Stmt (s.BlockingAssignment y)
-
-pub first_start : (r : Rules) (x : Stmt) (y : Assignment) (width : ℕ) (w : Option ℕ) (o : Option BenchFault) → x ≡ sv.BlockingAssignment y → w ≡ clock_width r (out-LeftSide y.left) → w ≡ Some width → ((elsewhere : List BenchFault) → IsFirst (start_faults r y (Some width) elsewhere) o) → IsFirst (first_faults r x) o
-first_start r x y width w o e w_is some h =
-    let elsewhere : List BenchFault = stmt_faults r x in
-    subst (λ (z : Stmt-F Stmt CaseItem). IsFirst (first_layer r z elsewhere) o) (sym (blocking_layer x y e)) (subst (λ (k : Option ℕ). IsFirst (start_faults r y k elsewhere) o) (sym some ∙ w_is) (h elsewhere))
+-- what an assignment that may set the clock is refused for
+pub set_start : (r : Rules) (y : Assignment) (width : ℕ) (w : Option ℕ) (elsewhere : List BenchFault) (o : Option BenchFault) → w ≡ clock_width r (out-LeftSide y.left) → w ≡ Some width → ((others : List BenchFault) → IsFirst (start_faults r y (Some width) others) o) → IsFirst (start_faults r y (clock_width r (out-LeftSide y.left)) elsewhere) o
+set_start r y width w elsewhere o w_is some h = subst (λ (k : Option ℕ). IsFirst (start_faults r y k elsewhere) o) (sym some ∙ w_is) (h elsewhere)
 
 -- an `always` with a list, and one without
 
@@ -118,14 +110,3 @@ always_other r always x o none h = go (out-Stmt x) (roll-out-Stmt x)
     go (s.SystemTaskEnable n arguments) e = h
     go (s.BlockingAssignment y) e = h
     go (s.NonblockingAssignment y) e = h
-
--- a block with its first statement
-
-pub begun_first : (r : Rules) (x y : Stmt) (at : Span) (label : Option Identifier) (stmts ys : List Stmt) (o : Option BenchFault) → x ≡ sv.SeqBlock at label stmts → ys ≡ stmts → 1 ≤ length ys → y ≡ get_or ys 0 y → IsFirst (first_faults r y ++ flat_map (stmt_faults r) (take (length ys - 1) (drop 1 ys))) o → IsFirst (begun_faults r x (out-Stmt x)) o
-begun_first r x y at label stmts ys o e is long first h =
-    let layer : out-Stmt x ≡ s.SeqBlock at label stmts = ap out-Stmt (e ∙ sym (sv.rolls-SeqBlock at label stmts)) ∙ out-roll-Stmt (s.SeqBlock at label stmts) in
-    subst (λ (z : Stmt-F Stmt CaseItem). IsFirst (begun_faults r x z) o) (sym layer) (subst (λ (zs : List Stmt). IsFirst (begun_faults r x (s.SeqBlock at label zs)) o) is (go ys long first h))
-  where
-    go : (zs : List Stmt) → 1 ≤ length zs → y ≡ get_or zs 0 y → IsFirst (first_faults r y ++ flat_map (stmt_faults r) (take (length zs - 1) (drop 1 zs))) o → IsFirst (begun_faults r x (s.SeqBlock at label zs)) o
-    go [] some there i = absurd (omega arith)
-    go (z ∷ zs) some there i = subst (λ (w : Stmt). IsFirst (first_faults r w ++ flat_map (stmt_faults r) zs) o) there (subst (λ (ws : List Stmt). IsFirst (first_faults r y ++ flat_map (stmt_faults r) ws) o) (take_all (length (z ∷ zs) - 1) zs (omega arith)) i)

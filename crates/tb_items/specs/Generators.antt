@@ -1,10 +1,11 @@
 -- The clock generators of a testbench: `initial begin C = k; forever #n C = ~C; end`, where k is a constant, and `always #n C = ~C;`.
--- In both `!` may stand for `~`.
-use Rattle.std.specs.Prelude.{Bool, true, false, ◌&&◌, List, [], ◌∷◌, Option, None, Some, if◌then◌else◌}
+-- In both `!` may stand for `~`, and `(C)` for the C behind it; `C <= k` may stand for `C = k`.
+use Rattle.std.specs.Prelude.{ℕ, Bool, true, false, ◌&&◌, List, [], ◌∷◌, Option, None, Some, if◌then◌else◌}
 use Rattle.std.specs.Str.{bytes_eq}
 use Rattle.vlog_syntax.specs.declared.expr.Expr.{Expr, out-Expr}
 use Rattle.vlog_syntax.specs.declared.expr.Expr.TheOpen as e
 use Rattle.vlog_syntax.specs.declared.expr.Expr.TheOpen.{Expr-F}
+use Rattle.vlog_syntax.specs.declared.expr.Expr.TheFolds.{fold-Expr}
 use Rattle.vlog_syntax.specs.declared.identifier.Identifier.{Identifier}
 use Rattle.vlog_syntax.specs.declared.item.Process.{Process}
 use Rattle.vlog_syntax.specs.declared.item.ProcessKind.{ProcessKind}
@@ -34,12 +35,26 @@ inversion_of BitwiseNot = Some Bits
 inversion_of LogicalNot = Some Truth
 inversion_of other = None
 
-abbrev pub same_name : Expr → Identifier → Option Inversion → Expr-F Expr → Option Toggle
-same_name delay c (Some i) (e.Name d) = if bytes_eq c.name d.name then Some (record { clock = c; delay = delay; inversion = i }) else None
-same_name delay c i other = None
+-- the name that an expression is, in parentheses or not
+
+abbrev pub name_step : Expr-F (Option Identifier) → Option Identifier
+name_step (e.Name n) = Some n
+name_step (e.Parenthesized at inner) = inner
+name_step other = None
+
+abbrev pub name_in : Expr → Option Identifier
+name_in = fold-Expr (Option Identifier) name_step
+
+abbrev pub is_named : List ℕ → Option Identifier → Bool
+is_named name None = false
+is_named name (Some n) = bytes_eq name n.name
+
+abbrev pub same_name : Expr → Identifier → Option Inversion → Option Identifier → Option Toggle
+same_name delay c None operand = None
+same_name delay c (Some i) operand = if is_named c.name operand then Some (record { clock = c; delay = delay; inversion = i }) else None
 
 abbrev pub inverted : Expr → Identifier → Expr-F Expr → Option Toggle
-inverted delay c (e.Unary at operator operand) = same_name delay c (inversion_of operator) (out-Expr operand)
+inverted delay c (e.Unary at operator operand) = same_name delay c (inversion_of operator) (name_in operand)
 inverted delay c other = None
 
 abbrev pub toggled : Expr → LeftSide-F LeftSide → Expr → Option Toggle
@@ -79,6 +94,7 @@ forever other = None
 
 abbrev pub pair_generator : Names → Stmt-F Stmt CaseItem → Stmt-F Stmt CaseItem → Option Generator
 pair_generator names (s.BlockingAssignment a) second = begun names (out-LeftSide a.left) a.value (forever second)
+pair_generator names (s.NonblockingAssignment a) second = begun names (out-LeftSide a.left) a.value (forever second)
 pair_generator names other second = None
 
 abbrev pub list_generator : Names → List Stmt → Option Generator

@@ -1,11 +1,11 @@
 //! Clock generators, by their form: `initial begin C = k; forever #n C = ~C; end`, where k is a constant, and `always #n C = ~C;`.
-//! In both `!` may stand for `~`.
+//! In both `!` may stand for `~`, and `(C)` for the C behind it; `C <= k` may stand for `C = k`.
 ghost use Rattle.std.specs.Prelude.{◌≡◌, ◌&&◌};
 ghost use Rattle.vlog_syntax.specs.declared.expr.Expr.{out-Expr};
 ghost use Rattle.vlog_syntax.specs.declared.left_side.LeftSide.{out-LeftSide};
 ghost use Rattle.vlog_syntax.specs.declared.stmt.Stmt.{out-Stmt};
 ghost use Rattle.vlog_meaning.specs.Scopes.{names_of};
-ghost use Rattle.tb_items.specs.Generators.{inversion_of, same_name, inverted, toggled, delayed, toggle_in, always_generator, is_constant, begun, forever, pair_generator, list_generator, initial_generator, generator_of};
+ghost use Rattle.tb_items.specs.Generators.{inversion_of, name_in, is_named, same_name, inverted, toggled, delayed, toggle_in, always_generator, is_constant, begun, forever, pair_generator, list_generator, initial_generator, generator_of};
 
 use flat_scopes::Lent;
 use vlog_meaning::{Scope, constant_fault};
@@ -48,6 +48,18 @@ fn inversion_of(operator: UnaryOperator) -> Option<Inversion>
     }
 }
 
+/// Whether an expression is this name, in parentheses or not.
+#[cycle(named)]
+fn is_named(name: &str, expr: &Expr) -> bool
+    ensures { result ≡ is_named name.now (name_in expr.now) }
+{
+    match expr {
+        Expr::Name(other) => name == other.name.as_str(),
+        Expr::Parenthesized(_, inner) => is_named(name, inner.get()),
+        _ => false,
+    }
+}
+
 /// The toggle of a name, where the operand is the name.
 fn same_name<'a>(
     delay: &'a Expr,
@@ -55,24 +67,19 @@ fn same_name<'a>(
     inversion: Option<Inversion>,
     operand: &Expr,
 ) -> Option<Toggle<'a>>
-    ensures { result ≡ same_name delay.now name.now inversion (out-Expr operand.now) }
+    ensures { result ≡ same_name delay.now name.now inversion (name_in operand.now) }
 {
     let Some(inversion) = inversion else {
         return None;
     };
-    match operand {
-        Expr::Name(other) => {
-            if name.name.as_str() == other.name.as_str() {
-                Some(Toggle {
-                    clock: Lent::of(name),
-                    delay: Lent::of(delay),
-                    inversion,
-                })
-            } else {
-                None
-            }
-        }
-        _ => None,
+    if is_named(name.name.as_str(), operand) {
+        Some(Toggle {
+            clock: Lent::of(name),
+            delay: Lent::of(delay),
+            inversion,
+        })
+    } else {
+        None
     }
 }
 
@@ -188,6 +195,12 @@ fn pair_generator<'a>(scope: &Scope, first: &'a Stmt, second: &'a Stmt) -> Optio
 {
     match first {
         Stmt::BlockingAssignment(assignment) => begun(
+            scope,
+            &assignment.left,
+            assignment.value.get(),
+            forever(second),
+        ),
+        Stmt::NonblockingAssignment(assignment) => begun(
             scope,
             &assignment.left,
             assignment.value.get(),

@@ -1,7 +1,6 @@
 -- Processes in which nothing is wrong pass.
 use Rattle.std.proofs.Common.{◌≡◌, ℕ, Bool, true, false, List, [], ◌∷◌, map, refl, sym, ap, ◌∙◌, if◌then◌else◌}
 use Rattle.std.specs.Prelude.{Option, None, Some}
-use Rattle.std.specs.List.{flat_map}
 use Rattle.mcy_base.specs.declared.span.Span.{Span}
 use Rattle.vlog_syntax.specs.declared.item.Process.{Process}
 use Rattle.vlog_syntax.specs.declared.item.ProcessKind.{ProcessKind}
@@ -12,9 +11,10 @@ use Rattle.vlog_syntax.specs.declared.left_side.LeftSide.TheOpen.{LeftSide-F}
 use Rattle.vlog_syntax.specs.declared.left_side.LeftSide.TheFolds.{fold_out-LeftSide, map-LeftSide}
 use Rattle.vlog_syntax.specs.declared.stmt.Assignment.{Assignment}
 use Rattle.vlog_syntax.specs.declared.stmt.CaseItem.{CaseItem}
-use Rattle.vlog_syntax.specs.declared.stmt.Stmt.{Stmt, out-Stmt, roll-out-Stmt}
+use Rattle.vlog_syntax.specs.declared.stmt.Stmt.{Stmt, roll-Stmt, out-Stmt, out-roll-Stmt, roll-out-Stmt}
 use Rattle.vlog_syntax.specs.declared.stmt.Stmt.TheOpen as s
 use Rattle.vlog_syntax.specs.declared.stmt.Stmt.TheOpen.{Stmt-F}
+use Rattle.vlog_syntax.specs.declared.stmt.Stmt.TheFolds.{ind-Stmt, map-Stmt}
 use Rattle.vlog_meaning.specs.declared.fault.Fault.{Fault}
 use Rattle.vlog_meaning.specs.declared.scope.Decl.{Decl}
 use Rattle.vlog_meaning.specs.declared.scope.Decl.TheVariants.{Signal, Constant}
@@ -28,11 +28,13 @@ use Rattle.tb_faults.specs.declared.fault.BenchFault.{BenchFault}
 use Rattle.tb_faults.specs.declared.fault.BenchFault.TheVariants.{Wrong}
 use Rattle.tb_code.specs.Tests.{Tests, all_of, passes_step, passes}
 use Rattle.tb_code.proofs.Passing.{inside, passes-layer}
-use Rattle.tb_assigns.specs.Checks.{is_signal, all_signals}
+use Rattle.tb_assigns.specs.Checks.{is_signal, all_signals, can_assign}
 use Rattle.tb_checks.specs.Expressions.{sides_faults}
 use Rattle.tb_checks.specs.Lefts.{is_clock}
-use Rattle.tb_checks.specs.Processes.{signal_width, clock_width, unless, start_value, start_faults, first_layer, first_faults, begun_faults, initial_faults, always_faults, rules_of, kind_faults}
+use Rattle.tb_checks.specs.Processes.{initial_faults, always_faults, rules_of, kind_faults}
+use Rattle.tb_checks.specs.Starts.{signal_width, clock_width, unless, start_value, start_faults, first_layer, first_faults, turn_faults, may_behind, block_faults, starting_in, begun, starting}
 use Rattle.tb_checks.specs.Statements.{Rules, control_faults, stmt_faults}
+use Rattle.tb_checks.proofs.Begun.{begun_in, own, starting_is}
 use Rattle.tb_known.specs.Laws.{bench_tests, FaultlessPass, WaitsPass}
 use Rattle.tb_known.proofs.Nothing.{and_true}
 use Rattle.tb_known.proofs.Expressions.{sides_pass}
@@ -70,15 +72,16 @@ module _ (r : Rules) where
   clock_signals (l.IndexedPartSelect n at i j) w e = absurd cc
   clock_signals (l.Concatenation at parts) w e = absurd cc
 
-  start_passes : (x : Stmt) (y : Assignment) (width : Option ℕ) → out-Stmt x ≡ s.BlockingAssignment y → clock_width r (out-LeftSide y.left) ≡ width → start_faults r y width (stmt_faults r x) ≡ [] → passes tests x ≡ true
+  start_passes : (x : Stmt) (y : Assignment) (width : Option ℕ) → passes tests x ≡ can_assign r.names y → clock_width r (out-LeftSide y.left) ≡ width → start_faults r y width (stmt_faults r x) ≡ [] → passes tests x ≡ true
   start_passes x y None is w e = statement_passes r x e
   start_passes x y (Some width) is w e =
       let sides : sides_faults r.names (same_form y.left) y.value ≡ [] = none_unless (sides_faults r.names (same_form y.left) y.value) (start_value (left_first_token y.left) width (constant_of r.names width y.value)) e in
       let signals : all_signals r.names (parts_of y.left) ≡ true = ap (all_signals r.names) (fold_out-LeftSide (List Part) parts_step y.left) ∙ clock_signals (out-LeftSide y.left) width w in
-      layer_passes tests x (s.BlockingAssignment y) is ∙ sides_pass r.names y (ap (map Wrong) sides) signals
+      is ∙ sides_pass r.names y (ap (map Wrong) sides) signals
 
   first_by : (x : Stmt) (o : Stmt-F Stmt CaseItem) → out-Stmt x ≡ o → first_layer r o (stmt_faults r x) ≡ [] → passes tests x ≡ true
-  first_by x (s.BlockingAssignment y) is e = start_passes x y (clock_width r (out-LeftSide y.left)) is refl e
+  first_by x (s.BlockingAssignment y) is e = start_passes x y (clock_width r (out-LeftSide y.left)) (layer_passes tests x (s.BlockingAssignment y) is) refl e
+  first_by x (s.NonblockingAssignment y) is e = start_passes x y (clock_width r (out-LeftSide y.left)) (layer_passes tests x (s.NonblockingAssignment y) is) refl e
   first_by x (s.Null at) is e = statement_passes r x e
   first_by x (s.SeqBlock at label body) is e = statement_passes r x e
   first_by x (s.Conditional at c a b) is e = statement_passes r x e
@@ -90,35 +93,62 @@ module _ (r : Rules) where
   first_by x (s.EventControl at control body) is e = statement_passes r x e
   first_by x (s.DelayControl at c body) is e = statement_passes r x e
   first_by x (s.SystemTaskEnable n arguments) is e = statement_passes r x e
-  first_by x (s.NonblockingAssignment y) is e = statement_passes r x e
 
   first_passes : (x : Stmt) → first_faults r x ≡ [] → passes tests x ≡ true
   first_passes x e = first_by x (out-Stmt x) refl e
 
-  more_pass : (xs : List Stmt) → flat_map (stmt_faults r) xs ≡ [] → all_of (map (passes tests) xs) ≡ true
-  more_pass [] e = refl
-  more_pass (x ∷ xs) e = and_true (passes tests x) (all_of (map (passes tests) xs)) (statement_passes r x (left_nil (stmt_faults r x) (flat_map (stmt_faults r) xs) e)) (more_pass xs (right_nil (stmt_faults r x) (flat_map (stmt_faults r) xs) e))
+  -- statements that may set the clock, by induction on them
 
-  begun_passes : (body : Stmt) (o : Stmt-F Stmt CaseItem) → out-Stmt body ≡ o → begun_faults r body o ≡ [] → passes tests body ≡ true
-  begun_passes body (s.SeqBlock at label (x ∷ more)) is e =
-      layer_passes tests body (s.SeqBlock at label (x ∷ more)) is ∙
-      and_true (passes tests x) (all_of (map (passes tests) more)) (first_passes x (left_nil (first_faults r x) (flat_map (stmt_faults r) more) e)) (more_pass more (right_nil (first_faults r x) (flat_map (stmt_faults r) more) e))
-  begun_passes body (s.SeqBlock at label []) is e = first_passes body e
-  begun_passes body (s.Null at) is e = first_passes body e
-  begun_passes body (s.Conditional at c a b) is e = first_passes body e
-  begun_passes body (s.Case at kind c items) is e = first_passes body e
-  begun_passes body (s.For at start c step inner) is e = first_passes body e
-  begun_passes body (s.While at c inner) is e = first_passes body e
-  begun_passes body (s.Repeat at c inner) is e = first_passes body e
-  begun_passes body (s.Forever at inner) is e = first_passes body e
-  begun_passes body (s.EventControl at control inner) is e = first_passes body e
-  begun_passes body (s.DelayControl at c inner) is e = first_passes body e
-  begun_passes body (s.SystemTaskEnable n arguments) is e = first_passes body e
-  begun_passes body (s.BlockingAssignment y) is e = first_passes body e
-  begun_passes body (s.NonblockingAssignment y) is e = first_passes body e
+  abbrev Starts : Stmt → Type 0
+  Starts x = starting r x ≡ [] → passes tests x ≡ true
+
+  abbrev AnyItem : CaseItem → Type 0
+  AnyItem i = Unit {0}
+
+  abbrev Started : Type 0
+  Started = (x : Stmt) × Starts x
+
+  abbrev StartedItem : Type 0
+  StartedItem = (i : CaseItem) × AnyItem i
+
+  abbrev plain : Stmt-F Started StartedItem → Stmt-F Stmt CaseItem
+  plain y = map-Stmt Started StartedItem Stmt CaseItem (λ (w : Started). w.0) (λ (w : StartedItem). w.0) y
+
+  turn_passes : (may_start : Bool) (x : Stmt) → Starts x → turn_faults r may_start (begun r x) ≡ [] → passes tests x ≡ true
+  turn_passes true x h e = h e
+  turn_passes false x h e = statement_passes r x (sym (ap (stmt_faults r) (own r x)) ∙ e)
+
+  block_passes : (may_start : Bool) (ws : List Started) → block_faults r may_start (map (begun r) (map (λ (w : Started). w.0) ws)) ≡ [] → all_of (map (passes tests) (map (λ (w : Started). w.0) ws)) ≡ true
+  block_passes may_start [] e = refl
+  block_passes may_start (w ∷ more) e =
+      let here : List BenchFault = turn_faults r may_start (begun r w.0) in
+      let behind : Bool = may_behind may_start (begun r w.0) in
+      let rest : List BenchFault = block_faults r behind (map (begun r) (map (λ (v : Started). v.0) more)) in
+      and_true (passes tests w.0) (all_of (map (passes tests) (map (λ (v : Started). v.0) more))) (turn_passes may_start w.0 w.1 (left_nil here rest e)) (block_passes behind more (right_nil here rest e))
+
+  by_layer : (x : Stmt) (o : Stmt-F Stmt CaseItem) → out-Stmt x ≡ o → starting r x ≡ [] → starting_in r x (begun_in r o) ≡ []
+  by_layer x o is e = sym (starting_is r x ∙ ap (λ (z : Stmt-F Stmt CaseItem). starting_in r x (begun_in r z)) is) ∙ e
+
+  layer_starts : (x : Stmt) (y : Stmt-F Started StartedItem) → out-Stmt x ≡ plain y → Starts x
+  layer_starts x (s.SeqBlock at label body) is e = layer_passes tests x (plain (s.SeqBlock at label body)) is ∙ block_passes true body (by_layer x (plain (s.SeqBlock at label body)) is e)
+  layer_starts x (s.Null at) is e = first_passes x (by_layer x (s.Null at) is e)
+  layer_starts x (s.Conditional at c a b) is e = first_passes x (by_layer x (plain (s.Conditional at c a b)) is e)
+  layer_starts x (s.Case at kind c items) is e = first_passes x (by_layer x (plain (s.Case at kind c items)) is e)
+  layer_starts x (s.For at start c step body) is e = first_passes x (by_layer x (plain (s.For at start c step body)) is e)
+  layer_starts x (s.While at c body) is e = first_passes x (by_layer x (plain (s.While at c body)) is e)
+  layer_starts x (s.Repeat at c body) is e = first_passes x (by_layer x (plain (s.Repeat at c body)) is e)
+  layer_starts x (s.Forever at body) is e = first_passes x (by_layer x (plain (s.Forever at body)) is e)
+  layer_starts x (s.EventControl at control body) is e = first_passes x (by_layer x (plain (s.EventControl at control body)) is e)
+  layer_starts x (s.DelayControl at c body) is e = first_passes x (by_layer x (plain (s.DelayControl at c body)) is e)
+  layer_starts x (s.SystemTaskEnable n arguments) is e = first_passes x (by_layer x (s.SystemTaskEnable n arguments) is e)
+  layer_starts x (s.BlockingAssignment z) is e = first_passes x (by_layer x (s.BlockingAssignment z) is e)
+  layer_starts x (s.NonblockingAssignment z) is e = first_passes x (by_layer x (s.NonblockingAssignment z) is e)
+
+  starts : (x : Stmt) → Starts x
+  starts = ind-Stmt Starts AnyItem (λ x y is. layer_starts (roll-Stmt x) y (out-roll-Stmt x ∙ sym is)) (λ x y is. tt)
 
   initial_passes : (may_start : Bool) (body : Stmt) → initial_faults r may_start body ≡ [] → passes tests body ≡ true
-  initial_passes true body e = begun_passes body (out-Stmt body) refl e
+  initial_passes true body e = starts body e
   initial_passes false body e = statement_passes r body e
 
   always_passes : (at : Span) (body : Stmt) (o : Stmt-F Stmt CaseItem) → out-Stmt body ≡ o → always_faults r at body o ≡ [] → passes tests body ≡ true

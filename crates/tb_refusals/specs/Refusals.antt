@@ -79,7 +79,7 @@ abbrev pub is_design : BenchItem → Bool
 is_design (b.Holds at) = true
 is_design other = false
 
--- an `initial` that begins with an assignment to the clock
+-- an `initial` that sets the clock
 abbrev pub is_start : Context → BenchItem → Bool
 is_start c (b.Runs p) = starts_clock c.names c.clock p
 is_start c other = false
@@ -93,7 +93,7 @@ abbrev pub second : Bool → BenchFault → List BenchFault
 second true fault = fault ∷ []
 second false fault = []
 
--- one `initial` may begin with `C = 0`, where the generator does not
+-- one `initial` may set the clock, where the generator does not
 abbrev pub may_start : Context → List BenchItem → Bool
 may_start c before = c.is_free && not (some_item (is_start c) before)
 

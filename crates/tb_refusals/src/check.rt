@@ -45,14 +45,14 @@ fn net_fault(
     }
 }
 
-/// Whether an `initial` may begin with an assignment to the clock.
+/// Whether an `initial` may set the clock.
 fn may_start(is_free: bool, has_start: bool) -> bool
     ensures { result ≡ (is_free && not has_start) }
 {
     is_free && !has_start
 }
 
-/// What a process is refused for, behind one that begins with an assignment to the clock or not.
+/// What a process is refused for, behind one that sets the clock or not.
 fn run_fault(
     alloc: Global,
     context: Context<'_>,

@@ -9,7 +9,7 @@ use tb_checks::starts_clock;
 use tb_items::BenchItem;
 use tb_writers::Writers;
 
-/// Whether there was a generator, the design, and an `initial` that begins with an assignment to the clock; and what is written.
+/// Whether there was a generator, the design, and an `initial` that sets the clock; and what is written.
 #[derive(Drop)]
 pub(crate) struct Seen {
     pub(crate) has_generator: bool,
@@ -38,7 +38,7 @@ fn is_design(item: &BenchItem<'_>) -> bool
     }
 }
 
-/// Whether an item begins with an assignment to the clock.
+/// Whether an item sets the clock before its first wait.
 fn is_start(alloc: Global, context: Context<'_>, item: &BenchItem<'_>) -> bool
     ensures { result ≡ is_start (context_of context.entry) item.now }
 {

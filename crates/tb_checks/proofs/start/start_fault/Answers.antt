@@ -1,6 +1,6 @@
 use Rattle.tb_checks.specs.Views.{rules_in}
 use Rattle.tb_checks.proofs.Starts.{start_wrong, start_right, start_sized}
-use Rattle.tb_checks.proofs.processes.start_fault.Goals as goal
+use Rattle.tb_checks.proofs.start.start_fault.Goals as goal
 
 pub returns-in-Some : goal.returns-in-Some
 returns-in-Some c = start_wrong (rules_in c.args.rules.now) c.args.assignment.now c.args.width c.in_ok-left.left _ c.sides_fault.result c.in-Some.fault c.in_ok-left.ensures c.get.ensures c.sides_fault.ensures c.in-Some.is
