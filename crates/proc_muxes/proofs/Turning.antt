@@ -24,6 +24,7 @@ use Rattle.vlog_meaning.proofs.Powers.{power_le}
 use Rattle.vlog_effects.specs.Expressions.{told, constant_of, constant_faults}
 use Rattle.vlog_effects.specs.Steps.{Steps, Done, Refuse, Turns, Flaw, InNames, Loop, followed, refused, flaws_of, tested, stepped, step_flaws, turns, max_turns, all_turns, looped, loop_steps, name_alone, steps_of}
 use Rattle.vlog_effects.proofs.Variants.{steps-loop}
+use Rattle.vlog_effects.proofs.Following.{followed-done, followed-again}
 use Rattle.net_builder.specs.Building.{IsSignal, Building}
 use Rattle.net_builder.specs.Refusals.{IsShort}
 use Rattle.net_builder.specs.declared.error.ElabError.{ElabError}
@@ -41,7 +42,7 @@ use Rattle.proc_muxes.specs.Counts.{cells_of}
 use Rattle.proc_muxes.specs.Turns.{AsksTurn, IsBuiltTurn}
 use Rattle.proc_muxes.specs.Working.{joined, Built}
 use Rattle.proc_muxes.proofs.Counting.{builds-counted}
-use Rattle.proc_muxes.proofs.Joining.{followed-done, followed-again, built-push}
+use Rattle.proc_muxes.proofs.Joining.{built-push}
 use Rattle.proc_muxes.proofs.Keeping.{keeps}
 use Rattle.proc_muxes.proofs.Walking.{clear-next, cells-followed, ready-first, ready-next, ready-later}
 
