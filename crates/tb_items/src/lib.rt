@@ -6,7 +6,7 @@
 //! through a hidden signal of the port (`assignment`), and `left` the left side that an expression has the form of. What is wrong
 //! with a declaration or a connection is an item too, at its place.
 //!
-//! In its proofs `Forms` has the left side of each production.
+//! In its proofs `Forms` has the left side of each production, and `Instances` the connections of an instance.
 #![tactic(auto)]
 
 mod assignment;
