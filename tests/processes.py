@@ -193,7 +193,7 @@ always @* begin if (b) y = 0; case (a) 1: y = 0; r: y = q; endcase end
 always @* begin casez (b) 1'b?: y = q; default: y = s; r: y = 0; endcase end
 > Unknown 37
 always @* begin casez (b) 1'b?: y = 0; 1: y <= 0; r: y = 0; endcase end
-> NonblockingInComb 45
+> MixedAssign 43
 always @* begin casez (b) 1'b?: y = 0; 1'b1: y = q; endcase end
 > accepted
 always @(q) begin if (b) y = 0; end

@@ -830,7 +830,7 @@ module top(input a, input b, output reg y);
     endcase
 endmodule
 elaborate top
-> Unsupported NonblockingInComb 5:15
+> Unsupported MixedAssign 5:13
 module top(input a, input b, output reg y);
   always @*
     casez (a)
