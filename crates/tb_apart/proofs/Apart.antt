@@ -15,15 +15,17 @@ use Rattle.tb_nets.specs.Nets.{Wiring, wiring, signal_bits, node_writes, writes_
 use Rattle.vlog_syntax.specs.declared.feature.Feature.TheVariants.{Helper}
 use Rattle.tb_faults.specs.declared.fault.BenchFault.{BenchFault}
 use Rattle.tb_faults.specs.declared.fault.BenchFault.TheVariants.{Unsupported}
+use Rattle.tb_checks.specs.Nets.{assign_faults}
 use Rattle.tb_items.specs.declared.item.BenchItem.{BenchItem}
 use Rattle.tb_items.specs.declared.item.BenchItem.TheVariants as b
 use Rattle.tb_items.specs.Assignments.{assignment_of}
 use Rattle.tb_writers.specs.Writers.{Written, nothing, with_outputs, whole_signal, with_item, with_items, writer_faults}
-use Rattle.tb_refusals.specs.Refusals.{Context, written, second, is_design, some_item, own_item_faults, item_faults, AreFaultless}
+use Rattle.tb_refusals.specs.Refusals.{Context, written, second, is_design, some_item, net_faults, own_item_faults, item_faults, AreFaultless}
 use Rattle.tb_refusals.proofs.Firsts.{take_more}
 use Rattle.tb_apart.specs.Laws.{NetsAreApart}
 use Rattle.tb_contents.specs.Nets.{item_nodes, nodes_of}
 use Rattle.tb_apart.proofs.Places.{either_true, first_or, second_or}
+use Rattle.tb_apart.proofs.Told.{AreTold, told_parts}
 use Rattle.tb_apart.proofs.Meeting.{item_keeps, net_clash, net_writes}
 use Rattle.tb_apart.proofs.Listed.{one_of, some_writes, apart_more}
 
@@ -90,6 +92,18 @@ plain c inputs before x none s =
 
 -- An assignment.
 
+own_net : (c : Context) (before : List BenchItem) (x : BenchItem) (a : Assignment) → assignment_of x ≡ Some a → own_item_faults c before x ≡ [] → assign_faults c.names a.left a.value ≡ []
+own_net c before (b.Refused fault) a is none = absurd cc
+own_net c before (b.Starts k x) a is none = absurd cc
+own_net c before (b.Drives name x) a is none = sym (ap (net_faults c) is) ∙ none
+own_net c before (b.Assigns x) a is none = sym (ap (net_faults c) is) ∙ none
+own_net c before (b.Clocks at g) a is none = absurd cc
+own_net c before (b.Runs p) a is none = absurd cc
+own_net c before (b.Holds at) a is none = absurd cc
+own_net c before (b.Reads x) a is none = absurd cc
+own_net c before (b.Enters port x) a is none = sym (ap (net_faults c) is) ∙ none
+own_net c before (b.Leaves port left) a is none = sym (ap (net_faults c) is) ∙ none
+
 node_nodes : (before : List BenchItem) (x : BenchItem) (node : NetNode) → item_nodes x ≡ node ∷ [] → nodes_of (before ++ x ∷ []) ≡ nodes_of before ++ node ∷ []
 node_nodes before x node is = nodes_more before x ∙ ap (λ (l : List NetNode). nodes_of before ++ l) is
 
@@ -100,11 +114,14 @@ module _ (c : Context) (inputs : List ℕ) (before : List BenchItem) (x : BenchI
   faults : writer_faults c.names (written c before) x ≡ []
   faults = right_nil (own_item_faults c before x) (writer_faults c.names (written c before) x) none
 
+  told : AreTold c.names (parts_of a.left)
+  told = told_parts c.names a.left a.value (own_net c before x a is (left_nil (own_item_faults c before x) (writer_faults c.names (written c before) x) none))
+
   clash : (n i : ℕ) → left_writes c.names (parts_of a.left) n i ≡ true → (written c before).nets n i ≡ true → ⊥
-  clash n i e f = net_clash c.names (written c before) x a n i sized is faults e f
+  clash n i e f = net_clash c.names (written c before) x a n i sized told is faults e f
 
   new_writes : (n i : ℕ) → left_writes c.names (parts_of a.left) n i ≡ true → (written c (before ++ x ∷ [])).nets n i ≡ true
-  new_writes n i e = subst (λ (v : Written). v.nets n i ≡ true) (sym (written_more c.names (with_outputs nothing c.outputs) before x)) (net_writes c.names (written c before) x a n i is e)
+  new_writes n i e = subst (λ (v : Written). v.nets n i ≡ true) (sym (written_more c.names (with_outputs nothing c.outputs) before x)) (net_writes c.names (written c before) x a n i told is e)
 
   same : nodes_of (before ++ x ∷ []) ≡ nodes_of before ++ Assign a ∷ []
   same = node_nodes before x (Assign a) node

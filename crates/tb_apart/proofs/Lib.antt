@@ -1,4 +1,5 @@
 pub mod Places
+pub mod Told
 pub mod Meeting
 pub mod Listed
 pub mod Apart

@@ -18,6 +18,7 @@ use Rattle.tb_writers.specs.Lefts.{lefts_in}
 use Rattle.tb_writers.specs.Writes.{part_writes, meet_at}
 use Rattle.tb_writers.specs.Writers.{Written, taken, with_part, with_parts, with_lefts, with_item, fault_where, part_faults, parts_faults, lefts_faults, writer_of, writer_faults}
 use Rattle.tb_apart.proofs.Places.{first_or, second_or, part_reaches, writes_within, meets}
+use Rattle.tb_apart.proofs.Told.{AreTold}
 
 -- Lists that are empty together.
 
@@ -43,7 +44,7 @@ first_or_more names p ps n i e = cross (part_covers names p (part_vector names p
 -- What is written stays written.
 
 part_keeps : (names : Names) (kind : Writer) (w : Written) (p : Part) (n i : ℕ) → w.nets n i ≡ true → (with_part names kind w p).nets n i ≡ true
-part_keeps names Net w p n i e = first_or (w.nets n i) (part_writes names p n i) e
+part_keeps names Net w p n i e = first_or (w.nets n i) (part_writes names Net p n i) e
 part_keeps names Process w p n i e = e
 
 parts_keep : (names : Names) (kind : Writer) (w : Written) (ps : List Part) (n i : ℕ) → w.nets n i ≡ true → (with_parts names kind w ps).nets n i ≡ true
@@ -59,30 +60,30 @@ item_keeps names w x n i e = lefts_keep names (writer_of x) w (lefts_in x) n i e
 
 -- The parts of a net's left side.
 
-clash : (names : Names) (w : Written) (p : Part) (n i : ℕ) → AreSized names → part_faults names Net w p ≡ [] → part_writes names p n i ≡ true → (taken Net w) n i ≡ true → ⊥
+clash : (names : Names) (w : Written) (p : Part) (n i : ℕ) → AreSized names → part_faults names Net w p ≡ [] → part_writes names Net p n i ≡ true → (taken Net w) n i ≡ true → ⊥
 clash names w p n i sized none e f =
     let there = writes_within names p n i sized e in
-    let met : meet_at (part_writes names p) (taken Net w) (part_vector names p) ≡ true = meets (part_writes names p) (taken Net w) (part_vector names p) there.0 n i there.1.0 there.1.1 there.1.2 e f in
-    refused (meet_at (part_writes names p) (taken Net w) (part_vector names p)) met none
+    let met : meet_at (part_writes names Net p) (taken Net w) (part_vector names p) ≡ true = meets (part_writes names Net p) (taken Net w) (part_vector names p) there.0 n i there.1.0 there.1.1 there.1.2 e f in
+    refused (meet_at (part_writes names Net p) (taken Net w) (part_vector names p)) met none
   where
     refused : (t : Bool) → t ≡ true → option_to_list (fault_where t p.name.span) ≡ [] → ⊥
     refused true h k = absurd cc
     refused false h k = absurd cc
 
-parts_clash : (names : Names) (w : Written) (ps : List Part) (n i : ℕ) → AreSized names → parts_faults names Net w ps ≡ [] → left_writes names ps n i ≡ true → w.nets n i ≡ true → ⊥
-parts_clash names w [] n i sized none e f = absurd cc
-parts_clash names w (p ∷ ps) n i sized none e f = go (first_or_more names p ps n i e) (parts_clash names (with_part names Net w p) ps n i sized (right_nil (part_faults names Net w p) (parts_faults names Net (with_part names Net w p) ps) none))
+parts_clash : (names : Names) (w : Written) (ps : List Part) (n i : ℕ) → AreSized names → AreTold names ps → parts_faults names Net w ps ≡ [] → left_writes names ps n i ≡ true → w.nets n i ≡ true → ⊥
+parts_clash names w [] n i sized told none e f = absurd cc
+parts_clash names w (p ∷ ps) n i sized told none e f = go (first_or_more names p ps n i e) (parts_clash names (with_part names Net w p) ps n i sized told.1 (right_nil (part_faults names Net w p) (parts_faults names Net (with_part names Net w p) ps) none))
   where
     go : (((part_covers names p (part_vector names p) n i || part_opens names p n i) ≡ true) ⊎ (left_writes names ps n i ≡ true)) → (left_writes names ps n i ≡ true → (with_part names Net w p).nets n i ≡ true → ⊥) → ⊥
-    go (inl here) later = clash names w p n i sized (left_nil (part_faults names Net w p) (parts_faults names Net (with_part names Net w p) ps) none) (part_reaches names p n i here) (first_or (w.nets n i) (w.variables n i) f)
+    go (inl here) later = clash names w p n i sized (left_nil (part_faults names Net w p) (parts_faults names Net (with_part names Net w p) ps) none) (part_reaches names p n i told.0 here) (first_or (w.nets n i) (w.variables n i) f)
     go (inr more) later = later more (part_keeps names Net w p n i f)
 
-parts_write : (names : Names) (w : Written) (ps : List Part) (n i : ℕ) → left_writes names ps n i ≡ true → (with_parts names Net w ps).nets n i ≡ true
-parts_write names w [] n i e = absurd cc
-parts_write names w (p ∷ ps) n i e = go (first_or_more names p ps n i e) (parts_write names (with_part names Net w p) ps n i)
+parts_write : (names : Names) (w : Written) (ps : List Part) (n i : ℕ) → AreTold names ps → left_writes names ps n i ≡ true → (with_parts names Net w ps).nets n i ≡ true
+parts_write names w [] n i told e = absurd cc
+parts_write names w (p ∷ ps) n i told e = go (first_or_more names p ps n i e) (parts_write names (with_part names Net w p) ps n i told.1)
   where
     go : (((part_covers names p (part_vector names p) n i || part_opens names p n i) ≡ true) ⊎ (left_writes names ps n i ≡ true)) → (left_writes names ps n i ≡ true → (with_parts names Net (with_part names Net w p) ps).nets n i ≡ true) → (with_parts names Net (with_part names Net w p) ps).nets n i ≡ true
-    go (inl here) later = parts_keep names Net (with_part names Net w p) ps n i (second_or (w.nets n i) (part_writes names p n i) (part_reaches names p n i here))
+    go (inl here) later = parts_keep names Net (with_part names Net w p) ps n i (second_or (w.nets n i) (part_writes names Net p n i) (part_reaches names p n i told.0 here))
     go (inr more) later = later more
 
 -- Items that are assignments of nets.
@@ -109,14 +110,14 @@ net_is (b.Reads x) a e = absurd cc
 net_is (b.Enters port x) a e = record { kind = refl; lefts = alone _ a e }
 net_is (b.Leaves port left) a e = record { kind = refl; lefts = alone _ a e }
 
-pub net_clash : (names : Names) (w : Written) (x : BenchItem) (a : Assignment) (n i : ℕ) → AreSized names → assignment_of x ≡ Some a → writer_faults names w x ≡ [] → left_writes names (parts_of a.left) n i ≡ true → w.nets n i ≡ true → ⊥
-net_clash names w x a n i sized is none e f =
+pub net_clash : (names : Names) (w : Written) (x : BenchItem) (a : Assignment) (n i : ℕ) → AreSized names → AreTold names (parts_of a.left) → assignment_of x ≡ Some a → writer_faults names w x ≡ [] → left_writes names (parts_of a.left) n i ≡ true → w.nets n i ≡ true → ⊥
+net_clash names w x a n i sized told is none e f =
     let net : IsNet x a = net_is x a is in
     let faults : lefts_faults names Net w (a.left ∷ []) ≡ [] = sym (ap (λ (k : Writer). lefts_faults names k w (lefts_in x)) net.kind ∙ ap (lefts_faults names Net w) net.lefts) ∙ none in
-    parts_clash names w (parts_of a.left) n i sized (left_nil (parts_faults names Net w (parts_of a.left)) [] faults) e f
+    parts_clash names w (parts_of a.left) n i sized told (left_nil (parts_faults names Net w (parts_of a.left)) [] faults) e f
 
-pub net_writes : (names : Names) (w : Written) (x : BenchItem) (a : Assignment) (n i : ℕ) → assignment_of x ≡ Some a → left_writes names (parts_of a.left) n i ≡ true → (with_item names w x).nets n i ≡ true
-net_writes names w x a n i is e =
+pub net_writes : (names : Names) (w : Written) (x : BenchItem) (a : Assignment) (n i : ℕ) → AreTold names (parts_of a.left) → assignment_of x ≡ Some a → left_writes names (parts_of a.left) n i ≡ true → (with_item names w x).nets n i ≡ true
+net_writes names w x a n i told is e =
     let net : IsNet x a = net_is x a is in
     let same : with_item names w x ≡ with_parts names Net w (parts_of a.left) = ap (λ (k : Writer). with_lefts names k w (lefts_in x)) net.kind ∙ ap (with_lefts names Net w) net.lefts in
-    subst (λ (v : Written). v.nets n i ≡ true) (sym same) (parts_write names w (parts_of a.left) n i e)
+    subst (λ (v : Written). v.nets n i ≡ true) (sym same) (parts_write names w (parts_of a.left) n i told e)

@@ -1,20 +1,19 @@
 -- What a part of a left side writes.
-use Rattle.std.proofs.Common.{◌≡◌, ℕ, Bool, true, false, ◌&&◌, ◌||◌, nat_eq, List, [], ◌∷◌, map, refl, sym, ap, ◌∙◌, subst, arith}
+use Rattle.std.proofs.Common.{◌≡◌, ℕ, Bool, true, false, ◌&&◌, ◌||◌, nat_eq, List, [], ◌∷◌, refl, sym, ap, ◌∙◌, subst, arith}
 use Rattle.std.proofs.Math.Path.{fun_ext}
 use Rattle.std.proofs.lemmas.Bool.Decides.{nat_tests}
-use Rattle.std.specs.Prelude.{Option, Some, None, option_to_list, if◌then◌else◌}
+use Rattle.std.specs.Prelude.{Option, Some, None, option_to_list}
 use Rattle.mcy_base.specs.declared.span.Span.{Span}
 use Rattle.vlog_syntax.specs.declared.expr.Expr.{Expr}
 use Rattle.vlog_syntax.specs.declared.identifier.Identifier.{Identifier}
 use Rattle.vlog_syntax.specs.declared.left_side.LeftSide.{LeftSide}
 use Rattle.vlog_syntax.specs.declared.left_side.LeftSide.TheVariants as lv
-use Rattle.vlog_meaning.specs.declared.fault.Cause.TheVariants.{NotConstant}
 use Rattle.vlog_meaning.specs.declared.fault.Fault.{Fault}
-use Rattle.vlog_meaning.specs.Answers.{least, least_at}
+use Rattle.vlog_meaning.specs.Answers.{least}
 use Rattle.vlog_meaning.specs.declared.scope.Decl.{Decl}
 use Rattle.vlog_meaning.specs.declared.scope.Decl.TheVariants.{Signal}
 use Rattle.vlog_meaning.specs.Scopes.{Names}
-use Rattle.vlog_meaning.specs.Senses.{Bits, no_bits, either, sense, fault, is_empty}
+use Rattle.vlog_meaning.specs.Senses.{Bits, no_bits, either, sense, is_empty}
 use Rattle.vlog_meaning.proofs.Firsts.{least_none}
 use Rattle.vlog_meaning.proofs.Refusals.{least_empty}
 use Rattle.vlog_effects.specs.Latches.{is_fixed, stands_in, part_covers, parts_cover}
@@ -28,7 +27,7 @@ use Rattle.process_latches.proofs.Fitting.{fit_part}
 use Rattle.tb_faults.specs.declared.fault.BenchFault.{BenchFault}
 use Rattle.tb_faults.specs.Order.{IsFirst}
 use Rattle.tb_faults.proofs.Firsts.{first_alone}
-use Rattle.tb_writers.specs.Writes.{is_told, whole_name, written_part, part_writes, some_below, meet_at}
+use Rattle.tb_writers.specs.Writes.{is_placed, is_told, whole_name, untold_bits, bits_written, part_writes, some_below, meet_at}
 use Rattle.tb_writers.specs.declared.writers.Writer.{Writer}
 use Rattle.tb_writers.specs.declared.writers.Writer.TheVariants.{Net, Process}
 use Rattle.tb_writers.specs.Writers.{Written, taken, with_bits, with_part, fault_where, part_faults}
@@ -61,41 +60,28 @@ pub with_fault : (fs : List Fault) (o : Option Fault) (f : Fault) → o ≡ leas
 with_fault [] o f is some = let none : None ≡ Some f = least_empty ∙ sym is ∙ some in absurd cc
 with_fault (x ∷ more) o f is some = refl
 
-same_emptiness : (xs : List Span) → is_empty (map (fault NotConstant) xs) ≡ is_empty xs
-same_emptiness [] = refl
-same_emptiness (x ∷ xs) = refl
-
-pub reads_none : (xs : List Span) (o : Option Fault) → o ≡ least_at NotConstant xs → o ≡ None → true ≡ is_empty xs
-reads_none xs o is none = without_fault (map (fault NotConstant) xs) o is none ∙ same_emptiness xs
-
-pub reads_some : (xs : List Span) (o : Option Fault) (f : Fault) → o ≡ least_at NotConstant xs → o ≡ Some f → false ≡ is_empty xs
-reads_some xs o f is some = with_fault (map (fault NotConstant) xs) o f is some ∙ same_emptiness xs
-
 -- a part that can be told has a shape
 pub told_fits : (names : Names) (left : LeftSide) (n : Identifier) (p : Part) (b : Bool) → AreSized names → IsPart left n p → (b && is_empty (sense names (same_form left)).faults) ≡ true → AreFit names (parts_of left)
 told_fits names left n p b sized is e = fit_part names left n p sized is (no_faults (sense names (same_form left)).faults (second_true b _ e))
 
-abbrev chosen : Names → Part → Bool → Bits
-chosen names p b = part_covers names (if b then p else whole_name p) (part_vector names p)
-
-tells : (names : Names) (left : LeftSide) (n : Identifier) (p : Part) (b : Bool) → IsPart left n p → b ≡ is_fixed names p.select → (b && is_empty (sense names (same_form left)).faults) ≡ is_told names p
-tells names left n p b is e = ap (λ (c : Bool). c && is_empty (sense names (same_form left)).faults) e ∙ ap (λ (x : Expr). is_fixed names p.select && is_empty (sense names x).faults) is.form
+tells : (names : Names) (left : LeftSide) (n : Identifier) (p : Part) (b : Bool) → IsPart left n p → b ≡ is_placed names p.select → (b && is_empty (sense names (same_form left)).faults) ≡ is_told names p
+tells names left n p b is e = ap (λ (c : Bool). c && is_empty (sense names (same_form left)).faults) e ∙ ap (λ (x : Expr). is_placed names p.select && is_empty (sense names x).faults) is.form
 
 -- it writes what it covers
-pub writes_itself : (names : Names) (left : LeftSide) (n : Identifier) (p : Part) (b : Bool) (bits : Bits) → IsPart left n p → b ≡ is_fixed names p.select → (b && is_empty (sense names (same_form left)).faults) ≡ true → bits ≡ parts_cover names (parts_of left) → bits ≡ part_writes names p
-writes_itself names left n p b bits is e told covers =
-    covers ∙ ap (parts_cover names) is.parts ∙ one_covers names p ∙ ap (chosen names p) (sym told ∙ tells names left n p b is e)
+pub writes_itself : (names : Names) (kind : Writer) (left : LeftSide) (n : Identifier) (p : Part) (b : Bool) (bits : Bits) → IsPart left n p → b ≡ is_placed names p.select → (b && is_empty (sense names (same_form left)).faults) ≡ true → bits ≡ parts_cover names (parts_of left) → bits ≡ part_writes names kind p
+writes_itself names kind left n p b bits is e told covers =
+    covers ∙ ap (parts_cover names) is.parts ∙ one_covers names p ∙ ap (λ (t : Bool). bits_written names kind p t (part_vector names p)) (sym told ∙ tells names left n p b is e)
 
--- another one its whole name
-pub writes_name : (names : Names) (left : LeftSide) (n : Identifier) (p : Part) (b : Bool) (bits : Bits) → IsPart left n p → b ≡ is_fixed names p.select → (b && is_empty (sense names (same_form left)).faults) ≡ false → bits ≡ parts_cover names (parts_of (lv.Name n)) → bits ≡ part_writes names p
-writes_name names left n p b bits is e told covers =
+-- another one of a process its whole name
+pub name_written : (names : Names) (n : Identifier) (p : Part) (bits : Bits) → p.name ≡ n → bits ≡ parts_cover names (parts_of (lv.Name n)) → bits ≡ untold_bits names Process p (part_vector names p)
+name_written names n p bits is covers =
     let whole : Identifier → Part = λ k. record { name = k; select = Whole } in
-    covers ∙ ap (parts_cover names) (parts-name n) ∙ ap (λ (k : Identifier). parts_cover names (whole k ∷ [])) (sym is.name_is) ∙ one_covers names (whole_name p) ∙ ap (chosen names p) (sym told ∙ tells names left n p b is e)
+    covers ∙ ap (parts_cover names) (parts-name n) ∙ ap (λ (k : Identifier). parts_cover names (whole k ∷ [])) (sym is) ∙ one_covers names (whole_name p)
+
+pub writes_other : (names : Names) (kind : Writer) (left : LeftSide) (n : Identifier) (p : Part) (b : Bool) (bits : Bits) → IsPart left n p → b ≡ is_placed names p.select → (b && is_empty (sense names (same_form left)).faults) ≡ false → ((q : Part) → q.name ≡ n → bits ≡ untold_bits names kind q (part_vector names q)) → bits ≡ part_writes names kind p
+writes_other names kind left n p b bits is e told other = other p is.name_is ∙ ap (λ (t : Bool). bits_written names kind p t (part_vector names p)) (sym told ∙ tells names left n p b is e)
 
 -- Bits of one signal.
-
-off_and : (a b c : Bool) → a ≡ b → (a && c) ≡ (b && c)
-off_and a b c e = ap (λ (x : Bool). x && c) e
 
 same_number : (k : ℕ) → nat_eq k k ≡ true
 same_number k = grind (arith, nat_tests)
@@ -106,15 +92,29 @@ own_bits names q v bits n i e =
     let here : has_bit bits i ≡ x = e ∙ ap (λ (b : Bool). b && x) (same_number v.number) in
     ap (λ (b : Bool). nat_eq n v.number && b) here
 
--- the mask that a part has among masks
-pub mask_writes : (names : Names) (p : Part) (v : Vector) (bits : ℕ) (masks : Bits) → part_vector names p ≡ Some v → ((i : ℕ) → has_bit bits i ≡ masks v.number i) → masks ≡ part_writes names p → mask_bits v.number bits ≡ part_writes names p
-mask_writes names p v bits masks is has same =
-    let of_vector : Option Vector → Bits = part_covers names (written_part names p) in
-    let each : (i : ℕ) → has_bit bits i ≡ of_vector (Some v) v.number i = λ i. has i ∙ ap (λ (b : Bits). b v.number i) same ∙ ap (λ (o : Option Vector). of_vector o v.number i) is in
-    fun_ext (λ n. fun_ext (λ i. own_bits names (written_part names p) v bits n i (each i))) ∙ sym (ap of_vector is)
+none_and : (a b : Bool) → b ≡ false → (a && b) ≡ false
+none_and true b e = e
+none_and false b e = refl
 
-pub writes_none : (names : Names) (p : Part) → part_vector names p ≡ None → part_writes names p ≡ no_bits
-writes_none names p is = ap (part_covers names (written_part names p)) is
+told_bits : (names : Names) (kind : Writer) (p : Part) (v : Vector) (told : Bool) (bits n i : ℕ) → has_bit bits i ≡ bits_written names kind p told (Some v) v.number i → mask_bits v.number bits n i ≡ bits_written names kind p told (Some v) n i
+told_bits names kind p v true bits n i e = own_bits names p v bits n i e
+told_bits names Process p v false bits n i e = own_bits names (whole_name p) v bits n i e
+told_bits names Net p v false bits n i e = none_and (nat_eq n v.number) (has_bit bits i) e
+
+-- the mask that a part has among masks
+pub mask_writes : (names : Names) (kind : Writer) (p : Part) (v : Vector) (bits : ℕ) (masks : Bits) → part_vector names p ≡ Some v → ((i : ℕ) → has_bit bits i ≡ masks v.number i) → masks ≡ part_writes names kind p → mask_bits v.number bits ≡ part_writes names kind p
+mask_writes names kind p v bits masks is has same =
+    let of_vector : Option Vector → Bits = bits_written names kind p (is_told names p) in
+    let each : (i : ℕ) → has_bit bits i ≡ of_vector (Some v) v.number i = λ i. has i ∙ ap (λ (b : Bits). b v.number i) same ∙ ap (λ (o : Option Vector). of_vector o v.number i) is in
+    fun_ext (λ n. fun_ext (λ i. told_bits names kind p v (is_told names p) bits n i (each i))) ∙ sym (ap of_vector is)
+
+no_vector : (names : Names) (kind : Writer) (p : Part) (told : Bool) → bits_written names kind p told None ≡ no_bits
+no_vector names kind p true = refl
+no_vector names Process p false = refl
+no_vector names Net p false = refl
+
+pub writes_none : (names : Names) (kind : Writer) (p : Part) → part_vector names p ≡ None → part_writes names kind p ≡ no_bits
+writes_none names kind p is = ap (bits_written names kind p (is_told names p)) is ∙ no_vector names kind p (is_told names p)
 
 pub with_none : (kind : Writer) (w : Written) → with_bits kind w no_bits ≡ w
 with_none Net w = ap (λ (b : Bits). record w { nets = b }) (add_none w.nets)
@@ -133,20 +133,20 @@ part_is names left n p s o width low number is_signed is same decl some =
     ap vector_of (ap (λ (k : Identifier). names k.name) is.name_is ∙ ap names (sym same) ∙ sym decl ∙ some)
 
 pub part_written : (names : Names) (kind : Writer) (w new : Written) (left : LeftSide) (n : Identifier) (p : Part) (s : List ℕ) (o : Option Decl) (width low number : ℕ) (is_signed : Bool) (bits : ℕ) (masks : Bits)
-    → IsPart left n p → s ≡ n.name → o ≡ names s → o ≡ Some (Signal width low is_signed number) → ((i : ℕ) → has_bit bits i ≡ masks number i) → masks ≡ part_writes names p
+    → IsPart left n p → s ≡ n.name → o ≡ names s → o ≡ Some (Signal width low is_signed number) → ((i : ℕ) → has_bit bits i ≡ masks number i) → masks ≡ part_writes names kind p
     → new ≡ with_bits kind w (mask_bits number bits) → new ≡ with_part names kind w p
 part_written names kind w new left n p s o width low number is_signed bits masks is same decl some has writes e =
     let v : Vector = record { number = number; width = width; low = low } in
     let vec : part_vector names p ≡ Some v = part_is names left n p s o width low number is_signed is same decl some in
-    e ∙ ap (with_bits kind w) (mask_writes names p v bits masks vec has writes)
+    e ∙ ap (with_bits kind w) (mask_writes names kind p v bits masks vec has writes)
 
 pub part_refused : (names : Names) (kind : Writer) (w : Written) (left : LeftSide) (n : Identifier) (p : Part) (s : List ℕ) (o : Option Decl) (width low number : ℕ) (is_signed : Bool) (bits : ℕ) (masks : Bits) (f : Option BenchFault)
-    → IsPart left n p → s ≡ n.name → o ≡ names s → o ≡ Some (Signal width low is_signed number) → ((i : ℕ) → has_bit bits i ≡ masks number i) → masks ≡ part_writes names p
+    → IsPart left n p → s ≡ n.name → o ≡ names s → o ≡ Some (Signal width low is_signed number) → ((i : ℕ) → has_bit bits i ≡ masks number i) → masks ≡ part_writes names kind p
     → f ≡ fault_where (some_below 128 (λ i. has_bit bits i && taken kind w number i)) n.span → IsFirst (part_faults names kind w p) f
 part_refused names kind w left n p s o width low number is_signed bits masks f is same decl some has writes e =
     let v : Vector = record { number = number; width = width; low = low } in
     let vec : part_vector names p ≡ Some v = part_is names left n p s o width low number is_signed is same decl some in
-    let each : (i : ℕ) → (has_bit bits i && taken kind w number i) ≡ (part_writes names p number i && taken kind w number i) = λ i. ap (λ (b : Bool). b && taken kind w number i) (has i ∙ ap (λ (m : Bits). m number i) writes) in
-    let test : some_below 128 (λ i. has_bit bits i && taken kind w number i) ≡ meet_at (part_writes names p) (taken kind w) (part_vector names p) = ap (some_below 128) (fun_ext each) ∙ sym (ap (meet_at (part_writes names p) (taken kind w)) vec) in
-    let told : f ≡ fault_where (meet_at (part_writes names p) (taken kind w) (part_vector names p)) p.name.span = e ∙ ap (λ (b : Bool). fault_where b n.span) test ∙ ap (λ (k : Identifier). fault_where (meet_at (part_writes names p) (taken kind w) (part_vector names p)) k.span) (sym is.name_is) in
-    subst (IsFirst (part_faults names kind w p)) (sym told) (first_where (meet_at (part_writes names p) (taken kind w) (part_vector names p)) p.name.span)
+    let each : (i : ℕ) → (has_bit bits i && taken kind w number i) ≡ (part_writes names kind p number i && taken kind w number i) = λ i. ap (λ (b : Bool). b && taken kind w number i) (has i ∙ ap (λ (m : Bits). m number i) writes) in
+    let test : some_below 128 (λ i. has_bit bits i && taken kind w number i) ≡ meet_at (part_writes names kind p) (taken kind w) (part_vector names p) = ap (some_below 128) (fun_ext each) ∙ sym (ap (meet_at (part_writes names kind p) (taken kind w)) vec) in
+    let told : f ≡ fault_where (meet_at (part_writes names kind p) (taken kind w) (part_vector names p)) p.name.span = e ∙ ap (λ (b : Bool). fault_where b n.span) test ∙ ap (λ (k : Identifier). fault_where (meet_at (part_writes names kind p) (taken kind w) (part_vector names p)) k.span) (sym is.name_is) in
+    subst (IsFirst (part_faults names kind w p)) (sym told) (first_where (meet_at (part_writes names kind p) (taken kind w) (part_vector names p)) p.name.span)

@@ -45,14 +45,14 @@ with_outputs w (k ∷ more) = with_outputs (with_bits Net w (whole_signal k)) mo
 -- Parts of left sides, one after the other. A second writer is refused at its name.
 
 abbrev pub with_part : Names → Writer → Written → Part → Written
-with_part names kind w p = with_bits kind w (part_writes names p)
+with_part names kind w p = with_bits kind w (part_writes names kind p)
 
 abbrev pub fault_where : Bool → Span → Option BenchFault
 fault_where false at = None
 fault_where true at = Some (Unsupported at Helper)
 
 abbrev pub part_faults : Names → Writer → Written → Part → List BenchFault
-part_faults names kind w p = option_to_list (fault_where (meet_at (part_writes names p) (taken kind w) (part_vector names p)) p.name.span)
+part_faults names kind w p = option_to_list (fault_where (meet_at (part_writes names kind p) (taken kind w) (part_vector names p)) p.name.span)
 
 abbrev pub with_parts : Names → Writer → Written → List Part → Written
 with_parts names kind w [] = w

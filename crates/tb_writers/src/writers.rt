@@ -4,13 +4,12 @@ ghost use Rattle.std.specs.Prelude.{◌≡◌, ◌&&◌, ◌∷◌, [], ℕ, map
 ghost use Rattle.vlog_meaning.specs.Scopes.{names_of};
 ghost use Rattle.vlog_syntax.specs.declared.left_side.LeftSide.TheVariants as l;
 ghost use Rattle.vlog_effects.specs.LeftSides.{Part, parts_of, concatenated};
-ghost use Rattle.vlog_effects.specs.Latches.{is_fixed as fixed};
 ghost use Rattle.elab_proc.specs.Refusals.{AreSized};
 ghost use Rattle.process_latches.specs.Marking.{IsPart};
 ghost use Rattle.tb_faults.specs.Order.{IsFirst};
 ghost use Rattle.signal_masks.specs.Masks.{has_bit};
 ghost use Rattle.tb_writers.specs.declared.writers.Writer.TheVariants as n;
-ghost use Rattle.tb_writers.specs.Writes.{some_below};
+ghost use Rattle.tb_writers.specs.Writes.{is_placed as placed, some_below};
 ghost use Rattle.tb_writers.specs.Writers.{nothing, taken, with_bits, whole_signal, with_outputs, with_part, fault_where, part_faults, with_parts, parts_faults, with_lefts, lefts_faults, writer_faults, with_item};
 ghost use Rattle.tb_writers.specs.Views.{mask_bits, written_of};
 
@@ -124,18 +123,18 @@ impl Writers {
         kind: Writer,
         left: &LeftSide,
         name: &Identifier,
-        is_fixed: bool,
+        is_placed: bool,
         scope: &Scope,
     ) -> Result<Option<BenchFault>, AllocError>
         requires sized { AreSized (names_of scope.now) }
-        requires part { (p : Part) × (IsPart left.now name.now p × (is_fixed ≡ fixed (names_of scope.now) p.select)) }
-        ensures written { IfOk result (λ f. (p : Part) → IsPart left.now name.now p → is_fixed ≡ fixed (names_of scope.now) p.select → written_of self.new ≡ with_part (names_of scope.now) kind (written_of self.old) p) }
-        ensures fault { IfOk result (λ f. (p : Part) → IsPart left.now name.now p → is_fixed ≡ fixed (names_of scope.now) p.select → IsFirst (part_faults (names_of scope.now) kind (written_of self.old) p) f) }
+        requires part { (p : Part) × (IsPart left.now name.now p × (is_placed ≡ placed (names_of scope.now) p.select)) }
+        ensures written { IfOk result (λ f. (p : Part) → IsPart left.now name.now p → is_placed ≡ placed (names_of scope.now) p.select → written_of self.new ≡ with_part (names_of scope.now) kind (written_of self.old) p) }
+        ensures fault { IfOk result (λ f. (p : Part) → IsPart left.now name.now p → is_placed ≡ placed (names_of scope.now) p.select → IsFirst (part_faults (names_of scope.now) kind (written_of self.old) p) f) }
     {
         let Some(Decl::Signal { number, .. }) = scope.get(name.name.as_str()) else {
             return Ok(None);
         };
-        let masks = part_masks(self.alloc, left, name, is_fixed, scope)?;
+        let masks = part_masks(self.alloc, kind, left, name, is_placed, scope)?;
         self.write_bits(kind, name.span, number, masks.bits(number))
     }
 
@@ -154,13 +153,13 @@ impl Writers {
         match left {
             LeftSide::Name(name) => self.write_part(kind, left, name, true, scope),
             LeftSide::BitSelect(name, _, index) => {
-                let is_fixed = is_constant(index.get(), scope);
-                self.write_part(kind, left, name, is_fixed, scope)
+                let is_placed = is_constant(index.get(), scope);
+                self.write_part(kind, left, name, is_placed, scope)
             }
             LeftSide::PartSelect(name, _, _, _) => self.write_part(kind, left, name, true, scope),
             LeftSide::IndexedPartSelect(name, _, base, _) => {
-                let is_fixed = is_constant(base.get(), scope);
-                self.write_part(kind, left, name, is_fixed, scope)
+                let is_placed = is_constant(base.get(), scope);
+                self.write_part(kind, left, name, is_placed, scope)
             }
             LeftSide::Concatenation(_, parts) => self.write_joined(kind, parts.as_slice(), scope),
         }

@@ -1,10 +1,10 @@
 use Rattle.vlog_meaning.specs.Scopes.{names_of}
-use Rattle.vlog_meaning.specs.Senses.{sense}
-use Rattle.tb_writers.proofs.Parts.{reads_none, reads_some}
+use Rattle.vlog_meaning.specs.Senses.{sense, constant_faults}
+use Rattle.tb_writers.proofs.Parts.{without_fault, with_fault}
 use Rattle.tb_writers.proofs.mask.is_constant.Goals as goal
 
 pub returns-in-None : goal.returns-in-None
-returns-in-None c = reads_none (sense (names_of c.args.scope.now) c.args.expr.now).signals c.signal_in.result c.signal_in.ensures c.in-None.is
+returns-in-None c = without_fault (constant_faults (sense (names_of c.args.scope.now) c.args.expr.now)) c.constant_fault.result c.constant_fault.ensures c.in-None.is
 
 pub returns-in-Some : goal.returns-in-Some
-returns-in-Some c = reads_some (sense (names_of c.args.scope.now) c.args.expr.now).signals c.signal_in.result _ c.signal_in.ensures c.in-Some.is
+returns-in-Some c = with_fault (constant_faults (sense (names_of c.args.scope.now) c.args.expr.now)) c.constant_fault.result _ c.constant_fault.ensures c.in-Some.is

@@ -1,11 +1,11 @@
 use Rattle.std.proofs.Common.{refl, ap, ◌∙◌, add-one, arith}
 use Rattle.std.proofs.lemmas.Result.{IfOk-weaker}
 use Rattle.vlog_meaning.specs.Scopes.{names_of}
-use Rattle.vlog_effects.specs.Expressions.{is_constant}
 use Rattle.vlog_effects.specs.LeftSides.{Whole, Bit, Range, Indexed, Part}
 use Rattle.process_latches.specs.Marking.{IsPart}
 use Rattle.process_latches.proofs.Fitting.{is_name, is_bit, is_range, is_indexed}
 use Rattle.tb_writers.specs.Views.{written_of}
+use Rattle.tb_writers.specs.Writes.{is_constant}
 use Rattle.tb_writers.proofs.Sums.{one_part, one_fault, joined_more, joined_faults}
 use Rattle.tb_writers.proofs.writers.Writers.+parts.Goals as goal
 
@@ -25,19 +25,19 @@ write_left-returns-in-Name-clause-fault t c =
     IfOk-weaker c.write_part.result _ _ (λ f e. one_fault (names_of c.args.scope.now) c.args.kind (written_of c.args.self.now) c.args.left.now p f is.parts (e p is (refl))) c.write_part.ensures.fault
 
 pub write_left-write_part-requires-in-BitSelect-clause-part : goal.write_left-write_part-requires-in-BitSelect-clause-part
-write_left-write_part-requires-in-BitSelect-clause-part t c = (record { name = c.in-BitSelect.name; select = Bit c.in-BitSelect.field-1 c.in-BitSelect.index }, (is_bit c.args.left.now c.in-BitSelect.name c.in-BitSelect.field-1 c.in-BitSelect.index c.in-BitSelect.is, c.is_constant-is_fixed.ensures ∙ ap (is_constant (names_of c.args.scope.now)) c.get.ensures))
+write_left-write_part-requires-in-BitSelect-clause-part t c = (record { name = c.in-BitSelect.name; select = Bit c.in-BitSelect.field-1 c.in-BitSelect.index }, (is_bit c.args.left.now c.in-BitSelect.name c.in-BitSelect.field-1 c.in-BitSelect.index c.in-BitSelect.is, c.is_constant-is_placed.ensures ∙ ap (is_constant (names_of c.args.scope.now)) c.get.ensures))
 
 pub write_left-returns-in-BitSelect-clause-written : goal.write_left-returns-in-BitSelect-clause-written
 write_left-returns-in-BitSelect-clause-written t c =
     let p : Part = record { name = c.in-BitSelect.name; select = Bit c.in-BitSelect.field-1 c.in-BitSelect.index } in
     let is : IsPart c.args.left.now c.in-BitSelect.name p = is_bit c.args.left.now c.in-BitSelect.name c.in-BitSelect.field-1 c.in-BitSelect.index c.in-BitSelect.is in
-    IfOk-weaker c.write_part-in-BitSelect.result _ _ (λ f e. one_part (names_of c.args.scope.now) c.args.kind (written_of c.args.self.now) (written_of c.write_part-in-BitSelect.new.self) c.args.left.now p is.parts (e p is (c.is_constant-is_fixed.ensures ∙ ap (is_constant (names_of c.args.scope.now)) c.get.ensures))) c.write_part-in-BitSelect.ensures.written
+    IfOk-weaker c.write_part-in-BitSelect.result _ _ (λ f e. one_part (names_of c.args.scope.now) c.args.kind (written_of c.args.self.now) (written_of c.write_part-in-BitSelect.new.self) c.args.left.now p is.parts (e p is (c.is_constant-is_placed.ensures ∙ ap (is_constant (names_of c.args.scope.now)) c.get.ensures))) c.write_part-in-BitSelect.ensures.written
 
 pub write_left-returns-in-BitSelect-clause-fault : goal.write_left-returns-in-BitSelect-clause-fault
 write_left-returns-in-BitSelect-clause-fault t c =
     let p : Part = record { name = c.in-BitSelect.name; select = Bit c.in-BitSelect.field-1 c.in-BitSelect.index } in
     let is : IsPart c.args.left.now c.in-BitSelect.name p = is_bit c.args.left.now c.in-BitSelect.name c.in-BitSelect.field-1 c.in-BitSelect.index c.in-BitSelect.is in
-    IfOk-weaker c.write_part-in-BitSelect.result _ _ (λ f e. one_fault (names_of c.args.scope.now) c.args.kind (written_of c.args.self.now) c.args.left.now p f is.parts (e p is (c.is_constant-is_fixed.ensures ∙ ap (is_constant (names_of c.args.scope.now)) c.get.ensures))) c.write_part-in-BitSelect.ensures.fault
+    IfOk-weaker c.write_part-in-BitSelect.result _ _ (λ f e. one_fault (names_of c.args.scope.now) c.args.kind (written_of c.args.self.now) c.args.left.now p f is.parts (e p is (c.is_constant-is_placed.ensures ∙ ap (is_constant (names_of c.args.scope.now)) c.get.ensures))) c.write_part-in-BitSelect.ensures.fault
 
 pub write_left-write_part-requires-in-PartSelect-clause-part : goal.write_left-write_part-requires-in-PartSelect-clause-part
 write_left-write_part-requires-in-PartSelect-clause-part t c = (record { name = c.in-PartSelect.name; select = Range c.in-PartSelect.field-1 c.in-PartSelect.field-2 c.in-PartSelect.field-3 }, (is_range c.args.left.now c.in-PartSelect.name c.in-PartSelect.field-1 c.in-PartSelect.field-2 c.in-PartSelect.field-3 c.in-PartSelect.is, refl))
@@ -55,19 +55,19 @@ write_left-returns-in-PartSelect-clause-fault t c =
     IfOk-weaker c.write_part-in-PartSelect.result _ _ (λ f e. one_fault (names_of c.args.scope.now) c.args.kind (written_of c.args.self.now) c.args.left.now p f is.parts (e p is (refl))) c.write_part-in-PartSelect.ensures.fault
 
 pub write_left-write_part-requires-in-IndexedPartSelect-clause-part : goal.write_left-write_part-requires-in-IndexedPartSelect-clause-part
-write_left-write_part-requires-in-IndexedPartSelect-clause-part t c = (record { name = c.in-IndexedPartSelect.name; select = Indexed c.in-IndexedPartSelect.field-1 c.in-IndexedPartSelect.base c.in-IndexedPartSelect.field-3 }, (is_indexed c.args.left.now c.in-IndexedPartSelect.name c.in-IndexedPartSelect.field-1 c.in-IndexedPartSelect.base c.in-IndexedPartSelect.field-3 c.in-IndexedPartSelect.is, c.is_constant-is_fixed-in-IndexedPartSelect.ensures ∙ ap (is_constant (names_of c.args.scope.now)) c.get-in-IndexedPartSelect.ensures))
+write_left-write_part-requires-in-IndexedPartSelect-clause-part t c = (record { name = c.in-IndexedPartSelect.name; select = Indexed c.in-IndexedPartSelect.field-1 c.in-IndexedPartSelect.base c.in-IndexedPartSelect.field-3 }, (is_indexed c.args.left.now c.in-IndexedPartSelect.name c.in-IndexedPartSelect.field-1 c.in-IndexedPartSelect.base c.in-IndexedPartSelect.field-3 c.in-IndexedPartSelect.is, c.is_constant-is_placed-in-IndexedPartSelect.ensures ∙ ap (is_constant (names_of c.args.scope.now)) c.get-in-IndexedPartSelect.ensures))
 
 pub write_left-returns-in-IndexedPartSelect-clause-written : goal.write_left-returns-in-IndexedPartSelect-clause-written
 write_left-returns-in-IndexedPartSelect-clause-written t c =
     let p : Part = record { name = c.in-IndexedPartSelect.name; select = Indexed c.in-IndexedPartSelect.field-1 c.in-IndexedPartSelect.base c.in-IndexedPartSelect.field-3 } in
     let is : IsPart c.args.left.now c.in-IndexedPartSelect.name p = is_indexed c.args.left.now c.in-IndexedPartSelect.name c.in-IndexedPartSelect.field-1 c.in-IndexedPartSelect.base c.in-IndexedPartSelect.field-3 c.in-IndexedPartSelect.is in
-    IfOk-weaker c.write_part-in-IndexedPartSelect.result _ _ (λ f e. one_part (names_of c.args.scope.now) c.args.kind (written_of c.args.self.now) (written_of c.write_part-in-IndexedPartSelect.new.self) c.args.left.now p is.parts (e p is (c.is_constant-is_fixed-in-IndexedPartSelect.ensures ∙ ap (is_constant (names_of c.args.scope.now)) c.get-in-IndexedPartSelect.ensures))) c.write_part-in-IndexedPartSelect.ensures.written
+    IfOk-weaker c.write_part-in-IndexedPartSelect.result _ _ (λ f e. one_part (names_of c.args.scope.now) c.args.kind (written_of c.args.self.now) (written_of c.write_part-in-IndexedPartSelect.new.self) c.args.left.now p is.parts (e p is (c.is_constant-is_placed-in-IndexedPartSelect.ensures ∙ ap (is_constant (names_of c.args.scope.now)) c.get-in-IndexedPartSelect.ensures))) c.write_part-in-IndexedPartSelect.ensures.written
 
 pub write_left-returns-in-IndexedPartSelect-clause-fault : goal.write_left-returns-in-IndexedPartSelect-clause-fault
 write_left-returns-in-IndexedPartSelect-clause-fault t c =
     let p : Part = record { name = c.in-IndexedPartSelect.name; select = Indexed c.in-IndexedPartSelect.field-1 c.in-IndexedPartSelect.base c.in-IndexedPartSelect.field-3 } in
     let is : IsPart c.args.left.now c.in-IndexedPartSelect.name p = is_indexed c.args.left.now c.in-IndexedPartSelect.name c.in-IndexedPartSelect.field-1 c.in-IndexedPartSelect.base c.in-IndexedPartSelect.field-3 c.in-IndexedPartSelect.is in
-    IfOk-weaker c.write_part-in-IndexedPartSelect.result _ _ (λ f e. one_fault (names_of c.args.scope.now) c.args.kind (written_of c.args.self.now) c.args.left.now p f is.parts (e p is (c.is_constant-is_fixed-in-IndexedPartSelect.ensures ∙ ap (is_constant (names_of c.args.scope.now)) c.get-in-IndexedPartSelect.ensures))) c.write_part-in-IndexedPartSelect.ensures.fault
+    IfOk-weaker c.write_part-in-IndexedPartSelect.result _ _ (λ f e. one_fault (names_of c.args.scope.now) c.args.kind (written_of c.args.self.now) c.args.left.now p f is.parts (e p is (c.is_constant-is_placed-in-IndexedPartSelect.ensures ∙ ap (is_constant (names_of c.args.scope.now)) c.get-in-IndexedPartSelect.ensures))) c.write_part-in-IndexedPartSelect.ensures.fault
 
 pub write_joined-loop-left-preserved : goal.write_joined-loop-left-preserved
 write_joined-loop-left-preserved t c =
