@@ -3,4 +3,4 @@
 
 mod opening;
 
-pub use opening::{DatabaseFault, OpenError, Opener, OpeningKeeper};
+pub use opening::{DatabaseFault, OpenError, Opener, OpeningKeeper, opening_keepers_tell};

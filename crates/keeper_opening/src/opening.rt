@@ -2,15 +2,16 @@
 //!
 //! `place` is the opener before the first load, and after it the keeper over the connection, or over none where
 //! the opening was refused. Nothing is opened, made or read before the first load, so a call that ends without one
-//! touches no file. Before it the keeper tells no book, and a crash leaves what the opener may find. `fault` is why
-//! the first fault came.
-ghost use Rattle.std.specs.Prelude.{◌≡◌, ◌↔◌, IfOk, IsErr, None, Option, false};
+//! touches no file. Before it the keeper tells where the opener may find something, and then no book; a crash leaves
+//! what the opener may find. `fault` is why the first fault came.
+ghost use Rattle.std.specs.Prelude.{◌≡◌, ◌↔◌, IfOk, IsErr, IsErrOf, IsTrue, None, OnErr, OnOk, Option, Result, Some, false};
 ghost use Rattle.sqlite.specs.Tree.{Trees};
-ghost use Rattle.sqlite.specs.Held.{state};
+ghost use Rattle.sqlite.specs.Held.{Held, state};
 ghost use Rattle.mcy_keeper.specs.declared.book.Book.{Book as Pages};
-ghost use Rattle.mcy_keeper.specs.Books.{TellsNone};
-ghost use Rattle.keeper_opening.specs.Found.{Finds, HasNoTables, MayBeFound};
-ghost use Rattle.keeper_opening.specs.Places.{connection_in, fault_of, is_settled, faults, PlaceTells, PlaceHolds, PlaceLeaves, Opens, place_one, place_survives, place_told};
+ghost use Rattle.mcy_base.specs.Causes.{IsCaused};
+ghost use Rattle.mcy_keeper.specs.Books.{Keeps, LeavesNothingNew, TellsNone};
+ghost use Rattle.keeper_opening.specs.Found.{Finds, HasNoTables, MayBeFound, MayFind};
+ghost use Rattle.keeper_opening.specs.Places.{connection_in, fault_of, is_settled, faults, noted_cause, Answers, Connects, IsUnanswered, KeeperHolds, KeeperLeaves, KeeperTells, Opens, PlaceHolds, PlaceLeaves, PlaceTells, place_one, place_survives, place_told};
 
 use keeper_sqlite::SqlKeeper;
 use mcy_base::BytesList;
@@ -40,12 +41,18 @@ pub enum OpenError {
 
 /// What opens a database.
 pub trait Opener<S: Alter + Drop>: Drop {
+    ghost use Rattle.keeper_opening.specs.declared.opening.OpenError.{OpenError};
+
     /// The trees that may be found.
     ghost found: { Self → Trees → Type 0 };
 
+    /// What the opening may answer.
+    ghost gives: { Self → Result (Held S) OpenError → Type 0 };
+
     /// Opens the database, which it makes where there is none.
     fn open(self) -> Result<Connection<S>, OpenError>
-        ensures { IfOk result (λ c. Finds (found self) (state S.Store c)) };
+        ensures found { IfOk result (λ c. Finds (found self) (state S.Store c)) }
+        ensures given { gives self result };
 }
 
 /// Before the first load, or after it.
@@ -77,11 +84,23 @@ fn fault_of_load<S: Alter>(connection: &Connection<S>) -> DatabaseFault
     }
 }
 
+/// The cause, where a load has answered a fault.
+fn noted_cause(loaded: &Result<Book, KeepError>, cause: DatabaseFault) -> Option<DatabaseFault>
+    ensures { result ≡ noted_cause loaded.now cause }
+{
+    match loaded {
+        Err(KeepError::Fault) => Some(cause),
+        _ => None,
+    }
+}
+
 impl<S: Alter + Drop, O: Opener<S>> Place<S, O> {
     /// The keeper after the opening, and why a load of it answers a fault.
     fn opened(self, alloc: Global) -> Result<(SqlKeeper<S>, DatabaseFault), AllocError>
         ensures opens { IfOk result (λ it. Opens S.Store O.found self it.0) }
+        ensures answers { IfOk result (λ it. Answers O.gives self it.0.connection (λ fault. it.1 ≡ fault)) }
         ensures closed { IsErr result → (is_settled self ≡ false) × (faults self ≡ 0) }
+        ensures unanswered { IsErr result → IsUnanswered O.gives self }
     {
         match self {
             Place::Opened(keeper) => Ok((keeper, DatabaseFault::NoBook)),
@@ -100,7 +119,7 @@ impl<S: Alter + Drop, O: Opener<S>> Place<S, O> {
 impl<S: Alter + Drop, O: Opener<S>> OpeningKeeper<S, O> {
     /// The keeper, which has opened nothing. It takes no memory, and neither reads nor writes.
     pub fn new(alloc: Global, opener: O) -> OpeningKeeper<S, O>
-        ensures tells { ⟦<OpeningKeeper<S, O> as Keeper>⟧.tells result }
+        ensures tells { ⟦<OpeningKeeper<S, O> as Keeper>⟧.tells result ↔ MayFind (O.found opener) }
         ensures untold { TellsNone (⟦<OpeningKeeper<S, O> as Keeper>⟧.holds result) }
         ensures leaves { (left : Option Pages) → ⟦<OpeningKeeper<S, O> as Keeper>⟧.leaves result left ↔ MayBeFound (O.found opener) left }
         ensures unsettled { ⟦<OpeningKeeper<S, O> as Keeper>⟧.is_settled result ≡ false }
@@ -144,7 +163,7 @@ impl<S: Alter + Drop, O: Opener<S>> OpeningKeeper<S, O> {
 }
 
 impl<S: Alter + Drop, O: Opener<S>> Keeper for OpeningKeeper<S, O> {
-    ghost tells = { λ k. PlaceTells S.Store k.place };
+    ghost tells = { λ k. PlaceTells S.Store O.found k.place };
 
     ghost holds = { λ k. PlaceHolds S.Store k.place };
 
@@ -156,11 +175,21 @@ impl<S: Alter + Drop, O: Opener<S>> Keeper for OpeningKeeper<S, O> {
 
     ghost one = { λ k. place_one (record { view = S.Store.view; faults = S.Store.faults; recovers = S.Store.recovers; is_shielded = S.Store.is_shielded; is_step = S.Store.is_step; blamed = S.Store.blamed; names = S.Store.names }) k.place };
 
-    ghost told = { λ k. place_told (record { view = S.Store.view; faults = S.Store.faults; recovers = S.Store.recovers; is_shielded = S.Store.is_shielded; is_step = S.Store.is_step; blamed = S.Store.blamed; names = S.Store.names }) k.place };
+    ghost told = { λ k. place_told (record { view = S.Store.view; faults = S.Store.faults; recovers = S.Store.recovers; is_shielded = S.Store.is_shielded; is_step = S.Store.is_step; blamed = S.Store.blamed; names = S.Store.names }) O.found k.place };
 
     ghost survives = { λ k. place_survives (record { view = S.Store.view; faults = S.Store.faults; recovers = S.Store.recovers; is_shielded = S.Store.is_shielded; is_step = S.Store.is_step; blamed = S.Store.blamed; names = S.Store.names }) S.Store.survives O.found k.place };
 
-    fn load(&mut self) -> Result<Book, KeepError> {
+    fn load(&mut self) -> Result<Book, KeepError>
+        ensures connected { Connects O.gives self.old self.new result }
+        ensures tells { KeeperTells S.Store O.found self.new → KeeperTells S.Store O.found self.old }
+        ensures answer { KeeperTells S.Store O.found self.new → IfOk result (Keeps (KeeperHolds S.Store self.new) (KeeperLeaves S.Store O.found self.new)) }
+        ensures same { KeeperTells S.Store O.found self.new → IfOk result (λ found. (was : Pages) → KeeperHolds S.Store self.old was → found ≡ was) }
+        ensures allowed { KeeperTells S.Store O.found self.new → IfOk result (λ found. KeeperLeaves S.Store O.found self.old (Some found)) }
+        ensures refused { KeeperTells S.Store O.found self.new → OnErr result (LeavesNothingNew (KeeperLeaves S.Store O.found self.old) (KeeperLeaves S.Store O.found self.new)) }
+        ensures settles { OnOk result (IsTrue (is_settled self.new.place)) }
+        ensures stays { OnErr result (is_settled self.new.place ≡ is_settled self.old.place) }
+        ensures cause { IsCaused (faults self.old.place) (faults self.new.place) (IsErrOf result KeepError.Fault) }
+    {
         let nothing = Place::Opened(SqlKeeper::adopt(self.alloc, None));
         let place = std::mem::replace(&mut self.place, nothing);
         let (mut keeper, fault) = match place.opened(self.alloc) {
@@ -168,9 +197,7 @@ impl<S: Alter + Drop, O: Opener<S>> Keeper for OpeningKeeper<S, O> {
             Err(AllocError) => return Err(KeepError::Memory),
         };
         let loaded = keeper.load();
-        if let Err(KeepError::Fault) = loaded {
-            self.fault = self.fault.or(Some(fault));
-        }
+        self.fault = self.fault.or(noted_cause(&loaded, fault));
         self.place = Place::Opened(keeper);
         loaded
     }
@@ -197,4 +224,13 @@ impl<S: Alter + Drop, O: Opener<S>> Keeper for OpeningKeeper<S, O> {
             Place::Closed(_) => false,
         }
     }
+}
+
+/// Before the first load it tells where its opener may find something, and no book; after it, what the keeper over its connection tells.
+pub fn opening_keepers_tell<S: Alter + Drop, O: Opener<S>>(keeper: &OpeningKeeper<S, O>)
+    ensures tells { ⟦<OpeningKeeper<S, O> as Keeper>⟧.tells keeper.now ↔ KeeperTells S.Store O.found keeper.now }
+    ensures holds { (b : Pages) → ⟦<OpeningKeeper<S, O> as Keeper>⟧.holds keeper.now b ↔ KeeperHolds S.Store keeper.now b }
+    ensures leaves { (left : Option Pages) → ⟦<OpeningKeeper<S, O> as Keeper>⟧.leaves keeper.now left ↔ KeeperLeaves S.Store O.found keeper.now left }
+{
+    let _ = keeper;
 }

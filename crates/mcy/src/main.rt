@@ -30,6 +30,9 @@ impl Opener<FileStore<File>> for Database {
     /// As files that hold nothing; of others the clauses say nothing (`Unknown`).
     ghost found = { λ _. AreFoundIn (record { log = []; db = [] }) };
 
+    /// What the file system answers is not known.
+    ghost gives = { λ _ _. Unit {0} };
+
     fn open(self) -> Result<Connection<FileStore<File>>, OpenError> {
         match Connection::open_from(&self.rt, DATABASE, false, Unknown) {
             Ok(connection) => Ok(connection),

@@ -15,6 +15,8 @@ struct InMemory {
 impl Opener<MemStore> for InMemory {
     ghost found = { λ _ trees. Unit {0} };
 
+    ghost gives = { λ _ _. Unit {0} };
+
     fn open(self) -> Result<Connection<MemStore>, OpenError> {
         if let Some(fault) = self.refused {
             return Err(OpenError::Refused(fault));
