@@ -174,6 +174,25 @@ def worked():
     ]
 
 
+def nested():
+    """Constants 60 deep in the bounds, widths and counts of others: with a = 2 each level is worth 2, as what it stands in is."""
+    a = {"a": 2}
+    kinds = [
+        (a, lambda s: ("[:]", "a", ("b", "+", s, int32(0)), int32(0))),
+        (a, lambda s: ("[:]", "a", ("?", number(1, False, 1), s, int32(0)), int32(0))),
+        (a, lambda s: ("[:]", "a", ("$", "$signed", s), int32(0))),
+        (a, lambda s: ("[+:]", "a", int32(0), ("b", "+", s, int32(0)))),
+        ({}, lambda s: ("{{}}", ("b", "-", s, int32(1)), [number(2, False, 2)])),
+    ]
+    tests = []
+    for values, around in kinds:
+        row = int32(2)
+        for _ in range(60):
+            row = around(row)
+        tests.append(((16, row, values), 2))
+    return tests
+
+
 def drawn(rng, depth):
     """An expression of random form."""
     kind = rng.random()
@@ -269,7 +288,7 @@ def main():
         for row, (seen, zeroed) in zip(rows, simulated(rows))
         if not set(seen) - set("01") or selects_only(row[1])
     ]
-    write("expression_values", tests)
+    write("expression_values", tests + nested())
     write("expression_cells", [(row, answer) for row, answer in tests if not divides_names(row[1])])
 
 

@@ -74,6 +74,11 @@ def constants():
         ("counts", 199, "1'b1", "1", lambda s: "{" + s + "{1'b1}}"),
         ("counts in parentheses", 99, "1'b1", "1", lambda s: "{(" + s + "){1'b1}}"),
         ("counts in bounds", 66, "1'b1", "0", lambda s: "P[{P[" + s + ":0]{1'b0}}:0]"),
+        ("sums in bounds", 99, "1'b0", "0", lambda s: f"P[{s}+0:0]"),
+        ("sums in widths", 99, "1'b1", "1", lambda s: f"P[0+:{s}+0]"),
+        ("choices in bounds", 99, "1'b0", "0", lambda s: f"P[1?{s}:0:0]"),
+        ("signs in bounds", 99, "1'b0", "0", lambda s: f"P[$signed({s}):0]"),
+        ("sums in counts", 66, "1'b1", "1", lambda s: "{(" + s + "+0){1'b1}}"),
     ]
     for name, depth, value, inmost, around in kinds:
         text = nested(depth, inmost, around)

@@ -15,3 +15,4 @@ pub mod Settled
 pub mod Windows
 pub mod Reading
 pub mod Divisions
+pub mod Same

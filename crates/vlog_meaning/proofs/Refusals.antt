@@ -37,7 +37,7 @@ constant_is_whole names e o is none = constant_whole (sense names e) (least_none
 pub constant_is_whole_at : (names : Names) (e : Expr) (c : Shape) (o : Option Fault) → o ≡ least (constant_faults_at (sense names e) c) → o ≡ None → IsWhole names e
 constant_is_whole_at names e c o is none = right_nil _ _ (these_nil _ _ (least_none _ (sym is ∙ none)))
 
-no_places : (xs : List Span) → map (fault NotConstant) xs ≡ [] → xs ≡ []
+pub no_places : (xs : List Span) → map (fault NotConstant) xs ≡ [] → xs ≡ []
 no_places [] e = refl
 no_places (x ∷ xs) e = cc
 

@@ -26,7 +26,7 @@ use Rattle.vlog_meaning.specs.Senses.{IsContext, call_shape, call_value, own}
 use Rattle.vlog_meaning.proofs.Contexts.{wider}
 use Rattle.vlog_meaning.proofs.Steps as step
 
-says : (names : Names) (e : Expr) (x : Sense) → sense names e ≡ x → IsWhole names e → x.faults ≡ []
+pub says : (names : Names) (e : Expr) (x : Sense) → sense names e ≡ x → IsWhole names e → x.faults ≡ []
 says names e x is whole = ap (λ (y : Sense). y.faults) (sym is) ∙ whole
 
 test_holds : (b : Bool) (x : Fault) → (if b then [] else x ∷ []) ≡ [] → b ≡ true
@@ -233,7 +233,7 @@ clog2_fits names f es x n c is at some few within small =
     let w : IsContext (call_shape (Some Clog2) (senses names (x ∷ []))) c = subst P (single_list es x at some few) (subst Q is within) in
     wider n 32 c.width (omega arith) w.wide
 
-nothing_held : store_of [] ≡ nothing
+pub nothing_held : store_of [] ≡ nothing
 nothing_held = λ i n. 0
 
 pub clog2_value : (names : Names) (f : Option Function) (es : List Expr) (x : Expr) (n v : ℕ) (store : Store) (c : Shape) → f ≡ Some Clog2 → x ≡ get_or es 0 x → 1 ≤ length es → length es < 2 → v ≡ own (store_of []) (sense names x) → n ≡ clog2 v → n ≡ call_value f (senses names es) store c

@@ -6,3 +6,4 @@ pub mod Senses
 pub mod Answers
 pub mod Laws
 pub mod Fitting
+pub mod Literals

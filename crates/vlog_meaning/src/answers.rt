@@ -11,11 +11,11 @@ use crate::bound::Bound;
 use crate::fault::{ConstError, Fault, earlier};
 use crate::faults::{constant_fault, fault_in};
 use crate::integer::truncate;
+use crate::once::{bound_of, own_of, shape_of, value_of, zero_in};
+use crate::own::word;
 use crate::scope::Scope;
 use crate::shapes::Shape;
 use crate::signals::signal_in;
-use crate::values::{bound_of, own_value, shape_of, value_of};
-use crate::zeros::zero_in;
 use mcy_base::Word;
 use vlog_syntax::Expr;
 
@@ -47,9 +47,8 @@ pub fn constant(expr: &Expr, scope: &Scope) -> Result<Word, ConstError>
     match constant_fault(expr, scope) {
         Some(fault) => Err(fault.const_error()),
         None => {
-            let shape = shape_of(expr, scope);
-            let bits = own_value(expr, scope, &[]);
-            Ok(word(shape.width, bits))
+            let own = own_of(expr, scope, &[]);
+            Ok(word(own.shape.width, own.value))
         }
     }
 }
@@ -67,16 +66,6 @@ pub fn constant_integer(expr: &Expr, scope: &Scope) -> Result<Bound, ConstError>
         Some(fault) => Err(fault.const_error()),
         None => Ok(bound_of(expr, scope)),
     }
-}
-
-/// The word of these bits.
-fn word(width: u8, bits: u128) -> Word
-    requires some { 1 ≤ width }
-    requires narrow { width ≤ 128 }
-    requires fits { bits < 2 ^ width }
-    ensures { (result.width ≡ width) × (result.bits ≡ bits) }
-{
-    Word::new(width, bits).unwrap()
 }
 
 /// The width and sign at which an expression of this shape is evaluated where it is assigned to so many bits.

@@ -8,10 +8,9 @@ ghost use Rattle.vlog_meaning.specs.Answers.{least};
 use crate::bound::{Bound, is_below, is_narrow};
 use crate::fault::{Cause, Fault, earlier};
 use crate::function::{Function, function_of};
+use crate::once::{bound_of, count_of, shape_of, sum_of_widths, zero_in};
 use crate::scope::{Decl, Scope};
 use crate::signals::signal_in;
-use crate::values::{bound_of, count_of, shape_of, sum_of_widths};
-use crate::zeros::zero_in;
 use mcy_base::Span;
 use vlog_syntax::{Expr, Identifier};
 

@@ -23,6 +23,16 @@ pub struct Own {
     pub value: u128,
 }
 
+/// The word of these bits.
+pub fn word(width: u8, bits: u128) -> Word
+    requires some { 1 ≤ width }
+    requires narrow { width ≤ 128 }
+    requires fits { bits < 2 ^ width }
+    ensures { (result.width ≡ width) × (result.bits ≡ bits) }
+{
+    Word::new(width, bits).unwrap()
+}
+
 /// An unsigned shape.
 pub fn unsigned(width: u8) -> Shape
     ensures { result ≡ unsigned width }

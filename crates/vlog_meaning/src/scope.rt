@@ -80,6 +80,11 @@ impl Scope {
         }
     }
 
+    /// The allocator that the names are kept by.
+    pub(crate) fn alloc(&self) -> Global {
+        self.alloc
+    }
+
     /// What the name is declared as.
     pub fn get(&self, name: &str) -> Option<Decl>
         ensures { result ≡ names_of self.now name.now }

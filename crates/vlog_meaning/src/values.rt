@@ -120,7 +120,7 @@ pub fn own_of(expr: &Expr, scope: &Scope, store: &[Word]) -> Own
 
 /// The value of an expression that stands for itself.
 #[cycle(value)]
-pub fn own_value(expr: &Expr, scope: &Scope, store: &[Word]) -> u128
+fn own_value(expr: &Expr, scope: &Scope, store: &[Word]) -> u128
     requires whole { IsWhole (names_of scope.now) expr.now }
     requires stored { FitsSignals (names_of scope.now) store.now }
     ensures value { result ≡ own (store_of store.now) (sense (names_of scope.now) expr.now) }
@@ -131,7 +131,7 @@ pub fn own_value(expr: &Expr, scope: &Scope, store: &[Word]) -> u128
 
 /// The integer that an expression is by its sign, as an index.
 #[cycle(value)]
-pub fn index_of(expr: &Expr, scope: &Scope, store: &[Word]) -> Bound
+fn index_of(expr: &Expr, scope: &Scope, store: &[Word]) -> Bound
     requires whole { IsWhole (names_of scope.now) expr.now }
     requires stored { FitsSignals (names_of scope.now) store.now }
     ensures value { bound_integer result ≡ index_of (store_of store.now) (sense (names_of scope.now) expr.now) }
@@ -143,7 +143,7 @@ pub fn index_of(expr: &Expr, scope: &Scope, store: &[Word]) -> Bound
 
 /// The integer that a constant is.
 #[cycle(value)]
-pub fn bound_of(expr: &Expr, scope: &Scope) -> Bound
+fn bound_of(expr: &Expr, scope: &Scope) -> Bound
     requires { IsWhole (names_of scope.now) expr.now }
     ensures value { bound_integer result ≡ constant_integer (sense (names_of scope.now) expr.now) }
     ensures small { IsTrue result.is_negative → result.magnitude ≤ 2 ^ 127 }
@@ -153,7 +153,7 @@ pub fn bound_of(expr: &Expr, scope: &Scope) -> Bound
 
 /// The count that a constant is.
 #[cycle(value)]
-pub fn count_of(expr: &Expr, scope: &Scope) -> u128
+fn count_of(expr: &Expr, scope: &Scope) -> u128
     requires { IsWhole (names_of scope.now) expr.now }
     ensures { result ≡ natural (constant_integer (sense (names_of scope.now) expr.now)) }
 {
@@ -309,16 +309,4 @@ fn joined(parts: &[Expr], scope: &Scope, store: &[Word]) -> Own
         shape: unsigned(width),
         value,
     }
-}
-
-/// The sum of the widths, however large.
-pub fn sum_of_widths(parts: &[Expr], scope: &Scope) -> u128
-    requires { AreWhole (names_of scope.now) parts.now }
-    ensures { result ≡ total_width (senses (names_of scope.now) parts.now) }
-{
-    let mut total: u128 = 0;
-    for part in parts {
-        total += u128::from(shape_of(part, scope).width);
-    }
-    total
 }

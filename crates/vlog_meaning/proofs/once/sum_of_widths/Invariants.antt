@@ -1,7 +1,7 @@
 use Rattle.std.proofs.Common.{◌≡◌, ◌≤◌, ◌*◌, take}
 use Rattle.vlog_meaning.specs.Scopes.{names_of}
 use Rattle.vlog_meaning.specs.Senses.{senses, total_width}
-use Rattle.vlog_meaning.proofs.values.sum_of_widths.Given as goal
+use Rattle.vlog_meaning.proofs.once.sum_of_widths.Given as goal
 
 abbrev pub invariant-loop-part : goal.invariant-loop-part
 invariant-loop-part l = (l.total ≡ total_width (senses (names_of l.scope) (take l.part-index l.parts))) × (l.total ≤ 128 * l.part-index)

@@ -3,7 +3,7 @@ use Rattle.vlog_meaning.specs.Scopes.{names_of}
 use Rattle.vlog_meaning.specs.declared.shapes.Shape.{Shape}
 use Rattle.vlog_meaning.proofs.Results.{total_take}
 use Rattle.vlog_meaning.proofs.Whole.{element_whole}
-use Rattle.vlog_meaning.proofs.values.sum_of_widths.Goals as goal
+use Rattle.vlog_meaning.proofs.once.sum_of_widths.Goals as goal
 
 pub shape_of-requires-in-loop-part : goal.shape_of-requires-in-loop-part
 shape_of-requires-in-loop-part c = element_whole (names_of c.args.scope.now) c.args.parts.now c.loop-part.part-index c.part-item.result c.part-item.is (omega arith) c.requires
