@@ -1048,6 +1048,27 @@ module top(input clk, input d, output y);
 endmodule
 elaborate top
 > Twice 7:7
+# a system function where a constant is wanted, which a design has not: in a parameter, a bound, a count and a start value
+module top(input a, output y);
+  parameter P = 1 + $random;
+endmodule
+elaborate top
+> Unsupported SystemFunction 2:21
+module top(input a, output y);
+  wire [$time:0] x;
+endmodule
+elaborate top
+> Unsupported SystemFunction 2:9
+module top(input a, output y);
+  assign y = {$random{a}};
+endmodule
+elaborate top
+> Unsupported SystemFunction 2:15
+module top(input a, output y);
+  reg x = $time;
+endmodule
+elaborate top
+> Unsupported SystemFunction 2:11
 # more net bits than the limit
 module top(input a);
   genvar g;

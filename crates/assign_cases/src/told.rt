@@ -18,7 +18,7 @@ fn cause_name(cause: Cause) -> &'static str {
         Cause::DivideByZero => "DivideByZero",
         Cause::TooWide => "TooWide",
         Cause::RangeForm => "RangeForm",
-        Cause::SystemFunction => "SystemFunction",
+        Cause::SystemFunction | Cause::Drawn => "SystemFunction",
         Cause::DivideOrPower => "DivideOrPower",
         Cause::IndexedBase => "IndexedBase",
     }

@@ -8,7 +8,7 @@ use vlog_syntax::Feature;
 fn cause_name(cause: Cause) -> &'static str {
     match cause {
         Cause::Unknown => "Unknown",
-        Cause::NotConstant => "NotConstant",
+        Cause::NotConstant | Cause::Drawn => "NotConstant",
         Cause::DivideByZero => "DivideByZero",
         Cause::TooWide => "TooWide",
         Cause::RangeForm => "RangeForm",

@@ -13,7 +13,7 @@ use Rattle.vlog_syntax.specs.declared.identifier.Number.{Number}
 use Rattle.vlog_syntax.specs.declared.identifier.Identifier.{Identifier}
 use Rattle.vlog_syntax.specs.declared.operator.UnaryOperator.{UnaryOperator}
 use Rattle.vlog_syntax.specs.declared.operator.BinaryOperator.{BinaryOperator}
-use Rattle.vlog_meaning.specs.declared.fault.Cause.TheVariants.{DivideOrPower, NotConstant}
+use Rattle.vlog_meaning.specs.declared.fault.Cause.TheVariants.{DivideOrPower}
 use Rattle.vlog_meaning.specs.declared.fault.Fault.{Fault}
 use Rattle.vlog_meaning.specs.declared.function.Function.{Function}
 use Rattle.vlog_meaning.specs.declared.function.Function.TheVariants.{Signed, Unsigned, Clog2, Random, Time}
@@ -282,12 +282,8 @@ module _ (names : Names) (x : Expr) (c : Shape) where
         evaluates_as names x c o m bits _ _ is_times (times_made varies)
         (subst (λ (i : ℕ). Builds o m bits c.width (λ signals. repeated i (total_width (senses names ps)) (joined signals (senses names ps))) (all_cells (plans names ps))) is_n b)
 
-no_places : (xs : List Span) → map (fault NotConstant) xs ≡ [] → xs ≡ []
-no_places [] e = refl
-no_places (x ∷ xs) e = cc
-
 constant_quiet : (a : Sense) → constant_faults a ≡ [] → a.signals ≡ []
-constant_quiet a e = no_places a.signals (left_nil _ _ (these_nil _ _ e))
+constant_quiet a e = left_nil _ _ (these_nil _ _ e)
 
 -- which calls have no fault, are supported and no constant
 takes_one : (f : Option Function) (span : Span) (args : List Sense) (ps : List Plan) → call_faults f span args ≡ [] → call_unsupported f span ps ≡ [] → is_empty (call_signals f span ++ all_signals args) ≡ false → TakesBits f args
@@ -299,7 +295,7 @@ takes_one (Some Unsigned) span (a ∷ []) ps fine none varies = tt
 takes_one (Some Unsigned) span (a ∷ b ∷ more) ps fine none varies = cc
 takes_one (Some Clog2) span [] ps fine none varies = cc
 takes_one (Some Clog2) span (a ∷ []) ps fine none varies =
-    let quiet : is_empty (a.signals ++ []) ≡ true = ap (λ (l : List Span). is_empty (l ++ [])) (constant_quiet a fine) in
+    let quiet : is_empty (a.signals ++ []) ≡ true = ap (λ (l : List Fault). is_empty (l ++ [])) (constant_quiet a fine) in
     let no : true ≡ false = sym quiet ∙ varies in cc
 takes_one (Some Clog2) span (a ∷ b ∷ more) ps fine none varies = cc
 takes_one (Some Random) span args ps fine none varies = cc

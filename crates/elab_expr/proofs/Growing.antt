@@ -46,6 +46,7 @@ more_short n m (error.TooMany kind.Scopes) le h = h
 more_short n m error.Memory le h = tt
 more_short n m (error.Unknown s) le h = h
 more_short n m (error.NotConstant s) le h = h
+more_short n m (error.Drawn s) le h = h
 more_short n m (error.DivideByZero s) le h = h
 more_short n m (error.TooWide s) le h = h
 more_short n m (error.Unsupported s f) le h = h

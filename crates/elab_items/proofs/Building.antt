@@ -157,6 +157,7 @@ error_of cause.RangeForm span = refl
 error_of cause.SystemFunction span = refl
 error_of cause.DivideOrPower span = refl
 error_of cause.IndexedBase span = refl
+error_of cause.Drawn span = refl
 
 short_of : (names : Names) (value : Expr) (width cells : ℕ) (error : ElabError) → least (right_refusals names value width) ≡ None → IsShortOf (cells + length (right_cells names value width)) error → FailsInput names value width cells (input_error error)
 short_of names value width cells (elab.TooMany kind.Cells) none h = (sym (ap (option_map wrong_value) none), h)

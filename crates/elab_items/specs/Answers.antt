@@ -30,6 +30,7 @@ const_answer (constant.NotConstant span) = NotConstant span
 const_answer (constant.DivideByZero span) = DivideByZero span
 const_answer (constant.TooWide span) = TooWide span
 const_answer (constant.SystemFunction span) = Unsupported span feature.SystemFunction
+const_answer (constant.Drawn span) = Unsupported span feature.SystemFunction
 
 -- what is wrong in an expression, or not supported in it
 abbrev pub fault_answer : Span → Cause → ElabError
@@ -41,6 +42,7 @@ fault_answer span cause.RangeForm = Unsupported span feature.RangeForm
 fault_answer span cause.SystemFunction = Unsupported span feature.SystemFunction
 fault_answer span cause.DivideOrPower = Unsupported span feature.DivideOrPower
 fault_answer span cause.IndexedBase = Unsupported span feature.IndexedBase
+fault_answer span cause.Drawn = Unsupported span feature.SystemFunction
 
 -- declarations
 abbrev pub range_answer : RangeError → ElabError

@@ -196,6 +196,7 @@ unsupported span other = Memory
 abbrev pub input_error : ElabError → BuildError
 input_error (elab.Unknown span) = wrong cause.Unknown span
 input_error (elab.NotConstant span) = wrong cause.NotConstant span
+input_error (elab.Drawn span) = wrong cause.Drawn span
 input_error (elab.DivideByZero span) = wrong cause.DivideByZero span
 input_error (elab.TooWide span) = wrong cause.TooWide span
 input_error (elab.Unsupported span x) = unsupported span x

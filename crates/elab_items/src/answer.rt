@@ -63,6 +63,7 @@ fn const_answer(error: ConstError) -> ElabError
         ConstError::DivideByZero(span) => ElabError::DivideByZero(span),
         ConstError::TooWide(span) => ElabError::TooWide(span),
         ConstError::SystemFunction(span) => ElabError::Unsupported(span, Feature::SystemFunction),
+        ConstError::Drawn(span) => ElabError::Unsupported(span, Feature::SystemFunction),
     }
 }
 
@@ -77,7 +78,9 @@ fn fault_answer(fault: Fault) -> ElabError
         Cause::DivideByZero => ElabError::DivideByZero(span),
         Cause::TooWide => ElabError::TooWide(span),
         Cause::RangeForm => ElabError::Unsupported(span, Feature::RangeForm),
-        Cause::SystemFunction => ElabError::Unsupported(span, Feature::SystemFunction),
+        Cause::SystemFunction | Cause::Drawn => {
+            ElabError::Unsupported(span, Feature::SystemFunction)
+        }
         Cause::DivideOrPower => ElabError::Unsupported(span, Feature::DivideOrPower),
         Cause::IndexedBase => ElabError::Unsupported(span, Feature::IndexedBase),
     }

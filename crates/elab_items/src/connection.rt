@@ -50,6 +50,7 @@ fn input_error(error: ElabError) -> BuildError
     match error {
         ElabError::Unknown(span) => wrong(Cause::Unknown, span),
         ElabError::NotConstant(span) => wrong(Cause::NotConstant, span),
+        ElabError::Drawn(span) => wrong(Cause::Drawn, span),
         ElabError::DivideByZero(span) => wrong(Cause::DivideByZero, span),
         ElabError::TooWide(span) => wrong(Cause::TooWide, span),
         ElabError::Unsupported(span, feature) => unsupported(span, feature),

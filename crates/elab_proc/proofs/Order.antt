@@ -17,7 +17,7 @@ use Rattle.elab_proc.specs.Order.{place, rank, detail, precedes, IsAmong, NoneBe
 -- A cause and a feature are told by their place in their order.
 
 causes : List Cause
-causes = c.Unknown ∷ c.NotConstant ∷ c.DivideByZero ∷ c.TooWide ∷ c.RangeForm ∷ c.SystemFunction ∷ c.DivideOrPower ∷ c.IndexedBase ∷ []
+causes = c.Unknown ∷ c.NotConstant ∷ c.DivideByZero ∷ c.TooWide ∷ c.RangeForm ∷ c.SystemFunction ∷ c.DivideOrPower ∷ c.IndexedBase ∷ c.Drawn ∷ []
 
 cause_again : (x : Cause) → get_or causes (cause_rank x) c.Unknown ≡ x
 unfolding causes
@@ -29,6 +29,7 @@ cause_again c.RangeForm = refl
 cause_again c.SystemFunction = refl
 cause_again c.DivideOrPower = refl
 cause_again c.IndexedBase = refl
+cause_again c.Drawn = refl
 
 cause_same : (x y : Cause) → cause_rank x ≡ cause_rank y → x ≡ y
 cause_same x y e = sym (cause_again x) ∙ ap (λ (n : ℕ). get_or causes n c.Unknown) e ∙ cause_again y

@@ -106,6 +106,7 @@ const_refusal (k.NotConstant span) = Wrong (fault cause.NotConstant span)
 const_refusal (k.DivideByZero span) = Wrong (fault cause.DivideByZero span)
 const_refusal (k.TooWide span) = Wrong (fault cause.TooWide span)
 const_refusal (k.SystemFunction span) = Wrong (fault cause.SystemFunction span)
+const_refusal (k.Drawn span) = Wrong (fault cause.Drawn span)
 
 abbrev pub flaw_refusal : Flaw → Refusal
 flaw_refusal (Const error) = const_refusal error

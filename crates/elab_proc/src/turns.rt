@@ -61,6 +61,7 @@ pub(crate) fn of_const(error: ConstError) -> Refusal
         ConstError::DivideByZero(span) => wrong(Cause::DivideByZero, span),
         ConstError::TooWide(span) => wrong(Cause::TooWide, span),
         ConstError::SystemFunction(span) => wrong(Cause::SystemFunction, span),
+        ConstError::Drawn(span) => wrong(Cause::Drawn, span),
     }
 }
 

@@ -13,13 +13,12 @@ use Rattle.vlog_syntax.specs.declared.expr.Expr.TheVariants as v
 use Rattle.vlog_syntax.specs.declared.expr.Expr.TheViews.{roll-Expr}
 use Rattle.vlog_syntax.specs.declared.expr.Expr.TheFolds.{fold-roll-Expr, ind-Expr, map-Expr}
 use Rattle.vlog_syntax.specs.Places.{first_token, first_step}
-use Rattle.vlog_meaning.specs.declared.fault.Cause.TheVariants.{NotConstant}
 use Rattle.vlog_meaning.specs.declared.fault.Fault.{Fault}
 use Rattle.vlog_meaning.specs.declared.shapes.Shape.{Shape}
-use Rattle.vlog_meaning.specs.Answers.{least, least_at, earlier}
+use Rattle.vlog_meaning.specs.Answers.{least, earlier}
 use Rattle.vlog_meaning.specs.Scopes.{Names, Store}
 use Rattle.vlog_meaning.specs.Senses.{Sense, sense, step, is_empty, binary_features}
-use Rattle.vlog_meaning.proofs.Firsts.{least_none, least_nil}
+use Rattle.vlog_meaning.proofs.Firsts.{least_none}
 use Rattle.vlog_meaning.proofs.Refusals.{least_empty, pair_first}
 use Rattle.vlog_meaning.proofs.Settled.{settled}
 use Rattle.expr_plans.specs.Made.{Plan, plan, plans, plan_step, all_unsupported}
@@ -125,11 +124,11 @@ plan_first names x = (says names x).first
 
 -- Tests.
 
-pub none_read : (xs : List Span) (o : Option Fault) (b : Bool) → o ≡ least_at NotConstant xs → b ≡ is_none o → b ≡ is_empty xs
-none_read [] o b is test = test ∙ ap is_none (is ∙ sym (least_nil NotConstant))
+pub none_read : (xs : List Fault) (o : Option Fault) (b : Bool) → o ≡ least xs → b ≡ is_none o → b ≡ is_empty xs
+none_read [] o b is test = test ∙ ap is_none (is ∙ sym least_empty)
 none_read (x ∷ xs) o b is test = go o is test
   where
-    go : (o : Option Fault) → o ≡ least_at NotConstant (x ∷ xs) → b ≡ is_none o → b ≡ false
+    go : (o : Option Fault) → o ≡ least (x ∷ xs) → b ≡ is_none o → b ≡ false
     go (Some f) is test = test
     go None is test = let none = least_none _ (sym is) in cc
 

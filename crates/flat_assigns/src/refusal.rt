@@ -50,6 +50,7 @@ impl AssignError {
             ElabError::Memory
             | ElabError::Unknown(_)
             | ElabError::NotConstant(_)
+            | ElabError::Drawn(_)
             | ElabError::DivideByZero(_)
             | ElabError::TooWide(_)
             | ElabError::Unsupported(..) => AssignError::Memory,

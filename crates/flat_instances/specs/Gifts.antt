@@ -121,6 +121,7 @@ const_place (k.NotConstant at) = at
 const_place (k.DivideByZero at) = at
 const_place (k.TooWide at) = at
 const_place (k.SystemFunction at) = at
+const_place (k.Drawn at) = at
 
 abbrev pub place_of : ParameterError → Span
 place_of (Unknown at) = at

@@ -56,6 +56,7 @@ fn const_place(error: ConstError) -> Span
         ConstError::DivideByZero(span) => span,
         ConstError::TooWide(span) => span,
         ConstError::SystemFunction(span) => span,
+        ConstError::Drawn(span) => span,
     }
 }
 

@@ -18,6 +18,7 @@ fn put_const_error(page: &mut Page, error: ConstError) {
         ConstError::DivideByZero(place) => put_at(page, "DivideByZero", place),
         ConstError::TooWide(place) => put_at(page, "TooWide", place),
         ConstError::SystemFunction(place) => put_at(page, "SystemFunction", place),
+        ConstError::Drawn(place) => put_at(page, "SystemFunction", place),
     }
 }
 

@@ -13,8 +13,10 @@ use vlog_syntax::Feature;
 pub enum ElabError {
     /// A name is not declared.
     Unknown(Span),
-    /// A signal is read, or a value changes, where a constant is asked for.
+    /// A signal is read where a constant is asked for.
     NotConstant(Span),
+    /// A value changes where a constant is asked for.
+    Drawn(Span),
     /// A constant is divided by 0.
     DivideByZero(Span),
     /// A part has no bits, or more than 128.
@@ -50,6 +52,7 @@ impl ElabError {
             Cause::SystemFunction => ElabError::Unsupported(span, Feature::SystemFunction),
             Cause::DivideOrPower => ElabError::Unsupported(span, Feature::DivideOrPower),
             Cause::IndexedBase => ElabError::Unsupported(span, Feature::IndexedBase),
+            Cause::Drawn => ElabError::Drawn(span),
         }
     }
 }

@@ -14,14 +14,14 @@ use Rattle.vlog_syntax.specs.declared.stmt.Stmt.TheOpen as t
 use Rattle.vlog_syntax.specs.declared.stmt.Stmt.TheVariants.{SeqBlock, BlockingAssignment, rolls-SeqBlock, rolls-BlockingAssignment}
 use Rattle.vlog_syntax.specs.declared.stmt.Stmt.TheFolds.{fold-roll-Stmt}
 use Rattle.vlog_syntax.specs.Places.{left_first_token}
-use Rattle.vlog_meaning.specs.declared.fault.Cause.TheVariants.{NotConstant}
 use Rattle.vlog_meaning.specs.declared.fault.Fault.{Fault}
 use Rattle.vlog_meaning.specs.declared.scope.Decl.{Decl}
-use Rattle.vlog_meaning.specs.Answers.{least, least_at}
+use Rattle.vlog_meaning.specs.Answers.{least}
 use Rattle.vlog_meaning.specs.Operators.{IsSized}
 use Rattle.vlog_meaning.specs.Scopes.{Names, decl_shape}
 use Rattle.vlog_meaning.specs.Senses.{Sense, sense, assigned, fault, not_constant, constant_faults_at, is_empty}
-use Rattle.vlog_meaning.proofs.Firsts.{least_none, least_nil}
+use Rattle.vlog_meaning.proofs.Firsts.{least_none}
+use Rattle.vlog_meaning.proofs.Refusals.{least_empty}
 use Rattle.vlog_effects.specs.Steps.{name_alone}
 use Rattle.vlog_effects.proofs.Folds.{out-name}
 use Rattle.elab_proc.specs.declared.refusal.Refusal.{Refusal}
@@ -72,28 +72,24 @@ other_first names a o none i = subst (λ (x : Option Identifier). IsFirst (assig
 
 -- Values.
 
-some_signal : (xs : List Span) (o : Option Fault) (f : Fault) → o ≡ least_at NotConstant xs → o ≡ Some f → is_empty xs ≡ false
-some_signal [] o f is some = let e : Some f ≡ None = sym some ∙ is ∙ sym (least_nil NotConstant) in absurd cc
+some_signal : (xs : List Fault) (o : Option Fault) (f : Fault) → o ≡ least xs → o ≡ Some f → is_empty xs ≡ false
+some_signal [] o f is some = let e : Some f ≡ None = sym some ∙ is ∙ sym least_empty in absurd cc
 some_signal (x ∷ xs) o f is some = refl
 
-no_spans : (xs : List Span) → map (fault NotConstant) xs ≡ [] → xs ≡ []
-no_spans [] e = refl
-no_spans (x ∷ xs) e = absurd cc
+pub no_signal : (xs : List Fault) (o : Option Fault) → o ≡ least xs → o ≡ None → xs ≡ []
+no_signal xs o is none = least_none xs (sym is ∙ none)
 
-pub no_signal : (xs : List Span) (o : Option Fault) → o ≡ least_at NotConstant xs → o ≡ None → xs ≡ []
-no_signal xs o is none = no_spans xs (least_none (map (fault NotConstant) xs) (sym is ∙ none))
-
-pub signal_first : (names : Names) (n : Identifier) (width : ℕ) (value : Expr) (s : Option Fault) (f : Fault) (o : Option Refusal) → s ≡ least_at NotConstant (sense names value).signals → s ≡ Some f → IsFirst (Unsupported n.span InitialForm ∷ []) o → IsFirst (value_refusals names n width value) o
+pub signal_first : (names : Names) (n : Identifier) (width : ℕ) (value : Expr) (s : Option Fault) (f : Fault) (o : Option Refusal) → s ≡ least (sense names value).signals → s ≡ Some f → IsFirst (Unsupported n.span InitialForm ∷ []) o → IsFirst (value_refusals names n width value) o
 signal_first names n width value s f o is some i =
     subst (λ (b : Bool). IsFirst (if b then map Wrong (constant_faults_at (sense names value) (assigned (sense names value) width)) else Unsupported n.span InitialForm ∷ []) o) (sym (some_signal (sense names value).signals s f is some)) i
 
 pub constant_first : (names : Names) (n : Identifier) (width : ℕ) (value : Expr) (o : Option Refusal) → (sense names value).signals ≡ [] → IsFirst (map Wrong (constant_faults_at (sense names value) (assigned (sense names value) width))) o → IsFirst (value_refusals names n width value) o
 constant_first names n width value o none i =
-    subst (λ (b : Bool). IsFirst (if b then map Wrong (constant_faults_at (sense names value) (assigned (sense names value) width)) else Unsupported n.span InitialForm ∷ []) o) (sym (ap (λ (l : List Span). is_empty l) none)) i
+    subst (λ (b : Bool). IsFirst (if b then map Wrong (constant_faults_at (sense names value) (assigned (sense names value) width)) else Unsupported n.span InitialForm ∷ []) o) (sym (ap (λ (l : List Fault). is_empty l) none)) i
 
 -- the faults of a value that reads no signal
 pub only_faults : (x : Sense) (o : Option Fault) → x.signals ≡ [] → o ≡ least x.faults → o ≡ least (not_constant x)
-only_faults x o none is = is ∙ ap (λ (l : List Span). least (map (fault NotConstant) l ++ x.faults)) (sym none)
+only_faults x o none is = is ∙ ap (λ (l : List Fault). least (l ++ x.faults)) (sym none)
 
 pub sized_there : (names : Names) (n : Identifier) (d e : Option Decl) → d ≡ names n.name → d ≡ e → AreSized names → IsSized (decl_shape e)
 sized_there names n d e is same sized = subst (λ (x : Option Decl). IsSized (decl_shape x)) (sym is ∙ same) (sized n.name)

@@ -17,6 +17,7 @@ of_cause c.RangeForm span = e.Unsupported span f.RangeForm
 of_cause c.SystemFunction span = e.Unsupported span f.SystemFunction
 of_cause c.DivideOrPower span = e.Unsupported span f.DivideOrPower
 of_cause c.IndexedBase span = e.Unsupported span f.IndexedBase
+of_cause c.Drawn span = e.NotConstant span
 
 abbrev pub error_of : BenchFault → BenchError
 error_of (b.Wrong x) = of_cause x.cause x.span

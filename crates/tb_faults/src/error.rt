@@ -41,7 +41,7 @@ fn of_fault(fault: Fault) -> BenchError
     let span = fault.span;
     match fault.cause {
         Cause::Unknown => BenchError::Unknown(span),
-        Cause::NotConstant => BenchError::NotConstant(span),
+        Cause::NotConstant | Cause::Drawn => BenchError::NotConstant(span),
         Cause::DivideByZero => BenchError::DivideByZero(span),
         Cause::TooWide => BenchError::TooWide(span),
         Cause::RangeForm => BenchError::Unsupported(span, Feature::RangeForm),

@@ -19,6 +19,7 @@ pub(crate) fn cause_rank(cause: Cause) -> u32
         Cause::SystemFunction => 5,
         Cause::DivideOrPower => 6,
         Cause::IndexedBase => 7,
+        Cause::Drawn => 8,
     }
 }
 

@@ -21,6 +21,7 @@ of_const (k.NotConstant span) = wrong c.NotConstant span
 of_const (k.DivideByZero span) = wrong c.DivideByZero span
 of_const (k.TooWide span) = wrong c.TooWide span
 of_const (k.SystemFunction span) = wrong c.SystemFunction span
+of_const (k.Drawn span) = wrong c.Drawn span
 
 abbrev pub of_range : RangeError → BenchFault
 of_range (Bound error) = of_const error

@@ -24,6 +24,7 @@ pub fn of_const(error: ConstError) -> BenchFault
         ConstError::DivideByZero(span) => wrong(Cause::DivideByZero, span),
         ConstError::TooWide(span) => wrong(Cause::TooWide, span),
         ConstError::SystemFunction(span) => wrong(Cause::SystemFunction, span),
+        ConstError::Drawn(span) => wrong(Cause::Drawn, span),
     }
 }
 

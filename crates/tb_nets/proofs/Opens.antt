@@ -7,23 +7,23 @@ use Rattle.vlog_syntax.specs.declared.identifier.Identifier.{Identifier}
 use Rattle.vlog_syntax.specs.declared.expr.Expr.{Expr}
 use Rattle.vlog_syntax.specs.declared.left_side.LeftSide.{LeftSide}
 use Rattle.vlog_syntax.specs.declared.left_side.LeftSide.TheVariants as lv
-use Rattle.vlog_meaning.specs.declared.fault.Cause.TheVariants.{NotConstant}
 use Rattle.vlog_meaning.specs.declared.fault.Fault.{Fault}
-use Rattle.vlog_meaning.specs.Answers.{least_at}
+use Rattle.vlog_meaning.specs.Answers.{least}
 use Rattle.vlog_meaning.specs.Operators.{IsSized}
 use Rattle.vlog_meaning.specs.Scopes.{Names, decl_shape}
 use Rattle.vlog_meaning.specs.Senses.{sense, is_empty, name_bits}
-use Rattle.vlog_meaning.proofs.Firsts.{least_none, least_nil}
+use Rattle.vlog_meaning.proofs.Firsts.{least_none}
+use Rattle.vlog_meaning.proofs.Refusals.{least_empty}
 use Rattle.vlog_effects.specs.LeftSides.{Whole, Bit, Range, Indexed, Part, parts_of, concatenated}
 use Rattle.vlog_effects.proofs.Folds.{parts-name, parts-bit, parts-range, parts-indexed, parts-concatenation}
 use Rattle.signal_masks.specs.Parts.{AreFit}
 use Rattle.tb_nets.specs.Lefts.{part_opens, parts_open}
 
-pub none_read : (xs : List Span) (o : Option Fault) (b : Bool) → o ≡ least_at NotConstant xs → b ≡ is_none o → b ≡ is_empty xs
-none_read [] o b is test = test ∙ ap is_none (is ∙ sym (least_nil NotConstant))
+pub none_read : (xs : List Fault) (o : Option Fault) (b : Bool) → o ≡ least xs → b ≡ is_none o → b ≡ is_empty xs
+none_read [] o b is test = test ∙ ap is_none (is ∙ sym least_empty)
 none_read (x ∷ xs) o b is test = go o is test
   where
-    go : (o : Option Fault) → o ≡ least_at NotConstant (x ∷ xs) → b ≡ is_none o → b ≡ false
+    go : (o : Option Fault) → o ≡ least (x ∷ xs) → b ≡ is_none o → b ≡ false
     go (Some f) is test = test
     go None is test = let none = least_none _ (sym is) in cc
 

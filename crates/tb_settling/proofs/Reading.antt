@@ -12,7 +12,6 @@ use Rattle.vlog_syntax.specs.declared.expr.Expr.TheOpen.{Expr-F}
 use Rattle.vlog_syntax.specs.declared.expr.Expr.TheViews.{roll-Expr}
 use Rattle.vlog_syntax.specs.declared.expr.Expr.TheFolds.{fold-roll-Expr, ind-Expr, map-Expr}
 use Rattle.vlog_syntax.specs.declared.identifier.Identifier.{Identifier}
-use Rattle.vlog_meaning.specs.declared.fault.Cause.TheVariants.{NotConstant}
 use Rattle.vlog_meaning.specs.declared.function.Function.{Function}
 use Rattle.vlog_meaning.specs.declared.function.Function.TheVariants.{Signed, Unsigned, Clog2, Random, Time}
 use Rattle.vlog_meaning.specs.declared.scope.Decl.{Decl}
@@ -59,13 +58,9 @@ part_same (Some (Signal width low is_signed number)) from size s t within within
 part_same (Some (Constant value low is_signed)) from size s t within within_too agree = refl
 part_same None from size s t within within_too agree = refl
 
-map_nil : {A B : Type 0} (f : A → B) (xs : List A) → map f xs ≡ [] → xs ≡ []
-map_nil f [] e = refl
-map_nil f (x ∷ xs) e = absurd cc
-
 -- a constant reads no signal
 quiet_constant : (a : Sense) → constant_faults a ≡ [] → a.signals ≡ []
-quiet_constant a e = map_nil (fault NotConstant) a.signals (left_nil _ a.faults (these_nil _ _ e))
+quiet_constant a e = left_nil _ a.faults (these_nil _ _ e)
 
 -- what a part says in a design, and in an evaluation: one that reads no signal says the same, and the value of one in which
 -- nothing is wrong depends on the bits that are read
@@ -93,7 +88,7 @@ from_step names phase x rests g = rw (fold-roll-Expr Sense (step names) x, fold-
 select_same : (names : Names) (s t : Store) → AreWithin names s → AreWithin names t → (d : Option Decl) (x : Expr) (a : Sense) (size : ℕ) → IsWithin s d → IsWithin t d → ((sense names x).signals ≡ [] → a ≡ sense names x) → (Agree (sense names x).reads s t → (c : Shape) → a.value s c ≡ a.value t c) → Agree (select_bits d (sense names x) size) s t → window (index_of s a -ℤ pos (decl_low d)) size (decl_value s d) ≡ window (index_of t a -ℤ pos (decl_low d)) size (decl_value t d)
 select_same names s t within within_too d x a size w w_too quiet rests agree = go (sense names x).signals refl
   where
-    go : (signals : List Span) → (sense names x).signals ≡ signals → window (index_of s a -ℤ pos (decl_low d)) size (decl_value s d) ≡ window (index_of t a -ℤ pos (decl_low d)) size (decl_value t d)
+    go : (signals : List Fault) → (sense names x).signals ≡ signals → window (index_of s a -ℤ pos (decl_low d)) size (decl_value s d) ≡ window (index_of t a -ℤ pos (decl_low d)) size (decl_value t d)
     go [] is =
         let place : ℤ = constant_integer (sense names x) in
         let bits : Agree (part_bits d (place -ℤ pos (decl_low d)) size) s t = rw is at agree in

@@ -9,7 +9,6 @@ use Rattle.vlog_syntax.specs.declared.expr.Expr.TheOpen.{Expr-F}
 use Rattle.vlog_syntax.specs.declared.expr.Expr.TheViews.{roll-Expr}
 use Rattle.vlog_syntax.specs.declared.expr.Expr.TheFolds.{fold-roll-Expr, ind-Expr, map-Expr}
 use Rattle.vlog_syntax.specs.declared.identifier.Identifier.{Identifier}
-use Rattle.vlog_meaning.specs.declared.fault.Cause.TheVariants.{NotConstant}
 use Rattle.vlog_meaning.specs.declared.fault.Fault.{Fault}
 use Rattle.vlog_meaning.specs.declared.function.Function.{Function}
 use Rattle.vlog_meaning.specs.declared.function.Function.TheVariants.{Signed, Unsigned, Clog2, Random, Time}
@@ -34,13 +33,9 @@ record KeepAll (ss ds : List Sense) : Type 0 where
 both_nil : (xs ys : List Fault) → xs ≡ [] → ys ≡ [] → xs ++ ys ≡ []
 both_nil xs ys e f = rw (e, f) refl
 
-map_nil : {A B : Type 0} (f : A → B) (xs : List A) → map f xs ≡ [] → xs ≡ []
-map_nil f [] e = refl
-map_nil f (x ∷ xs) e = absurd cc
-
 -- a constant reads no signal
 quiet_constant : (a : Sense) → constant_faults a ≡ [] → a.signals ≡ []
-quiet_constant a e = map_nil (fault NotConstant) a.signals (left_nil _ a.faults (these_nil _ _ e))
+quiet_constant a e = left_nil _ a.faults (these_nil _ _ e)
 
 abbrev KeptAt : Names → ℕ → Expr → Type 0
 KeptAt names phase x = (g : Lcg) → Keeps (sense names x) (drawn names phase x g).0

@@ -73,7 +73,7 @@ pair_of cause xs ys a b r is left right = is ∙ ap (λ (o : Option Fault). earl
 pub signals_take : (names : Names) (es : List Expr) (k : ℕ) (x : Expr) → x ≡ get_or es k x → k < length es → all_signals (senses names (take (suc k) es)) ≡ all_signals (senses names (take k es)) ++ (sense names x).signals
 signals_take names [] k x is h = absurd (omega arith)
 signals_take names (e ∷ es) zero x is h = append-nil (sense names e).signals ∙ ap (λ (y : Expr). (sense names y).signals) (sym is)
-signals_take names (e ∷ es) (suc k) x is h = ap (λ (l : List Span). (sense names e).signals ++ l) (signals_take names es k x is (omega arith)) ∙ sym (append_assoc (sense names e).signals (all_signals (senses names (take k es))) (sense names x).signals)
+signals_take names (e ∷ es) (suc k) x is h = ap (λ (l : List Fault). (sense names e).signals ++ l) (signals_take names es k x is (omega arith)) ∙ sym (append_assoc (sense names e).signals (all_signals (senses names (take k es))) (sense names x).signals)
 
 pub faults_take : (names : Names) (es : List Expr) (k : ℕ) (x : Expr) → x ≡ get_or es k x → k < length es → all_faults (senses names (take (suc k) es)) ≡ all_faults (senses names (take k es)) ++ (sense names x).faults
 faults_take names [] k x is h = absurd (omega arith)

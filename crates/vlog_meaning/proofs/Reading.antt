@@ -67,7 +67,7 @@ module _ (names : Names) (s t : Store) (within : AreWithin names s) (within_too 
   select_same : (d : Option Decl) (x : Expr) (size : ℕ) → IsWithin s d → IsWithin t d → Rests names x → Agree (select_bits d (sense names x) size) s t → window (index_of s (sense names x) -ℤ pos (decl_low d)) size (decl_value s d) ≡ window (index_of t (sense names x) -ℤ pos (decl_low d)) size (decl_value t d)
   select_same d x size w w_too rests agree = go (sense names x).signals refl
     where
-      go : (signals : List Span) → (sense names x).signals ≡ signals → window (index_of s (sense names x) -ℤ pos (decl_low d)) size (decl_value s d) ≡ window (index_of t (sense names x) -ℤ pos (decl_low d)) size (decl_value t d)
+      go : (signals : List Fault) → (sense names x).signals ≡ signals → window (index_of s (sense names x) -ℤ pos (decl_low d)) size (decl_value s d) ≡ window (index_of t (sense names x) -ℤ pos (decl_low d)) size (decl_value t d)
       go [] is =
           let bits : Agree (part_bits d (constant_integer (sense names x) -ℤ pos (decl_low d)) size) s t = rw is at agree in
           rw (settled names x is s (sense names x).shape, settled names x is t (sense names x).shape) (part_same d _ size s t w w_too bits)

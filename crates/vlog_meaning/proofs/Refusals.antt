@@ -1,14 +1,12 @@
 -- The first fault where one list of faults is looked at only if another is empty.
-use Rattle.std.proofs.Common.{◌≡◌, List, [], ◌∷◌, ◌++◌, map, refl, sym, ap, ◌∙◌, subst}
+use Rattle.std.proofs.Common.{◌≡◌, List, [], ◌∷◌, ◌++◌, refl, sym, ap, ◌∙◌, subst}
 use Rattle.std.specs.Prelude.{Option, None, Some}
-use Rattle.mcy_base.specs.declared.span.Span.{Span}
 use Rattle.vlog_syntax.specs.declared.expr.Expr.{Expr}
-use Rattle.vlog_meaning.specs.declared.fault.Cause.TheVariants.{NotConstant}
 use Rattle.vlog_meaning.specs.declared.fault.Fault.{Fault}
 use Rattle.vlog_meaning.specs.declared.shapes.Shape.{Shape}
 use Rattle.vlog_meaning.specs.Scopes.{Names}
 use Rattle.vlog_meaning.specs.Answers.{least, earlier}
-use Rattle.vlog_meaning.specs.Senses.{Sense, sense, senses, fault, or_else, not_constant, constant_faults, constant_faults_at, all_faults, IsWhole, AreWhole}
+use Rattle.vlog_meaning.specs.Senses.{Sense, sense, senses, or_else, not_constant, constant_faults, constant_faults_at, all_faults, IsWhole, AreWhole}
 use Rattle.vlog_meaning.proofs.Blanks.{left_nil, right_nil, these_nil}
 use Rattle.vlog_meaning.proofs.Firsts.{least_none, least_append}
 
@@ -37,15 +35,11 @@ constant_is_whole names e o is none = constant_whole (sense names e) (least_none
 pub constant_is_whole_at : (names : Names) (e : Expr) (c : Shape) (o : Option Fault) → o ≡ least (constant_faults_at (sense names e) c) → o ≡ None → IsWhole names e
 constant_is_whole_at names e c o is none = right_nil _ _ (these_nil _ _ (least_none _ (sym is ∙ none)))
 
-pub no_places : (xs : List Span) → map (fault NotConstant) xs ≡ [] → xs ≡ []
-no_places [] e = refl
-no_places (x ∷ xs) e = cc
-
 pub constant_is_settled : (names : Names) (e : Expr) (o : Option Fault) → o ≡ least (constant_faults (sense names e)) → o ≡ None → (sense names e).signals ≡ []
-constant_is_settled names e o is none = no_places _ (left_nil _ _ (these_nil _ _ (least_none _ (sym is ∙ none))))
+constant_is_settled names e o is none = left_nil _ _ (these_nil _ _ (least_none _ (sym is ∙ none)))
 
 pub constant_is_settled_at : (names : Names) (e : Expr) (c : Shape) (o : Option Fault) → o ≡ least (constant_faults_at (sense names e) c) → o ≡ None → (sense names e).signals ≡ []
-constant_is_settled_at names e c o is none = no_places _ (left_nil _ _ (these_nil _ _ (least_none _ (sym is ∙ none))))
+constant_is_settled_at names e c o is none = left_nil _ _ (these_nil _ _ (least_none _ (sym is ∙ none)))
 
 pub bounds_first : (names : Names) (m l : Expr) (o : Option Fault) → o ≡ least (constant_faults (sense names m) ++ constant_faults (sense names l)) → o ≡ None → IsWhole names m
 bounds_first names m l o is none = constant_whole (sense names m) (left_nil _ _ (least_none _ (sym is ∙ none)))
@@ -66,5 +60,5 @@ pub rest_is_whole : (names : Names) (e : Expr) (o : Option Fault) → o ≡ leas
 rest_is_whole names e o is none = right_nil _ _ (least_none _ (sym is ∙ none))
 
 -- signals, and then faults
-pub not_constant_first : (a : Sense) (s f r : Option Fault) → r ≡ earlier s f → s ≡ least (map (fault NotConstant) a.signals) → f ≡ least a.faults → r ≡ least (not_constant a)
-not_constant_first a s f r is left right = pair_first (map (fault NotConstant) a.signals) a.faults s f r is left right
+pub not_constant_first : (a : Sense) (s f r : Option Fault) → r ≡ earlier s f → s ≡ least a.signals → f ≡ least a.faults → r ≡ least (not_constant a)
+not_constant_first a s f r is left right = pair_first a.signals a.faults s f r is left right

@@ -18,6 +18,7 @@ rank c.RangeForm = 4
 rank c.SystemFunction = 5
 rank c.DivideOrPower = 6
 rank c.IndexedBase = 7
+rank c.Drawn = 8
 
 -- f comes before g: by file, line, column and cause
 abbrev pub precedes : Fault → Fault → Bool
@@ -46,6 +47,7 @@ least_at cause spans = least (map (fault cause) spans)
 abbrev pub const_error_of : Cause → Span → ConstError
 const_error_of c.Unknown span = k.Unknown span
 const_error_of c.SystemFunction span = k.SystemFunction span
+const_error_of c.Drawn span = k.Drawn span
 const_error_of c.DivideByZero span = k.DivideByZero span
 const_error_of c.TooWide span = k.TooWide span
 const_error_of c.RangeForm span = k.TooWide span

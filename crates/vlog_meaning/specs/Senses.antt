@@ -9,7 +9,7 @@ use Rattle.vlog_syntax.specs.declared.expr.Expr.TheFolds.{fold-Expr}
 use Rattle.vlog_syntax.specs.declared.operator.BinaryOperator.{BinaryOperator}
 use Rattle.vlog_syntax.specs.declared.operator.BinaryOperator.TheVariants.{Power, Divide, Modulus}
 use Rattle.vlog_meaning.specs.declared.fault.Cause.{Cause}
-use Rattle.vlog_meaning.specs.declared.fault.Cause.TheVariants.{Unknown, NotConstant, DivideByZero, TooWide, RangeForm, SystemFunction, DivideOrPower, IndexedBase}
+use Rattle.vlog_meaning.specs.declared.fault.Cause.TheVariants.{Unknown, NotConstant, DivideByZero, TooWide, RangeForm, SystemFunction, DivideOrPower, IndexedBase, Drawn}
 use Rattle.vlog_meaning.specs.declared.fault.Fault.{Fault}
 use Rattle.vlog_meaning.specs.declared.function.Function.{Function}
 use Rattle.vlog_meaning.specs.declared.function.Function.TheVariants.{Signed, Unsigned, Clog2, Random, Time}
@@ -29,8 +29,8 @@ pub record Sense : Type 0 where
   pub value : Store → Shape → ℕ
   -- the bits of signals on which its value depends: by the number of the signal, and the bit's place from the lowest on
   pub reads : ℕ → ℕ → Bool
-  -- where it reads signals, which a constant does not
-  pub signals : List Span
+  -- where it reads signals, or calls what has another value each time, which a constant does not
+  pub signals : List Fault
   -- why it has no shape: what is wrong in it, each at its place
   pub faults : List Fault
   -- what an expression that is no constant may not hold
@@ -64,7 +64,7 @@ or_else (x ∷ these) those = x ∷ these
 
 -- why it is no constant, or has no shape
 abbrev pub not_constant : Sense → List Fault
-not_constant a = map (fault NotConstant) a.signals ++ a.faults
+not_constant a = a.signals ++ a.faults
 
 -- why it has no constant value at a width and sign
 abbrev pub constant_faults_at : Sense → Shape → List Fault
@@ -204,22 +204,22 @@ reads_step names (e.SystemFunctionCall n arguments) = all_reads arguments
 
 -- What is wrong.
 
-abbrev pub name_signals : Span → Option Decl → List Span
-name_signals span (Some (Signal width low is_signed number)) = span ∷ []
+abbrev pub name_signals : Span → Option Decl → List Fault
+name_signals span (Some (Signal width low is_signed number)) = fault NotConstant span ∷ []
 name_signals span other = []
 
-abbrev pub all_signals : List Sense → List Span
+abbrev pub all_signals : List Sense → List Fault
 all_signals [] = []
 all_signals (a ∷ more) = a.signals ++ all_signals more
 
 -- a call that changes from one evaluation to the next
-abbrev pub call_signals : Option Function → Span → List Span
-call_signals (Some Random) span = span ∷ []
-call_signals (Some Time) span = span ∷ []
+abbrev pub call_signals : Option Function → Span → List Fault
+call_signals (Some Random) span = fault Drawn span ∷ []
+call_signals (Some Time) span = fault Drawn span ∷ []
 call_signals function span = []
 
--- the places of the signals that are read in it
-abbrev pub signals_step : Names → Expr-F Sense → List Span
+-- the signals that are read in it, and such calls
+abbrev pub signals_step : Names → Expr-F Sense → List Fault
 signals_step names (e.Number n) = []
 signals_step names (e.Name n) = name_signals n.span (names n.name)
 signals_step names (e.BitSelect n s i) = name_signals n.span (names n.name) ++ i.signals

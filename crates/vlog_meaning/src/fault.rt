@@ -26,6 +26,8 @@ pub enum Cause {
     DivideOrPower,
     /// A select that is not constant of a vector whose lowest bit is not 0.
     IndexedBase,
+    /// A call that has another value each time, where a constant must stand: a testbench has such calls, and a design has none.
+    Drawn,
 }
 
 /// A cause and its place.
@@ -44,6 +46,8 @@ pub enum ConstError {
     TooWide(Span),
     /// A system function that has no meaning here.
     SystemFunction(Span),
+    /// A call that has another value each time.
+    Drawn(Span),
 }
 
 impl Cause {
@@ -60,6 +64,7 @@ impl Cause {
             Cause::SystemFunction => 5,
             Cause::DivideOrPower => 6,
             Cause::IndexedBase => 7,
+            Cause::Drawn => 8,
         }
     }
 }
@@ -87,6 +92,7 @@ impl Fault {
         match self.cause {
             Cause::Unknown => ConstError::Unknown(self.span),
             Cause::SystemFunction => ConstError::SystemFunction(self.span),
+            Cause::Drawn => ConstError::Drawn(self.span),
             Cause::DivideByZero => ConstError::DivideByZero(self.span),
             Cause::TooWide | Cause::RangeForm => ConstError::TooWide(self.span),
             Cause::NotConstant | Cause::DivideOrPower | Cause::IndexedBase => {

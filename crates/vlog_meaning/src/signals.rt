@@ -1,10 +1,9 @@
 //! Where an expression reads signals, which a constant does not.
 ghost use Rattle.std.specs.Prelude.{◌≡◌, None};
-ghost use Rattle.vlog_meaning.specs.declared.fault.Cause.TheVariants.{NotConstant};
 ghost use Rattle.vlog_meaning.specs.Functions.{function_of as function_named};
 ghost use Rattle.vlog_meaning.specs.Scopes.{names_of};
 ghost use Rattle.vlog_meaning.specs.Senses.{sense, senses, name_signals, all_signals, call_signals};
-ghost use Rattle.vlog_meaning.specs.Answers.{least_at};
+ghost use Rattle.vlog_meaning.specs.Answers.{least};
 
 use crate::fault::{Cause, Fault, earlier};
 use crate::function::{Function, function_of};
@@ -14,7 +13,7 @@ use vlog_syntax::{Expr, Identifier};
 /// A name that is a signal's.
 #[tactic(auto, unfolding(crate::specs::Answers::earlier, crate::specs::Answers::least))]
 fn name_signal(scope: &Scope, name: &Identifier) -> Option<Fault>
-    ensures { result ≡ least_at NotConstant (name_signals name.now.span (names_of scope.now name.now.name)) }
+    ensures { result ≡ least (name_signals name.now.span (names_of scope.now name.now.name)) }
 {
     match scope.get(name.name.as_str()) {
         Some(Decl::Signal { .. }) => Some(Fault {
@@ -28,21 +27,21 @@ fn name_signal(scope: &Scope, name: &Identifier) -> Option<Fault>
 /// A call that changes from one evaluation to the next.
 #[tactic(auto, unfolding(crate::specs::Answers::earlier, crate::specs::Answers::least))]
 fn call_signal(name: &Identifier) -> Option<Fault>
-    ensures { result ≡ least_at NotConstant (call_signals (function_named name.now.name) name.now.span) }
+    ensures { result ≡ least (call_signals (function_named name.now.name) name.now.span) }
 {
     match function_of(name.name.as_str()) {
         Some(Function::Random) | Some(Function::Time) => Some(Fault {
-            cause: Cause::NotConstant,
+            cause: Cause::Drawn,
             span: name.span,
         }),
         _ => None,
     }
 }
 
-/// The first place at which a signal is read, as what makes the expression no constant.
+/// What first makes the expression no constant: a signal that is read, or a call that has another value each time.
 #[cycle(signal)]
 pub fn signal_in(expr: &Expr, scope: &Scope) -> Option<Fault>
-    ensures { result ≡ least_at NotConstant (sense (names_of scope.now) expr.now).signals }
+    ensures { result ≡ least (sense (names_of scope.now) expr.now).signals }
 {
     match expr {
         Expr::Number(_) => None,
@@ -82,7 +81,7 @@ pub fn signal_in(expr: &Expr, scope: &Scope) -> Option<Fault>
 /// The same in several expressions.
 #[cycle(signal)]
 fn signal_in_all(exprs: &[Expr], scope: &Scope) -> Option<Fault>
-    ensures { result ≡ least_at NotConstant (all_signals (senses (names_of scope.now) exprs.now)) }
+    ensures { result ≡ least (all_signals (senses (names_of scope.now) exprs.now)) }
 {
     let mut found = None;
     for expr in exprs {

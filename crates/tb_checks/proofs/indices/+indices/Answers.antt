@@ -1,11 +1,10 @@
 use Rattle.std.proofs.Common.{List, map, take, add-one, arith, ◌∙◌, ap, sym}
 use Rattle.std.specs.List.{flat_map}
 use Rattle.std.proofs.lemmas.Grind.{flat_map-append}
-use Rattle.vlog_meaning.specs.declared.fault.Cause.TheVariants.{NotConstant}
 use Rattle.vlog_meaning.specs.declared.fault.Fault.{Fault}
 use Rattle.vlog_meaning.specs.Answers.{least}
 use Rattle.vlog_meaning.specs.Scopes.{names_of}
-use Rattle.vlog_meaning.proofs.Firsts.{least_nil}
+use Rattle.vlog_meaning.proofs.Refusals.{least_empty}
 use Rattle.vlog_effects.specs.LeftSides.{Part, parts_of, concatenated}
 use Rattle.vlog_effects.proofs.Folds.{parts-name, parts-range}
 use Rattle.elab_proc.proofs.Lists.{parts_take}
@@ -13,13 +12,13 @@ use Rattle.tb_checks.specs.Nets.{part_indices}
 use Rattle.tb_checks.proofs.indices.+indices.Goals as goal
 
 pub all_indices_fault-loop-part-init : goal.all_indices_fault-loop-part-init
-all_indices_fault-loop-part-init t c = least_nil NotConstant
+all_indices_fault-loop-part-init t c = least_empty
 
 pub indices_fault-returns-in-Name : goal.indices_fault-returns-in-Name
-indices_fault-returns-in-Name t c = least_nil NotConstant ∙ sym (ap (λ (ps : List Part). least (flat_map (part_indices (names_of c.args.scope.now)) ps)) (ap parts_of c.in-Name.is ∙ parts-name c.in-Name.field-0))
+indices_fault-returns-in-Name t c = least_empty ∙ sym (ap (λ (ps : List Part). least (flat_map (part_indices (names_of c.args.scope.now)) ps)) (ap parts_of c.in-Name.is ∙ parts-name c.in-Name.field-0))
 
 pub indices_fault-returns-in-PartSelect : goal.indices_fault-returns-in-PartSelect
-indices_fault-returns-in-PartSelect t c = least_nil NotConstant ∙ sym (ap (λ (ps : List Part). least (flat_map (part_indices (names_of c.args.scope.now)) ps)) (ap parts_of c.in-PartSelect.is ∙ parts-range c.in-PartSelect.field-0 c.in-PartSelect.field-1 c.in-PartSelect.field-2 c.in-PartSelect.field-3))
+indices_fault-returns-in-PartSelect t c = least_empty ∙ sym (ap (λ (ps : List Part). least (flat_map (part_indices (names_of c.args.scope.now)) ps)) (ap parts_of c.in-PartSelect.is ∙ parts-range c.in-PartSelect.field-0 c.in-PartSelect.field-1 c.in-PartSelect.field-2 c.in-PartSelect.field-3))
 
 pub all_indices_fault-loop-part-preserved : goal.all_indices_fault-loop-part-preserved
 all_indices_fault-loop-part-preserved t c =

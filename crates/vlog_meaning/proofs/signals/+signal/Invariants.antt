@@ -1,9 +1,8 @@
 use Rattle.std.proofs.Common.{◌≡◌, take}
-use Rattle.vlog_meaning.specs.declared.fault.Cause.TheVariants.{NotConstant}
 use Rattle.vlog_meaning.specs.Scopes.{names_of}
 use Rattle.vlog_meaning.specs.Senses.{senses, all_signals}
-use Rattle.vlog_meaning.specs.Answers.{least_at}
+use Rattle.vlog_meaning.specs.Answers.{least}
 use Rattle.vlog_meaning.proofs.signals.+signal.Given as goal
 
 abbrev pub invariant-signal_in_all-loop-expr : goal.invariant-signal_in_all-loop-expr
-invariant-signal_in_all-loop-expr l = l.found ≡ least_at NotConstant (all_signals (senses (names_of l.scope) (take l.expr-index l.exprs)))
+invariant-signal_in_all-loop-expr l = l.found ≡ least (all_signals (senses (names_of l.scope) (take l.expr-index l.exprs)))
