@@ -43,7 +43,7 @@ pub(crate) fn build(
     ensures refused { IfErr result (IsNotBuilt (flat_of flat.now) inputs.now) }
 {
     let mut builder = begin(alloc, flat)?;
-    let mut desk = Desk::new(&builder, inputs, flat)?;
+    let mut desk = Desk::new(&builder, inputs)?;
     match build_items(&mut builder, &mut desk, inputs, clocks, flat, flat.items()) {
         Ok(()) => Ok(builder),
         Err(error) => Err(build_answer(alloc, flat.signals(), error)),

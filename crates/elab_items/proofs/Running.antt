@@ -92,6 +92,10 @@ copies_more places scopes s h is k less = go (cases_eq k (length scopes)) where
   go (inl e) = ap names_of (get_or_push scopes s [] k (sym e)) ∙ is ∙ sym (ap (names_at places) e)
   go (inr ne) = let below : k < length scopes = omega (arith, less, length-append scopes (s ∷ [])) in ap names_of (get_or_append_left scopes (s ∷ []) [] k below) ∙ h k below
 
+-- none
+pub none_copied : (places : List Place) (scopes : List (List (List ℕ × Decl))) → scopes ≡ [] → AreCopies places scopes
+none_copied places scopes is k less = let none : length scopes ≡ 0 = ap (λ (l : List (List (List ℕ × Decl))). length l) is in absurd (omega (arith, less, none))
+
 -- the one of a number
 pub scope_is : (places : List Place) (scopes : List (List (List ℕ × Decl))) (k : ℕ) (s : List (List ℕ × Decl)) → AreCopies places scopes → k < length scopes → s ≡ get_or scopes k s → names_of s ≡ names_at places k
 scope_is places scopes k s h less is = ap names_of (is ∙ get_or_default scopes k s [] less) ∙ h k less

@@ -3,7 +3,7 @@
 //! `signals` declares the signals of a flattened design in a builder, in the order of their numbers, and `start` gives them start
 //! values, one item after the other. `item` builds one item: `sides` finds the two scopes of an assignment, `connection` builds
 //! inputs of instances, `left` makes the left side of what an output is connected to, which stands in the tree as an expression,
-//! and `run` builds a process. A `Desk` has what processes take besides: copies of the scopes, since a loop's variable is a
+//! and `run` builds a process. A `Desk` has what processes take besides: copies of scopes, since a loop's variable is a
 //! constant in its turns, the bits that wait for variables, and a flag for each signal, which tells whether it has a writer
 //! already. `writers` tells the flags of a new desk, and where an item is built `notes` tells those again of the signals that it
 //! gives values, which `numbers` lists: the bits and variables that `assigned` finds in it. So no item looks at all signals.
@@ -43,7 +43,7 @@ mod writers;
 
 pub use answer::{ElabError, item_answer, reason_answer};
 pub use assigned::{assigned_bits, process_writes};
-pub use desk::{Desk, copies};
+pub use desk::{Desk, copy_scopes};
 pub use error::{BuildError, Reason};
 pub use full::listed_before;
 pub use item::build_item;

@@ -11,7 +11,7 @@ ghost use Rattle.elab_items.specs.Desks.{Holds, Serves};
 ghost use Rattle.elab_items.specs.Items.{Builds, BuildsProcess, Fails, FailsProcess, Stands, process_error};
 ghost use Rattle.elab_items.specs.Writers.{TellsWriters};
 
-use crate::desk::Desk;
+use crate::desk::{Desk, copy_scopes};
 use crate::error::{BuildError, Reason};
 use flat_items::Flat;
 use net_builder::{Builder, ElabError};
@@ -74,6 +74,7 @@ pub(crate) fn build_run(
     ensures holds { OnOk result (Holds (flat_of flat.now).places builder.new desk.new) }
     ensures written { OnOk result (desk.new.written.items ≡ desk.old.written.items) }
 {
+    copy_scopes(&mut desk.scopes, flat, place)?;
     if place as usize >= desk.scopes.len() {
         return Err(BuildError::Memory);
     }

@@ -10,14 +10,14 @@ ghost use Rattle.elab_lefts.specs.Lefts.{bit_left, design_lefts, item_lefts, pro
 use crate::lists::{list_bits, list_port};
 use crate::process::list_process;
 use elab_finish::Left;
-use elab_items::{assigned_bits, copies};
+use elab_items::{assigned_bits, copy_scopes};
 use flat_instances::FlatItem;
 use flat_items::Flat;
 use std::alloc::{AllocError, Global};
 use vlog_meaning::Scope;
 use vlog_syntax::Process;
 
-/// Lists the variables of a process of the design. `scopes` has a copy of each scope, which is given back as it was.
+/// Lists the variables of a process of the design. `scopes` has copies of scopes, each of which is given back as it was.
 #[tactic(auto, using(crate::proofs::Scopes::copy_sized, crate::proofs::Scopes::run_listed, crate::proofs::Scopes::copies_stay))]
 fn list_run(
     alloc: Global,
@@ -32,6 +32,7 @@ fn list_run(
     ensures lists { OnOk result (lefts.new.items ≡ lefts.old.items ++ process_lefts (flat_of flat.now).signals (names_at (flat_of flat.now).places place) process.now) }
     ensures copies { OnOk result (AreCopies (flat_of flat.now).places scopes.new.items) }
 {
+    copy_scopes(scopes, flat, place)?;
     if place as usize >= scopes.len() {
         return Err(AllocError);
     }
@@ -89,12 +90,12 @@ fn list_item(
 
 /// The left sides of a design in the order of its items, each with the place of its name. The first of them that writes a net on a
 /// loop is the loop's place.
-#[tactic(auto, using(crate::proofs::Scopes::items_more))]
+#[tactic(auto, using(crate::proofs::Scopes::items_more, elab_items::proofs::Running::none_copied))]
 pub fn lefts_of(alloc: Global, flat: &Flat) -> Result<Vec<Left>, AllocError>
     requires { IsSound (flat_of flat.now) }
     ensures { IfOk result (λ lefts. lefts.items ≡ design_lefts (flat_of flat.now)) }
 {
-    let mut scopes = copies(alloc, flat)?;
+    let mut scopes = Vec::new(alloc);
     let mut lefts = Vec::new(alloc);
     for item in flat.items() {
         list_item(alloc, &mut lefts, &mut scopes, flat, item)?;
