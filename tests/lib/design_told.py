@@ -1133,6 +1133,32 @@ module top;
 endmodule
 elaborate top
 > Unknown 9:17
+# the loops of all processes take one turn more than the limit: 1 and 1,000 with 999 in each; nothing else of that process is told
+module top(input a, output reg y, output reg z);
+  integer i, j;
+  always @* begin
+    z = a;
+    for (i = 0; i < 1; i = i + 1) ;
+  end
+  always @* begin
+    y = nothing;
+    for (i = 0; i < 1000; i = i + 1) for (j = 0; j < 999; j = j + 1) ;
+  end
+  assign behind = 0;
+endmodule
+elaborate top
+> TooMany LoopTurns
+# what is refused before that process counts
+module top(input a, output reg y, output z);
+  integer i, j, k;
+  assign z = nothing;
+  always @* begin
+    y = a;
+    for (i = 0; i < 4096; i = i + 1) for (j = 0; j < 4096; j = j + 1) for (k = 0; k < 4096; k = k + 1) ;
+  end
+endmodule
+elaborate top
+> Unknown 4:14
 '''
 
 

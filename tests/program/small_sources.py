@@ -37,9 +37,6 @@ SECONDS, MEGABYTES, ADDRESS_SPACE = 10, 300, 2 << 30
 NOT_YET = [
     "generate loops of two turns, 24 of them",
     "generate loops of two turns, 60 of them",
-    "2 loops of a process within one another",
-    "3 loops of a process within one another",
-    "1000 loops of a process in a row",
 ]
 
 

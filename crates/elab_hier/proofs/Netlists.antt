@@ -54,17 +54,17 @@ module _ (flat : Flat) (ports : List Identifier) (flags : List Bool) (sound : Is
 
   added : ItemsAreAdded → (design : Design) × IsDesign ports (clocks_of flags flat).clock flat design × AddsItems design.items built.first last × StartsWith built.first (start_values (widths_of flat.signals) flat.places flat.items)
   added items =
-      let a = items ports (clocks_of flags flat).clock flat flags (clocks_of flags flat) built.first last built.begun.begins.declared built.builds in
+      let a = items ports (clocks_of flags flat).clock flat flags (clocks_of flags flat) built.first last built.begun.begins.declared built.builds.all in
       let all : AllStart (widths_of flat.signals) flat.places flat.items = subst (λ (w : Widths). AllStart w flat.places flat.items) (widths_begun flat built.first built.begun.begins.declared) a.3 in
       (a.0, a.1, a.2, built.begun.starts all)
 
   pub can_end : ItemsAreAdded → BuiltAreCovered → DesignsCanFinish → (ins outs ks : List ℕ) (lefts : List Left)
       → ins ≡ input_numbers ports (clocks_of flags flat).clock flat → outs ≡ output_numbers ports flat → ks ≡ declared_numbers flat.items → lefts ≡ design_lefts flat → NoneTwice ins → CanFinish last ins outs ks lefts
   can_end items covers can ins outs ks lefts in_is out_is k_is left_is once =
-      let covered : AreCovered last (design_lefts flat) = covers flat flags (clocks_of flags flat) built.first last built.begun.begins.declared built.builds in
+      let covered : AreCovered last (design_lefts flat) = covers flat flags (clocks_of flags flat) built.first last built.begun.begins.declared built.builds.all in
       let start = (added items).3 in
       let h : CanFinish last (input_numbers ports (clocks_of flags flat).clock flat) (output_numbers ports flat) (declared_numbers flat.items) (design_lefts flat) =
-      can ports (clocks_of flags flat).clock flat flags (clocks_of flags flat) (start_values (widths_of flat.signals) flat.places flat.items) built.first last (design_lefts flat) sound built.begun.begins.declared start built.builds flagged (subst NoneTwice in_is once) covered in
+      can ports (clocks_of flags flat).clock flat flags (clocks_of flags flat) (start_values (widths_of flat.signals) flat.places flat.items) built.first last (design_lefts flat) sound built.begun.begins.declared start built.builds.all flagged (subst NoneTwice in_is once) covered in
       let a = subst (λ (l : List ℕ). CanFinish last l (output_numbers ports flat) (declared_numbers flat.items) (design_lefts flat)) (sym in_is) h in
       let b = subst (λ (l : List ℕ). CanFinish last ins l (declared_numbers flat.items) (design_lefts flat)) (sym out_is) a in
       let c = subst (λ (l : List ℕ). CanFinish last ins outs l (design_lefts flat)) (sym k_is) b in
@@ -81,7 +81,7 @@ module _ (flat : Flat) (ports : List Identifier) (flags : List Bool) (sound : Is
       let start_is : start_values (widths_of flat.signals) flat.places flat.items ≡ design.start = sym (ap (λ (d : Design). d.start) a.1.2) in
       let start : StartsWith built.first design.start = subst (StartsWith built.first) start_is a.3 in
       let is : IsDesignOf last (input_numbers ports (clocks_of flags flat).clock flat) (output_numbers ports flat) (declared_numbers flat.items) design =
-      belongs ports (clocks_of flags flat).clock flat flags (clocks_of flags flat) built.first last design sound built.begun.begins.declared built.builds a.1 a.2 start in
+      belongs ports (clocks_of flags flat).clock flat flags (clocks_of flags flat) built.first last design sound built.begun.begins.declared built.builds.all a.1 a.2 start in
       let is_a = subst (λ (l : List ℕ). IsDesignOf last l (output_numbers ports flat) (declared_numbers flat.items) design) (sym in_is) is in
       let is_b = subst (λ (l : List ℕ). IsDesignOf last ins l (declared_numbers flat.items) design) (sym out_is) is_a in
       let is_c = subst (λ (l : List ℕ). IsDesignOf last ins outs l design) (sym k_is) is_b in

@@ -16,13 +16,14 @@ use Rattle.flat_laws.proofs.Flattened.{flattened_sound}
 use Rattle.elab_items.specs.declared.answer.ElabError.{ElabError}
 use Rattle.elab_hier.specs.Tops.{AreFlags, IsSource, all_inputs}
 use Rattle.elab_hier.specs.Elaborations.{Elaborates}
-use Rattle.elab_hier.specs.Refusals.{IsElabRefusal, RefusesSource, full, item, refused, short}
+use Rattle.elab_hier.specs.Refusals.{IsElabRefusal, RefusesSource, full, item, refused, short, turns}
 use Rattle.elab_hier.specs.Parts.{IsNetlistOf, IsNotBuilt, IsRefusalOf, source_of}
 
 pub not_built : (flat : Flat) (ports : List Identifier) (flags : List Bool) (top : List ℕ) (error : ElabError) → AreFlags (length flat.signals) (all_inputs flat ports) flags → IsNotBuilt flat flags error → IsRefusalOf flat ports top error
 not_built flat ports flags top error are (inl (inl h)) = inl (record { flags = flags; are_flags = are; refuses = subst (RefusesSource (source_of flat ports flags) top) (sym h.1) (full h.0) })
 not_built flat ports flags top error are (inl (inr e)) = inr e
-not_built flat ports flags top error are (inr h) = inl (record { flags = flags; are_flags = are; refuses = item error h })
+not_built flat ports flags top error are (inr (inl h)) = inl (record { flags = flags; are_flags = are; refuses = item error h })
+not_built flat ports flags top error are (inr (inr h)) = inl (record { flags = flags; are_flags = are; refuses = turns error h })
 
 -- the modules are flattened from the module that was found
 same_some : {A : Type 0} (o : Option A) (x y : A) → o ≡ Some x → o ≡ Some y → x ≡ y

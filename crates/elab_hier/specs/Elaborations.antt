@@ -17,6 +17,7 @@ use Rattle.process_cells.specs.Starts.{SameButStarts, StartsWith}
 use Rattle.elab_items.specs.Designs.{IsDesign}
 use Rattle.elab_items.specs.Signals.{bits_of, declared, max_bits}
 use Rattle.elab_items.specs.Timed.{BuildsAll}
+use Rattle.elab_items.specs.Turns.{max_turns, turns_in}
 use Rattle.elab_finish.specs.Endings.{IsEnding}
 use Rattle.elab_finish.specs.Names.{AreNamedApart}
 use Rattle.elab_finish.specs.Refusals.{IsWithin}
@@ -28,9 +29,10 @@ pub record HasSignals (flat : Flat) (first : Building) : Type 0 where
   pub fits : bits_of flat.signals ≤ max_bits
   pub declared : SameButStarts (declared flat.signals empty) first
 
--- All items are built in it, one after the other, and none is refused.
-abbrev pub HasItems : Flat → (flags : List Bool) → (first last : Building) → Type 0
-HasItems flat flags first last = BuildsAll flags flat (clocks_of flags flat) flat.items first last
+-- All items are built in it, one after the other, and none is refused; and their loops do not take too many turns.
+pub record HasItems (flat : Flat) (flags : List Bool) (first last : Building) : Type 0 where
+  pub few : turns_in flat.places flat.items ≤ max_turns
+  pub all : BuildsAll flags flat (clocks_of flags flat) flat.items first last
 
 -- what was built is ended as this netlist
 abbrev pub Ends : Source → (top : List ℕ) → Building → RawNetlist → Type 0

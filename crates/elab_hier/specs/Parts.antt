@@ -22,7 +22,7 @@ use Rattle.elab_hier.specs.declared.numbers.Lists.{Lists}
 use Rattle.elab_hier.specs.declared.ports.Top.{Top}
 use Rattle.elab_hier.specs.Tops.{AreFlags, Source, all_inputs}
 use Rattle.elab_hier.specs.Elaborations.{HasItems, HasNetlist, HasSignals}
-use Rattle.elab_hier.specs.Refusals.{RefusesItem, RefusesSource, end_answer, full_answer}
+use Rattle.elab_hier.specs.Refusals.{RefusesItem, RefusesSource, RefusesTurns, end_answer, full_answer}
 
 -- the ports of a top whose head has these names
 pub record IsTop (flat : Flat) (ports : List Identifier) (top : Top) : Type 0 where
@@ -45,7 +45,7 @@ pub record IsBuilt (flat : Flat) (flags : List Bool) (last : Building) : Type 0 
   pub builds : HasItems flat flags first last
 
 abbrev pub IsNotBuilt : Flat → List Bool → ElabError → Type 0
-IsNotBuilt flat flags error = IsFullAs flat error ⊎ RefusesItem flat flags error
+IsNotBuilt flat flags error = IsFullAs flat error ⊎ (RefusesItem flat flags error ⊎ RefusesTurns flat flags error)
 
 -- what the end takes besides, where the top has these inputs and the design this clock
 pub record AreLists (flat : Flat) (numbers : List ℕ) (timed : Option ℕ) (lists : Lists) : Type 0 where

@@ -9,4 +9,5 @@ pub mod Sounding
 pub mod Standing
 pub mod Starting
 pub mod Timing
+pub mod Turning
 pub mod Writing

@@ -8,6 +8,7 @@ pub mod Laid
 pub mod Items
 pub mod Starting
 pub mod Timed
+pub mod Turns
 pub mod Desks
 pub mod Answers
 pub mod Full

@@ -27,6 +27,6 @@ few_cells source top n h =
     let none : h.first.cells ≡ [] = ap (λ (b : Building). b.cells) h.begins.declared ∙ no_cells source.flat.signals empty in
     let start = ap length none in
     let begun : length h.first.cells ≤ max_cells = omega (arith, start) in
-    let most = few_on source.flags source.flat (clocks_of source.flags source.flat) source.flat.items h.first h.last begun h.builds in
+    let most = few_on source.flags source.flat (clocks_of source.flags source.flat) source.flat.items h.first h.last begun h.builds.all in
     let same : length n.cells ≡ length h.last.cells = ap length h.ends.cells ∙ length-map h.last.cells (led_cell h.ends.to) in
     omega (arith, same, most)

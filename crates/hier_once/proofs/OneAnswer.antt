@@ -5,6 +5,7 @@ use Rattle.netlist_core.specs.declared.raw.RawNetlist.{RawNetlist}
 use Rattle.vlog_meaning.specs.Scopes.{Store}
 use Rattle.net_builder.specs.Building.{Building, empty}
 use Rattle.flat_runs.specs.Designs.{Design}
+use Rattle.flat_instances.specs.declared.item.FlatItem.{FlatItem}
 use Rattle.flat_items.specs.Flattened.{Flat}
 use Rattle.flat_clocks.specs.Clocks.{clocks_of}
 use Rattle.flat_laws.specs.Sound.{IsSound}
@@ -18,9 +19,11 @@ use Rattle.elab_items.specs.Designs.{widths_of}
 use Rattle.elab_items.specs.Items.{Stands}
 use Rattle.elab_items.specs.Signals.{bits_of, declared, max_bits}
 use Rattle.elab_items.specs.Starts.{start_values}
-use Rattle.elab_items.specs.Timed.{BuildsAll}
+use Rattle.elab_items.specs.Timed.{BuildsAll, FailsSome}
+use Rattle.elab_items.specs.Turns.{max_turns}
 use Rattle.elab_items.proofs.Sounding.{declared_stands}
 use Rattle.elab_items.proofs.Starting.{starts_stand}
+use Rattle.elab_items.proofs.Turning.{all_within}
 use Rattle.elab_finish.specs.declared.error.DesignError.{DesignError}
 use Rattle.elab_finish.specs.declared.error.DesignError.TheVariants as ending
 use Rattle.elab_finish.specs.Refusals.{IsRefused}
@@ -30,7 +33,7 @@ use Rattle.elab_once.proofs.Building.{begin_alike}
 use Rattle.elab_once.proofs.Built.{built_once}
 use Rattle.elab_hier.specs.Tops.{Source, clock_name, inputs, outputs}
 use Rattle.elab_hier.specs.Elaborations.{Ends, HasItems, HasNetlist, HasSignals}
-use Rattle.elab_hier.specs.Refusals.{RefusesEnd, RefusesItem, RefusesSource, build_answer, end, end_answer, full, item, no_top, refused, short}
+use Rattle.elab_hier.specs.Refusals.{RefusesEnd, RefusesItem, RefusesSource, RefusesTurns, build_answer, counted, end, end_answer, full, item, no_top, refused, short, turns}
 use Rattle.hier_once.specs.Laws.{FewCells, HasOneAnswer, HasOneNetlist, HasOneRefusal, NoneIsRefused}
 use Rattle.hier_once.proofs.Sources.{source_once}
 use Rattle.hier_once.proofs.Endings.{ending_once}
@@ -80,18 +83,28 @@ last_once source b c last other store h g x y d e =
 
 netlist_once : (source : Source) (top : List ℕ) (n m : RawNetlist) → HasNetlist source top n → HasNetlist source top m → n ≡ m
 netlist_once source top n m h g =
-    let same : g.last ≡ h.last = last_once source g.first h.first g.last h.last _ g.begins h.begins (starts_are source top m g) (starts_are source top n h) g.builds h.builds in
+    let same : g.last ≡ h.last = last_once source g.first h.first g.last h.last _ g.begins h.begins (starts_are source top m g) (starts_are source top n h) g.builds.all h.builds.all in
     ending_once h.last top (clock_name source) (inputs source) (outputs source) (declared_numbers source.flat.items) n m h.ends (subst (λ (b : Building). Ends source top b m) same g.ends)
 
 -- Where all items are built, none is refused.
 built_not_refused : (source : Source) (e : ElabError) (b last : Building) → IsSound source.flat → HasSignals source.flat b → HasItems source.flat source.flags b last → RefusesItem source.flat source.flags e → e ≡ Memory
 built_not_refused source e b last sound h d r =
-    let memory : r.reason ≡ build.Memory = all_fit source.flags source.flat (clocks_of source.flags source.flat) source.flat.items b r.first last r.reason (begun_level source.flat b r.first h r.begins) (begun_stands source.flat b sound h) d r.fails in
+    let fails : FailsSome source.flags source.flat (clocks_of source.flags source.flat) source.flat.items r.first r.reason = subst (λ (l : List FlatItem). FailsSome source.flags source.flat (clocks_of source.flags source.flat) l r.first r.reason) (all_within source.flat.places source.flat.items max_turns d.few) r.fails in
+    let memory : r.reason ≡ build.Memory = all_fit source.flags source.flat (clocks_of source.flags source.flat) source.flat.items b r.first last r.reason (begun_level source.flat b r.first h r.begins) (begun_stands source.flat b sound h) d.all fails in
     r.answers ∙ ap (build_answer source.flat.signals) memory
+
+-- Where loops take too many turns, not all items are built, and none is refused before.
+not_within : (source : Source) (e : ElabError) (b last : Building) → HasItems source.flat source.flags b last → RefusesTurns source.flat source.flags e → ⊥
+not_within source e b last d r = let few = d.few in let many = r.many in absurd (omega (arith, few, many))
+
+turns_or_item : (source : Source) (e f : ElabError) → IsSound source.flat → RefusesTurns source.flat source.flags e → RefusesItem source.flat source.flags f → f ≡ Memory
+turns_or_item source e f sound r q =
+    let memory : q.reason ≡ build.Memory = all_fit source.flags source.flat (clocks_of source.flags source.flat) (counted source.flat) r.first q.first r.last q.reason (begun_level source.flat r.first q.first r.begins q.begins) (begun_stands source.flat r.first sound r.begins) r.builds q.fails in
+    q.answers ∙ ap (build_answer source.flat.signals) memory
 
 end_not_refused : (source : Source) (top : List ℕ) (n : RawNetlist) (e : ElabError) → HasNetlist source top n → RefusesEnd source top e → e ≡ Memory
 end_not_refused source top n e h r =
-    let same : r.last ≡ h.last = last_once source r.first h.first r.last h.last _ r.begins h.begins r.starts (starts_are source top n h) r.builds h.builds in
+    let same : r.last ≡ h.last = last_once source r.first h.first r.last h.last _ r.begins h.begins r.starts (starts_are source top n h) r.builds.all h.builds.all in
     let here = refused_here source top r.last h.last r.reason same r.refused in
     r.answers ∙ ap end_answer (ended_not_refused h.last top (clock_name source) (inputs source) (outputs source) (declared_numbers source.flat.items) (design_lefts source.flat) n r.reason h.ends h.within h.apart h.runnable.2.loops here)
 
@@ -99,6 +112,7 @@ end_not_refused source top n e h r =
 source_not_refused : (source : Source) (top : List ℕ) (n : RawNetlist) (e : ElabError) → IsSound source.flat → HasNetlist source top n → RefusesSource source top e → e ≡ Memory
 source_not_refused source top n _ sound h (full many) = absurd (not_full source.flat h.first h.begins many)
 source_not_refused source top n _ sound h (item e r) = built_not_refused source e h.first h.last sound h.begins h.builds r
+source_not_refused source top n _ sound h (turns e r) = absurd (not_within source e h.first h.last h.builds r)
 source_not_refused source top n _ sound h (end e r) = end_not_refused source top n e h r
 
 -- A source that has none is refused for one reason.
@@ -108,7 +122,7 @@ items_refused_once source e f sound found also r q =
     let answer = build_answer source.flat.signals in
     let some : r.reason ≢ build.Memory = λ is. found (r.answers ∙ ap answer is) in
     let more : q.reason ≢ build.Memory = λ is. also (q.answers ∙ ap answer is) in
-    let same : r.reason ≡ q.reason = fail_once source.flags source.flat (clocks_of source.flags source.flat) source.flat.items r.first q.first r.reason q.reason some more
+    let same : r.reason ≡ q.reason = fail_once source.flags source.flat (clocks_of source.flags source.flat) (counted source.flat) r.first q.first r.reason q.reason some more
     (begun_level source.flat r.first q.first r.begins q.begins) (begun_stands source.flat r.first sound r.begins) r.fails q.fails in
     r.answers ∙ ap answer same ∙ sym q.answers
 
@@ -116,7 +130,7 @@ ends_refused_once : (source : Source) (top : List ℕ) (e f : ElabError) → e �
 ends_refused_once source top e f found also r q =
     let some : r.reason ≢ ending.Memory = λ is. found (r.answers ∙ ap end_answer is) in
     let more : q.reason ≢ ending.Memory = λ is. also (q.answers ∙ ap end_answer is) in
-    let last : q.last ≡ r.last = last_once source q.first r.first q.last r.last _ q.begins r.begins q.starts r.starts q.builds r.builds in
+    let last : q.last ≡ r.last = last_once source q.first r.first q.last r.last _ q.begins r.begins q.starts r.starts q.builds.all r.builds.all in
     let here = refused_here source top q.last r.last q.reason last q.refused in
     let same : r.reason ≡ q.reason = refused_once r.last top (clock_name source) (inputs source) (outputs source) (declared_numbers source.flat.items) (design_lefts source.flat) r.reason q.reason some more r.refused here in
     r.answers ∙ ap end_answer same ∙ sym q.answers
@@ -124,12 +138,19 @@ ends_refused_once source top e f found also r q =
 source_refused_once : (source : Source) (top : List ℕ) (e f : ElabError) → IsSound source.flat → e ≢ Memory → f ≢ Memory → RefusesSource source top e → RefusesSource source top f → e ≡ f
 source_refused_once source top _ _ sound found also (full many) (full more) = refl
 source_refused_once source top _ _ sound found also (full many) (item f q) = absurd (not_full source.flat q.first q.begins many)
+source_refused_once source top _ _ sound found also (full many) (turns f q) = absurd (not_full source.flat q.first q.begins many)
 source_refused_once source top _ _ sound found also (full many) (end f q) = absurd (not_full source.flat q.first q.begins many)
 source_refused_once source top _ _ sound found also (item e r) (full many) = absurd (not_full source.flat r.first r.begins many)
 source_refused_once source top _ _ sound found also (item e r) (item f q) = items_refused_once source e f sound found also r q
+source_refused_once source top _ _ sound found also (item e r) (turns f q) = absurd (found (turns_or_item source f e sound q r))
 source_refused_once source top _ _ sound found also (item e r) (end f q) = absurd (found (built_not_refused source e q.first q.last sound q.begins q.builds r))
+source_refused_once source top _ _ sound found also (turns e r) (full many) = absurd (not_full source.flat r.first r.begins many)
+source_refused_once source top _ _ sound found also (turns e r) (item f q) = absurd (also (turns_or_item source e f sound r q))
+source_refused_once source top _ _ sound found also (turns e r) (turns f q) = r.answers ∙ sym q.answers
+source_refused_once source top _ _ sound found also (turns e r) (end f q) = absurd (not_within source e q.first q.last q.builds r)
 source_refused_once source top _ _ sound found also (end e r) (full many) = absurd (not_full source.flat r.first r.begins many)
 source_refused_once source top _ _ sound found also (end e r) (item f q) = absurd (also (built_not_refused source f r.first r.last sound r.begins r.builds q))
+source_refused_once source top _ _ sound found also (end e r) (turns f q) = absurd (not_within source f r.first r.last r.builds q)
 source_refused_once source top _ _ sound found also (end e r) (end f q) = ends_refused_once source top e f found also r q
 
 -- Modules.
