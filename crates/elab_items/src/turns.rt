@@ -64,7 +64,7 @@ fn item_left(
 
 /// How many items stand before the first one with which the loops of all take more than 1,000,000 turns; none where they do not. No
 /// cell is built for it, and a loop within a loop is left where that many turns have been taken.
-#[tactic(auto, using(crate::proofs::Turning::after_none, crate::proofs::Turning::after_one, crate::proofs::Turning::past_here, crate::proofs::Turning::past_nowhere, crate::proofs::Turning::serves_again))]
+#[tactic(auto, using(crate::proofs::Turning::after_none, crate::proofs::Turning::past_nowhere, crate::proofs::Turning::serves_again))]
 pub fn first_past(
     builder: &Builder,
     desk: &mut Desk,
