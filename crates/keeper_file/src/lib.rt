@@ -1,0 +1,8 @@
+//! The database in a file, whatever the file held: what opens it, and how a call ends with it.
+#![tactic(auto)]
+
+mod closing;
+mod database;
+
+pub use closing::close_keeper;
+pub use database::Database;
