@@ -1,19 +1,19 @@
 //! `mcy`: one call over the real files, standard output and the database of the current folder.
 //!
 //! The words, the files, the sink and the database are made here and nowhere else. What the call does is
-//! `mcy_call`'s. Where standard error is a terminal, a `Meter` tells there how far the campaign is, and main what to do next
+//! `call_on_file`'s. Where standard error is a terminal, a `Meter` tells there how far the campaign is, and main what to do next
 //! where a call was refused for what the database holds.
 #![tactic(auto)]
 
+use file_calls::call_on_file;
 use keeper_file::{Database, close_keeper};
-use keeper_opening::{DatabaseFault, OpeningKeeper};
+use keeper_opening::DatabaseFault;
 use mcy_outside::{RealFiles, RealSink, Sink};
 use mcy_terminal::{Meter, stop_of, words_of};
-use mcy_top::{Outcome, exit_status, fault_line, mcy_call};
+use mcy_top::{Outcome, exit_status, fault_line};
 use sqlite::Unknown;
 use std::io::{self, IsTerminal};
 use std::process::ExitCode;
-use watched_keeper::WatchedKeeper;
 
 /// The file of the database, in the current folder.
 const DATABASE: &str = "mcy.db";
@@ -48,21 +48,18 @@ struct Ended {
 }
 
 /// The call over the real files, standard output and the database. It then copies the database's log into
-/// its file, so that the file alone has all rows. Of what the database holds nothing is known (`Unknown`).
+/// its file, so that the file alone has all rows. What is proved of the call is so for every content of
+/// the database; of the one that is there nothing is known (`Unknown`).
 fn call_here(rt: HostRuntime, words: &[String]) -> Ended {
     let alloc = rt.alloc();
-    let mut keeper = WatchedKeeper {
-        keeper: OpeningKeeper::new(alloc, Database::new(rt, DATABASE, Unknown)),
-        watcher: Meter::new(rt, rt.stderr().is_terminal(), stop_of(alloc, words)),
-    };
+    let meter = Meter::new(rt, rt.stderr().is_terminal(), stop_of(alloc, words));
     let mut out = RealSink::new(rt.stdout());
     let mut files = RealFiles::new(alloc, rt);
-    let outcome = mcy_call(alloc, words, &mut files, &mut keeper, &mut out);
-    let WatchedKeeper {
-        keeper,
-        mut watcher,
-    } = keeper;
-    watcher.end();
+    let database = Database::new(rt, DATABASE, Unknown);
+    let (outcome, keeper, mut meter) = call_on_file(
+        alloc, database, words, &mut files, meter, &mut out,
+    );
+    meter.end();
     let fault = keeper.fault();
     // A log that was not copied stays beside the file, and the next call finds its rows.
     let _closed = close_keeper(keeper);

@@ -1,0 +1,78 @@
+-- A call on a file, and lists of them.
+use Rattle.std.proofs.Common.{◌⊎◌, inl, inr, ℕ, List, [], ◌∷◌, Option, Some}
+use Rattle.sqlite_wal.specs.Recovery.{Image}
+use Rattle.mcy_keeper.specs.declared.book.Book.{Book}
+use Rattle.mcy_keeper.specs.Books.{LeavesNothingNew, LeavesSome}
+use Rattle.mcy_outside.specs.Files.{Held}
+use Rattle.campaign_outcomes.specs.declared.outcome.Outcome.{Outcome}
+use Rattle.command_words.specs.declared.command.Command.{Command}
+use Rattle.keeper_file.specs.Contents.{HasOnly, IsEmptyFile}
+use Rattle.keeper_file.proofs.Reopened.{empty_found}
+use Rattle.mcy_top.specs.Complete.{IsReady}
+use Rattle.mcy_top.specs.Life.{Early, Life}
+use Rattle.mcy_top.specs.Histories.{AllFindBooks, AreTurns, IsNew, Left, Turn}
+use Rattle.mcy_top.proofs.Histories.{calls_find, calls_history, calls_safe, calls_tell}
+use Rattle.file_calls.specs.Turns.{AreOnFiles, CallsOnFilesAreSafe, HaveBooks}
+
+-- where the keeper left at the beginning only what is found, and told no book
+module _ (words : List (List ℕ)) (held : Option Held) (holds : Book → Type 0) (found old : Option Book → Type 0) (only : LeavesNothingNew found old) where
+  early_on : (new : Option Book → Type 0) (taken taken' : ℕ) (outcome : Outcome) → Early old new taken taken' outcome → Early found new taken taken' outcome
+  early_on new taken taken' outcome early = record { early = early.early; leaves_is = λ left is. only left (early.leaves_is left is); steps_is = early.steps_is }
+
+  life_on : (new : Option Book → Type 0) (written written' : Option (List ℕ)) (taken taken' : ℕ) (outcome : Outcome)
+      → Life words held holds old new written written' taken taken' outcome → Life words held (λ _. ⊥) found new written written' taken taken' outcome
+  life_on new written written' taken taken' outcome life = record {
+    command = life.command;
+    prepared = life.prepared;
+    loaded = life.loaded;
+    asked = life.asked;
+    made = life.made;
+    found = λ was none. absurd none;
+    allowed = only (Some life.loaded) life.allowed;
+    work = life.work;
+  }
+
+  pub lived_on : (new : Option Book → Type 0) (written written' : Option (List ℕ)) (outcome : Outcome)
+      → (n : ℕ) × (Early old new 0 n outcome ⊎ Life words held holds old new written written' 0 n outcome)
+      → (n : ℕ) × (Early found new 0 n outcome ⊎ Life words held (λ _. ⊥) found new written written' 0 n outcome)
+  lived_on new written written' outcome (n, (inl early)) = (n, inl (early_on new 0 n outcome early))
+  lived_on new written written' outcome (n, (inr life)) = (n, inr (life_on new written written' 0 n outcome life))
+
+  pub ready_on : (command : Command) → IsReady words held (λ _. ⊥) found command → IsReady words held holds old command
+  ready_on command ready = record {
+    asked = ready.asked;
+    readable = ready.readable;
+    takes = λ c book made left told. ready.takes c book made (only (Some book) left) (λ was none. absurd none);
+  }
+
+-- Lists of calls.
+
+module _ {K : Type 0} (holds : K → Book → Type 0) (leaves : K → Option Book → Type 0) where
+  turns_on : (found : Option Book → Type 0) (may : Image → Type 0) → ((image : Image) → may image → HasOnly found image) → (turns : List (Turn K)) → AreOnFiles holds leaves may turns → AreTurns holds leaves found turns
+  turns_on found may only [] on = tt
+  turns_on found may only (turn ∷ more) (begins, (is, rest)) =
+      (λ left was. only begins.0 begins.1 left ((begins.2 left).0 was), (is, turns_on (Left holds leaves turn is) (HasOnly (Left holds leaves turn is)) (λ image has. has) more rest))
+
+  pub calls_on : (turns : List (Turn K)) → AreOnFiles holds leaves IsEmptyFile turns → AreTurns holds leaves IsNew turns
+  calls_on = turns_on IsNew IsEmptyFile empty_found
+
+  -- what is found at each entry is what the keeper leaves there
+  books_on : (tells : K → Type 0) (found : Option Book → Type 0) (may : Image → Type 0) (only : (image : Image) → may image → HasOnly found image) (turns : List (Turn K)) (on : AreOnFiles holds leaves may turns)
+      → AllFindBooks tells holds leaves found turns (turns_on found may only turns on) → HaveBooks holds leaves may turns on
+  unfolding turns_on
+  books_on tells found may only [] on all = tt
+  books_on tells found may only (turn ∷ more) (begins, (is, rest)) all =
+      (λ left has. all.0.good left ((begins.2 left).1 has), books_on tells (Left holds leaves turn is) (HasOnly (Left holds leaves turn is)) (λ image has. has) more rest all.1)
+
+pub safe_on : {K : Type 0} (tells : K → Type 0) (holds : K → Book → Type 0) (leaves : K → Option Book → Type 0) → ((k : K) → tells k → LeavesSome (leaves k)) → CallsOnFilesAreSafe tells holds leaves
+safe_on tells holds leaves survives turns on =
+    let are : AreTurns holds leaves IsNew turns = turns_on holds leaves IsNew IsEmptyFile empty_found turns on in
+    let restarts : AllFindBooks tells holds leaves IsNew turns are = calls_find tells holds leaves survives turns are in
+    record {
+      are = are;
+      history = calls_history holds leaves turns are;
+      safe = calls_safe holds leaves turns are;
+      texts = calls_tell holds leaves turns are;
+      restarts = restarts;
+      books = books_on holds leaves tells IsNew IsEmptyFile empty_found turns on restarts;
+    }

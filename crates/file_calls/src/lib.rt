@@ -1,0 +1,7 @@
+//! Calls over the database in a file, whatever the file held: one call, and what follows for lists of calls.
+#![tactic(auto)]
+
+mod call;
+pub mod laws;
+
+pub use call::call_on_file;
