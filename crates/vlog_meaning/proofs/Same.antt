@@ -1,5 +1,5 @@
 -- Expressions that say the same, with literals in the places of constants.
-use Rattle.std.proofs.Common.{◌≡◌, ℕ, ◌+◌, ◌*◌, ◌-◌, ◌<◌, ◌^◌, Bool, true, false, ℤ, pos, ◌-ℤ◌, List, [], ◌∷◌, ◌++◌, length, get_or, take, suc, zero, refl, sym, ap, ◌∙◌, arith}
+use Rattle.std.proofs.Common.{◌≡◌, ℕ, ◌*◌, ◌<◌, ◌^◌, Bool, true, false, ℤ, pos, ◌-ℤ◌, List, [], ◌∷◌, ◌++◌, length, get_or, take, suc, zero, refl, sym, ap, ◌∙◌, arith}
 use Rattle.mcy_base.specs.declared.span.Span.{Span}
 use Rattle.vlog_syntax.specs.declared.identifier.Number.{Number}
 use Rattle.vlog_syntax.specs.declared.identifier.Identifier.{Identifier}
@@ -13,7 +13,6 @@ use Rattle.vlog_meaning.specs.Scopes.{Names, Store, nothing, store_of, decl_low,
 use Rattle.vlog_meaning.specs.Senses.{Sense, step, sense, senses, own, index_of, constant_integer, constant_faults, or_else, unsigned, part_width, total_width, repeated, joined, part_bits, select_bits, all_reads, name_signals, all_signals, name_faults, range_faults, all_faults, sized, counted, index_features, all_features, own_zeros, all_zeros, IsWhole}
 use Rattle.vlog_meaning.specs.Literals.{IsLiteral}
 use Rattle.vlog_meaning.proofs.Blanks.{left_nil, right_nil, these_nil}
-use Rattle.vlog_meaning.proofs.Refusals.{no_places}
 use Rattle.vlog_meaning.proofs.Signs.{extended_negative, extended_positive}
 use Rattle.vlog_meaning.proofs.Steps as step_of
 use Rattle.vlog_meaning.proofs.Whole.{says, nothing_held}
@@ -48,10 +47,10 @@ literal_number names x n s u wide bits sign shaped valued =
 -- Literals in the places of constants: the expression asks of a constant for its integer alone, and has nothing wrong in it.
 
 no_signals : (a : Sense) → constant_faults a ≡ [] → a.signals ≡ []
-no_signals a h = no_places a.signals (left_nil _ _ (these_nil _ _ h))
+no_signals a h = left_nil _ _ (these_nil _ _ h)
 
 -- a part select, of its bounds' integers, their signals and what is wrong in them
-abbrev part_sense : Names → Identifier → Span → ℤ → ℤ → List Span → List Fault → Sense
+abbrev part_sense : Names → Identifier → Span → ℤ → ℤ → List Fault → List Fault → Sense
 part_sense names n s msb lsb signals faults = record {
   shape = unsigned (part_width msb lsb);
   value = λ store c. window (lsb -ℤ pos (decl_low (names n.name))) (part_width msb lsb) (decl_value store (names n.name));
@@ -66,8 +65,8 @@ part_with : (names : Names) (n : Identifier) (s : Span) (x y a b : Sense) → Is
 part_with names n s x y a b p q f g =
     ap (λ (z : ℤ). part_sense names n s z (constant_integer y) (x.signals ++ y.signals) (constant_faults x ++ constant_faults y)) p.integer
     ∙ ap (λ (z : ℤ). part_sense names n s (constant_integer a) z (x.signals ++ y.signals) (constant_faults x ++ constant_faults y)) q.integer
-    ∙ ap (λ (ps : List Span). part_sense names n s (constant_integer a) (constant_integer b) (ps ++ y.signals) (constant_faults x ++ constant_faults y)) (p.signals ∙ sym (no_signals a f))
-    ∙ ap (λ (ps : List Span). part_sense names n s (constant_integer a) (constant_integer b) (a.signals ++ ps) (constant_faults x ++ constant_faults y)) (q.signals ∙ sym (no_signals b g))
+    ∙ ap (λ (ps : List Fault). part_sense names n s (constant_integer a) (constant_integer b) (ps ++ y.signals) (constant_faults x ++ constant_faults y)) (p.signals ∙ sym (no_signals a f))
+    ∙ ap (λ (ps : List Fault). part_sense names n s (constant_integer a) (constant_integer b) (a.signals ++ ps) (constant_faults x ++ constant_faults y)) (q.signals ∙ sym (no_signals b g))
     ∙ ap (λ (fs : List Fault). part_sense names n s (constant_integer a) (constant_integer b) (a.signals ++ b.signals) (fs ++ constant_faults y)) (p.faults ∙ sym f)
     ∙ ap (λ (fs : List Fault). part_sense names n s (constant_integer a) (constant_integer b) (a.signals ++ b.signals) (constant_faults a ++ fs)) (q.faults ∙ sym g)
 
@@ -82,7 +81,7 @@ literal_part names n s m l x y whole p q =
     ∙ sym (step_of.sense_part_select names n s m l)
 
 -- an indexed part select, of its width's integer, its signals and what is wrong in it
-abbrev indexed_sense : Names → Identifier → Span → Sense → ℤ → List Span → List Fault → Sense
+abbrev indexed_sense : Names → Identifier → Span → Sense → ℤ → List Fault → List Fault → Sense
 indexed_sense names n s base width signals faults = record {
   shape = unsigned (natural width);
   value = λ store c. window (index_of store base -ℤ pos (decl_low (names n.name))) (natural width) (decl_value store (names n.name));
@@ -96,7 +95,7 @@ indexed_sense names n s base width signals faults = record {
 indexed_with : (names : Names) (n : Identifier) (s : Span) (i x a : Sense) → IsLiteral x a → constant_faults a ≡ [] → step names (e.IndexedPartSelect n s i x) ≡ step names (e.IndexedPartSelect n s i a)
 indexed_with names n s i x a p f =
     ap (λ (z : ℤ). indexed_sense names n s i z x.signals (constant_faults x)) p.integer
-    ∙ ap (λ (ps : List Span). indexed_sense names n s i (constant_integer a) ps (constant_faults x)) (p.signals ∙ sym (no_signals a f))
+    ∙ ap (λ (ps : List Fault). indexed_sense names n s i (constant_integer a) ps (constant_faults x)) (p.signals ∙ sym (no_signals a f))
     ∙ ap (λ (fs : List Fault). indexed_sense names n s i (constant_integer a) a.signals fs) (p.faults ∙ sym f)
 
 pub literal_indexed : (names : Names) (n : Identifier) (s : Span) (i w x : Expr) → IsWhole names (v.IndexedPartSelect n s i w) → IsLiteral (sense names x) (sense names w) → sense names (v.IndexedPartSelect n s i x) ≡ sense names (v.IndexedPartSelect n s i w)
@@ -107,7 +106,7 @@ literal_indexed names n s i w x whole p =
     ∙ sym (step_of.sense_indexed_part_select names n s i w)
 
 -- a replication, of its count's integer, its signals and what is wrong in it
-abbrev times_sense : Span → ℤ → List Span → List Fault → List Sense → Sense
+abbrev times_sense : Span → ℤ → List Fault → List Fault → List Sense → Sense
 times_sense s count signals faults parts = record {
   shape = unsigned (natural count * total_width parts);
   value = λ store c. repeated (natural count) (total_width parts) (joined store parts);
@@ -121,7 +120,7 @@ times_sense s count signals faults parts = record {
 times_with : (names : Names) (s : Span) (x a : Sense) (ps : List Sense) → IsLiteral x a → constant_faults a ≡ [] → step names (e.MultipleConcatenation s x ps) ≡ step names (e.MultipleConcatenation s a ps)
 times_with names s x a ps p f =
     ap (λ (z : ℤ). times_sense s z x.signals (constant_faults x) ps) p.integer
-    ∙ ap (λ (zs : List Span). times_sense s (constant_integer a) zs (constant_faults x) ps) (p.signals ∙ sym (no_signals a f))
+    ∙ ap (λ (zs : List Fault). times_sense s (constant_integer a) zs (constant_faults x) ps) (p.signals ∙ sym (no_signals a f))
     ∙ ap (λ (fs : List Fault). times_sense s (constant_integer a) a.signals fs ps) (p.faults ∙ sym f)
 
 pub literal_times : (names : Names) (s : Span) (k x : Expr) (ps : List Expr) → IsWhole names (v.MultipleConcatenation s k ps) → IsLiteral (sense names x) (sense names k) → sense names (v.MultipleConcatenation s x ps) ≡ sense names (v.MultipleConcatenation s k ps)
