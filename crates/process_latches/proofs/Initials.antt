@@ -19,7 +19,7 @@ use Rattle.vlog_meaning.specs.declared.scope.Decl.{Decl}
 use Rattle.vlog_meaning.specs.Answers.{least}
 use Rattle.vlog_meaning.specs.Operators.{IsSized}
 use Rattle.vlog_meaning.specs.Scopes.{Names, decl_shape}
-use Rattle.vlog_meaning.specs.Senses.{Sense, sense, assigned, fault, not_constant, constant_faults_at, is_empty}
+use Rattle.vlog_meaning.specs.Senses.{Sense, sense, assigned, not_constant, constant_faults_at, is_empty}
 use Rattle.vlog_meaning.proofs.Firsts.{least_none}
 use Rattle.vlog_meaning.proofs.Refusals.{least_empty}
 use Rattle.vlog_effects.specs.Steps.{name_alone}

@@ -3,8 +3,7 @@
 use Rattle.std.proofs.Common.{◌≡◌, ◌⊎◌, inl, inr, zero, suc, ℕ, ◌-◌, ◌<◌, ◌≤◌, Bool, true, false, not, ◌&&◌, ◌||◌, nat_eq, nat_le, nat_lt, List, [], ◌∷◌, ◌++◌, map, refl, sym, ap, ◌∙◌, subst, arith}
 use Rattle.std.specs.Prelude.{ℤ, pos, negsuc, ◌+ℤ◌, Option, Some, None, if◌then◌else◌}
 use Rattle.std.proofs.lemmas.Bool.Decides.{nat_tests}
-use Rattle.mcy_base.specs.declared.span.Span.{Span}
-use Rattle.vlog_meaning.specs.declared.fault.Cause.TheVariants.{NotConstant, DivideByZero}
+use Rattle.vlog_meaning.specs.declared.fault.Cause.TheVariants.{DivideByZero}
 use Rattle.vlog_meaning.specs.declared.fault.Fault.{Fault}
 use Rattle.vlog_meaning.specs.declared.scope.Decl.{Decl}
 use Rattle.vlog_meaning.specs.declared.scope.Decl.TheVariants.{Signal, Constant}
@@ -59,7 +58,7 @@ within v (negsuc n) (suc count) i h = within v (negsuc n +ℤ pos 1) count i h
 
 -- A part that can be told writes what it covers, and leaves nothing open.
 
-empty_start : (xs : List Span) (fs zs : List Fault) → is_empty (or_else (map (fault NotConstant) xs ++ fs) zs) ≡ true → is_empty xs ≡ true
+empty_start : (xs fs zs : List Fault) → is_empty (or_else (xs ++ fs) zs) ≡ true → is_empty xs ≡ true
 empty_start [] fs zs e = refl
 empty_start (x ∷ xs) fs zs e = absurd cc
 

@@ -3,7 +3,6 @@ use Rattle.std.proofs.Common.{◌≡◌, ℕ, ◌<◌, Bool, true, false, ◌&&�
 use Rattle.std.specs.Prelude.{Option, None, Some}
 use Rattle.std.proofs.lemmas.Bool.Decides.{nat_tests}
 use Rattle.std.proofs.lemmas.Nat.Bits.{same_from_bits_below}
-use Rattle.mcy_base.specs.declared.span.Span.{Span}
 use Rattle.rand_pcg.specs.Lcg.{Lcg}
 use Rattle.rand_pcg.specs.Pcg.{pcg32}
 use Rattle.vlog_syntax.specs.declared.expr.Expr.{Expr}
@@ -12,6 +11,7 @@ use Rattle.vlog_syntax.specs.declared.expr.Expr.TheOpen.{Expr-F}
 use Rattle.vlog_syntax.specs.declared.expr.Expr.TheViews.{roll-Expr}
 use Rattle.vlog_syntax.specs.declared.expr.Expr.TheFolds.{fold-roll-Expr, ind-Expr, map-Expr}
 use Rattle.vlog_syntax.specs.declared.identifier.Identifier.{Identifier}
+use Rattle.vlog_meaning.specs.declared.fault.Fault.{Fault}
 use Rattle.vlog_meaning.specs.declared.function.Function.{Function}
 use Rattle.vlog_meaning.specs.declared.function.Function.TheVariants.{Signed, Unsigned, Clog2, Random, Time}
 use Rattle.vlog_meaning.specs.declared.scope.Decl.{Decl}
@@ -22,7 +22,7 @@ use Rattle.vlog_meaning.specs.Integers.{integer, window, natural}
 use Rattle.vlog_meaning.specs.Laws.{Agree}
 use Rattle.vlog_meaning.specs.Operators.{sizing, left_context, right_context, operand_context}
 use Rattle.vlog_meaning.specs.Scopes.{Names, Store, decl_low, decl_value, IsWithin, AreWithin}
-use Rattle.vlog_meaning.specs.Senses.{Bits, Sense, sense, senses, step, index_of, either, all_reads, name_bits, part_bits, select_bits, is_among, constant_integer, constant_faults, joined, name_signals, name_faults, all_signals, all_faults, all_features, call_shape, call_value, call_signals, call_faults, call_zeros, fault}
+use Rattle.vlog_meaning.specs.Senses.{Bits, Sense, sense, senses, step, index_of, either, all_reads, name_bits, part_bits, select_bits, is_among, constant_integer, constant_faults, joined, name_signals, name_faults, all_signals, all_faults, all_features, call_shape, call_value, call_signals, call_faults, call_zeros}
 use Rattle.vlog_meaning.proofs.Blanks.{left_nil, right_nil, these_nil}
 use Rattle.vlog_meaning.proofs.Settled.{settled}
 use Rattle.vlog_meaning.proofs.Windows.{window_same}

@@ -2,9 +2,9 @@
 use Rattle.std.proofs.Common.{◌≡◌, zero, suc, ℕ, ◌+◌, ◌-◌, ◌/◌, ◌^◌, ◌<◌, ◌≤◌, min, ℤ, pos, negsuc, ◌-ℤ◌, Bool, true, false, not, ◌&&◌, ◌||◌, nat_eq, nat_le, nat_lt, List, [], ◌∷◌, ◌++◌, refl, sym, ap, ◌∙◌, subst, ◌⊎◌, inl, inr, arith}
 use Rattle.std.specs.Prelude.{Option, Some, None}
 use Rattle.std.proofs.lemmas.Bool.Decides.{nat_tests, eqb_tells}
-use Rattle.mcy_base.specs.declared.span.Span.{Span}
 use Rattle.rand_pcg.specs.Lcg.{Lcg}
 use Rattle.vlog_syntax.specs.declared.expr.Expr.{Expr}
+use Rattle.vlog_meaning.specs.declared.fault.Fault.{Fault}
 use Rattle.vlog_meaning.specs.declared.scope.Decl.{Decl}
 use Rattle.vlog_meaning.specs.declared.scope.Decl.TheVariants.{Signal, Constant}
 use Rattle.vlog_meaning.specs.declared.shapes.Shape.{Shape}
@@ -171,7 +171,7 @@ in_append (w ∷ ws) us n i h = elim h [
   | inr later ↦ elim (in_append ws us n i later) [ inl a ↦ inl (inr a) | inr b ↦ inr b ]
 ]
 
-empty_is : (xs : List Span) → is_empty xs ≡ true → xs ≡ []
+empty_is : (xs : List Fault) → is_empty xs ≡ true → xs ≡ []
 empty_is [] e = refl
 empty_is (x ∷ xs) e = absurd cc
 

@@ -14,7 +14,7 @@ use Rattle.vlog_meaning.specs.declared.function.Function.{Function}
 use Rattle.vlog_meaning.specs.declared.function.Function.TheVariants.{Signed, Unsigned, Clog2, Random, Time}
 use Rattle.vlog_meaning.specs.Functions.{function_of}
 use Rattle.vlog_meaning.specs.Scopes.{Names}
-use Rattle.vlog_meaning.specs.Senses.{Sense, sense, senses, step, name_signals, name_faults, all_signals, all_faults, all_reads, all_features, total_width, constant_faults, call_shape, call_value, call_signals, call_faults, call_zeros, fault}
+use Rattle.vlog_meaning.specs.Senses.{Sense, sense, senses, step, name_signals, name_faults, all_signals, all_faults, all_reads, all_features, total_width, constant_faults, call_shape, call_value, call_signals, call_faults, call_zeros}
 use Rattle.vlog_meaning.proofs.Blanks.{left_nil, right_nil, these_nil, those_nil}
 use Rattle.tb_values.specs.Draws.{Drawn, drawn, drawn_step, all_drawn, call_drawn, number_sense, random_shape, time_shape}
 use Rattle.tb_values.specs.Laws.{ShapesStay}

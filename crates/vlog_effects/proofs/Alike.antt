@@ -3,8 +3,8 @@ use Rattle.std.proofs.Common.{◌≡◌, ℕ, ◌+◌, ◌<◌, ◌^◌, max, Bo
 use Rattle.std.specs.Prelude.{if◌then◌else◌}
 use Rattle.std.proofs.lemmas.List.{length-drop, length-take-le}
 use Rattle.std.proofs.Math.Bool.{or-false}
-use Rattle.mcy_base.specs.declared.span.Span.{Span}
 use Rattle.vlog_syntax.specs.declared.expr.Expr.{Expr}
+use Rattle.vlog_meaning.specs.declared.fault.Fault.{Fault}
 use Rattle.vlog_meaning.specs.declared.scope.Decl.{Decl}
 use Rattle.vlog_meaning.specs.declared.scope.Decl.TheVariants.{Signal, Constant}
 use Rattle.vlog_meaning.specs.Integers.{integer}
@@ -52,7 +52,7 @@ own-same size names e b s u k m al = reads-same size names e (width_of names e) 
 
 no-signals : (names : Names) (e : Expr) → is_constant names e ≡ true → (sense names e).signals ≡ []
 no-signals names e f = go (sense names e).signals f where
-  go : (xs : List Span) → is_empty xs ≡ true → xs ≡ []
+  go : (xs : List Fault) → is_empty xs ≡ true → xs ≡ []
   go [] g = refl
   go (x ∷ xs) g = cc
 
