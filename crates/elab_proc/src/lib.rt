@@ -24,6 +24,6 @@ pub use cases::{always, case_fault, case_size, dont_care, is_default, ones};
 pub use laws::{first_is_one, left_sides_are_one};
 pub use left_side::same_form;
 pub use refusal::{Refusal, earlier};
-pub use sides::wrong_in;
+pub use sides::{own_fault, wrong_in};
 pub use statement::{MAX_TURNS, ProcessRules, statement_refusal};
 pub use turns::{Header, holds, next_word};

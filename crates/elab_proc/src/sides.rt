@@ -16,7 +16,7 @@ pub fn wrong_in(expr: &Expr, scope: &Scope) -> Option<Fault>
 }
 
 /// What is wrong in an expression that stands for itself.
-pub(crate) fn own_fault(expr: &Expr, scope: &Scope) -> Option<Fault>
+pub fn own_fault(expr: &Expr, scope: &Scope) -> Option<Fault>
     ensures { result ≡ least (own_faults (names_of scope.now) expr.now) }
 {
     match wrong_in(expr, scope) {
