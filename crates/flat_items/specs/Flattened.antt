@@ -47,12 +47,17 @@ pub record Flat : Type 0 where
 abbrev pub add_all : Flat → List FlatItem → Flat
 add_all flat items = record flat { items = flat.items ++ items }
 
+-- No name is looked up in a scope in which nothing is listed, and it keeps none.
+abbrev pub kept_names : List Step → Names → Names
+kept_names [] names = no_names
+kept_names (s ∷ more) names = names
+
 -- a scope that was opened is the next place
 abbrev pub entered : Flat → (prefix : List ℕ) → (around : Option ℕ) → (within : List ℕ) → Opened → Flat
 entered flat prefix around within child =
     record flat {
       signals = child.signals;
-      places = flat.places ++ record { prefix = prefix; names = child.names; own = child.own; around = around; within = within } ∷ [];
+      places = flat.places ++ record { prefix = prefix; names = kept_names child.steps child.names; own = child.own; around = around; within = within } ∷ [];
     }
 
 -- Within its top a design has at most 65,536 scopes: instances, blocks that conditions chose, and turns of loops. It is full where there

@@ -1,8 +1,9 @@
 //! A design that is being flattened: its signals, its scopes and its items so far.
 ghost use Rattle.std.specs.Prelude.{◌≡◌, ◌∷◌, [], length, slice_get, Some, IfOk, IfSome};
 ghost use Rattle.vlog_meaning.specs.Scopes.{names_of};
+ghost use Rattle.flat_scopes.specs.Owns.{what_of};
 ghost use Rattle.flat_scopes.specs.Views.{opened_of};
-ghost use Rattle.flat_items.specs.Flattened.{add_all, entered as with_place, is_full, tasks_of, plain_items, assigned_items, step_items, step_tasks, Sees};
+ghost use Rattle.flat_items.specs.Flattened.{add_all, entered as with_place, is_full, kept_names, tasks_of, plain_items, assigned_items, step_items, step_tasks, Sees};
 ghost use Rattle.flat_instances.specs.Places.{place_of};
 ghost use Rattle.flat_items.specs.Views.{flat_of};
 
@@ -11,6 +12,7 @@ use flat_instances::{FlatItem, ItemError, Place};
 use flat_scopes::{Lent, Opening, Parts, Signal, Step, What};
 use mcy_base::Text;
 use std::alloc::{AllocError, Global};
+use vlog_meaning::Scope;
 use vlog_syntax::{Assignment, PlainItem};
 
 /// The most scopes of a design within its top.
@@ -23,6 +25,37 @@ pub struct Flat<'a> {
     pub(crate) signals: Vec<Signal>,
     pub(crate) places: Vec<Place>,
     pub(crate) items: Vec<FlatItem<'a>>,
+}
+
+/// A scope, without its names where nothing is listed in it.
+fn kept_scope(alloc: Global, scope: Scope, steps: &[Step<'_>]) -> Scope
+    ensures { names_of result ≡ kept_names steps.now (names_of scope) }
+{
+    if steps.is_empty() {
+        return Scope::new(alloc);
+    }
+    scope
+}
+
+/// What is kept of a scope that was opened: no names where nothing is listed in it, so that empty blocks take little room.
+fn kept_parts<'a>(alloc: Global, child: Opening<'a>) -> Parts<'a>
+    ensures own { what_of result.own ≡ (opened_of child.entry).own }
+    ensures names { names_of result.scope ≡ kept_names (opened_of child.entry).steps (opened_of child.entry).names }
+    ensures signals { result.signals.items ≡ (opened_of child.entry).signals }
+    ensures steps { result.steps.items ≡ (opened_of child.entry).steps }
+{
+    let Parts {
+        own,
+        scope,
+        signals,
+        steps,
+    } = child.into_parts();
+    Parts {
+        own,
+        scope: kept_scope(alloc, scope, steps.as_slice()),
+        signals,
+        steps,
+    }
 }
 
 /// The steps of a scope, each to be replaced.
@@ -137,7 +170,7 @@ impl<'a> Flat<'a> {
             scope,
             signals,
             steps,
-        } = child.into_parts();
+        } = kept_parts(self.alloc, child);
         self.signals = signals;
         self.places.push(Place {
             prefix,

@@ -9,6 +9,7 @@ use Rattle.vlog_syntax.specs.declared.module.Module.{Module}
 use Rattle.vlog_meaning.specs.declared.scope.Decl.TheVariants.{Constant}
 use Rattle.vlog_meaning.specs.Scopes.{Names}
 use Rattle.flat_scopes.specs.declared.opening.Placing.{Placing}
+use Rattle.flat_scopes.specs.declared.opening.Step.{Step}
 use Rattle.flat_scopes.specs.declared.signal.Signal.{Signal}
 use Rattle.flat_scopes.specs.declared.signal.What.{What}
 use Rattle.flat_scopes.specs.declared.signal.What.TheVariants as w
@@ -19,7 +20,7 @@ use Rattle.flat_instances.specs.declared.item.FlatItem.{FlatItem}
 use Rattle.flat_items.specs.declared.task.Task.{Task}
 use Rattle.flat_items.specs.declared.task.Task.TheVariants as t
 use Rattle.flat_items.specs.declared.task.Turn.{Turn}
-use Rattle.flat_items.specs.Flattened.{Flat, block_head, block_items, add_all, entered, tasks_of, integer_in, taken_tasks, OpensBlock, turn_start}
+use Rattle.flat_items.specs.Flattened.{Flat, block_head, block_items, add_all, entered, kept_names, tasks_of, integer_in, taken_tasks, OpensBlock, turn_start}
 use Rattle.flat_instances.specs.Instances.{head_of, inner_prefix, no_names}
 use Rattle.flat_instances.specs.Gifts.{gift_of, parameters_of}
 use Rattle.flat_scopes.specs.Wires.{ports_of}
@@ -72,14 +73,19 @@ unopened_kept names signals sized named = record {
 place_on : (old new : List Signal) (p : Place) → Grows old new → PlaceStands old p → PlaceStands new p
 place_on old new p g h = record { names = λ name. named_on old new (p.names name) g (h.names name); own = λ name. owned_on (length old) (length new) (p.own name) g.longer (h.own name) }
 
+-- what a scope keeps stands where its names do
+kept_named : (signals : List Signal) (steps : List Step) (names : Names) → ((name : List ℕ) → NamesSignal signals (names name)) → (name : List ℕ) → NamesSignal signals (kept_names steps names name)
+kept_named signals [] names h name = tt
+kept_named signals (s ∷ more) names h name = h name
+
 entered_stands : (flat : Flat) (prefix : List ℕ) (around : Option ℕ) (within : List ℕ) (child : Opened) → ((i : ℕ) (p : Place) → slice_get flat.places i ≡ Some p → PlaceStands flat.signals p) → Added flat.signals child
     → AllStand (length child.signals) (length flat.places + 1) flat.items → FlatStands (entered flat prefix around within child)
 entered_stands flat prefix around within child places a items =
-    let p : Place = record { prefix = prefix; names = child.names; own = child.own; around = around; within = within } in
+    let p : Place = record { prefix = prefix; names = kept_names child.steps child.names; own = child.own; around = around; within = within } in
     let long : length (flat.places ++ p ∷ []) ≡ length flat.places + 1 = length_push flat.places p in
     record {
       sized = a.sized;
-      places = each_more (PlaceStands child.signals) p flat.places (λ i q e. place_on flat.signals child.signals q a.grows (places i q e)) (record { names = a.names; own = a.own });
+      places = each_more (PlaceStands child.signals) p flat.places (λ i q e. place_on flat.signals child.signals q a.grows (places i q e)) (record { names = kept_named child.signals child.steps child.names a.names; own = a.own });
       items = subst (λ (m : ℕ). AllStand (length child.signals) m flat.items) (sym long) items;
     }
 
@@ -90,7 +96,7 @@ enters : (flat : Flat) (items : List FlatItem) (mid : Flat) (prefix : List ℕ) 
 enters flat items mid prefix around within child h a signals places all listed =
     let n = length child.signals in
     let m = length flat.places in
-    let p : Place = record { prefix = prefix; names = child.names; own = child.own; around = around; within = within } in
+    let p : Place = record { prefix = prefix; names = kept_names child.steps child.names; own = child.own; around = around; within = within } in
     let long : length (mid.places ++ p ∷ []) ≡ m + 1 = length_push mid.places p ∙ ap (λ (xs : List Place). length xs + 1) places in
     let longer : length flat.signals ≤ n = a.grows.longer in
     let wider : m ≤ m + 1 = omega arith in

@@ -14,7 +14,7 @@ use Rattle.flat_instances.specs.declared.item.FlatItem.TheVariants as f
 use Rattle.flat_instances.specs.declared.error.ItemError.TheVariants as err
 use Rattle.flat_items.specs.declared.task.Task.{Task}
 use Rattle.flat_items.specs.declared.task.Task.TheVariants as t
-use Rattle.flat_items.specs.Flattened.{Flat, entered, tasks_of, step_items, condition_in, taken_tasks, module_at}
+use Rattle.flat_items.specs.Flattened.{Flat, entered, kept_names, tasks_of, step_items, condition_in, taken_tasks, module_at}
 use Rattle.flat_instances.specs.Instances.{no_names}
 use Rattle.flat_instances.specs.Places.{Place}
 use Rattle.flat_scopes.specs.Wires.{ports_of}
@@ -214,7 +214,7 @@ ports_of_tops modules top flat h accepted =
     let d = h.design in
     let child = d.child in
     let start : Opened = unopened no_names [] in
-    let p : Place = record { prefix = []; names = child.names; own = child.own; around = None; within = h.number ∷ [] } in
+    let p : Place = record { prefix = []; names = kept_names child.steps child.names; own = child.own; around = None; within = h.number ∷ [] } in
     let first = entered (record { signals = []; places = []; items = repeated modules 0 modules }) [] None (h.number ∷ []) child in
     let follows : Follows (tasks_of 0 child.steps) first flat = all_follow modules (tasks_of 0 child.steps) first flat d.flattens (top_stands modules h.number flat d) in
     let clear : SomeRefused child.steps → ⊥ = none_refused 0 child.steps (follows.accepted accepted).1 in
