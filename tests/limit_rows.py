@@ -108,6 +108,12 @@ def sizes_cases():
     ), run([True] * 10000)
 
 
+def clause_case():
+    """Outputs that all differ, in few free bits: a mutant of the redundant `or` is the design, and each other one differs from it."""
+    source = "module g(input [6:0] k, input a, input b, output [127:0] y); wire s = a & (a | b); assign y = (128'd1 << k) ^ {128{s}}; endmodule"
+    yield "# A clause may have 128 literals.", [*equality(653), f"hold g.v {source}"], run([n != 1 for n in range(653)])
+
+
 def bench_cases():
     head = "module tb; reg clk = 0; always #5 clk = !clk;"
     registers = spread(32, "module g(input clk, input [127:0] a, output [127:0] y); wire [127:0] r0 = a;\\ reg [127:0] r#; always @(posedge clk) r# <= r?;\\ assign y = r32; endmodule")
@@ -150,7 +156,7 @@ def script_cases():
 
 
 def main():
-    makers = (bytes_case, files_case, tokens_case, turns_cases, sizes_cases, bench_cases, nesting_case, script_cases)
+    makers = (bytes_case, files_case, tokens_case, turns_cases, sizes_cases, clause_case, bench_cases, nesting_case, script_cases)
     given, answers = [], []
     for title, before, answer in (case for maker in makers for case in maker()):
         given += [title, *before, "call run"]
