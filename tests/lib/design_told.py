@@ -316,6 +316,17 @@ endmodule
 elaborate top
 step 1
 > outputs 10
+# so is a bit of a name of which other bits are written
+module top(input [1:0] a, output [3:0] y);
+  reg [3:0] r = 4'b1010;
+  assign r[1:0] = a;
+  assign y = r;
+endmodule
+elaborate top
+step 3
+> outputs 11
+step 0
+> outputs 8
 # a label in parentheses keeps its digits that do not matter
 module top(input [1:0] s, output reg y);
   always @*
@@ -921,6 +932,15 @@ module top(input a, output y);
 endmodule
 elaborate top
 > Loop 4:10
+# the port of an instance is a left side where it is declared
+module top(output y);
+  wire w;
+  sub u(.a(w), .y(w));
+  assign y = w;
+endmodule
+module sub(input a, output y); assign y = a; endmodule
+elaborate top
+> Loop 6:18
 # cells that loop: the least number
 module top(input a, output y);
   wire p, q;
