@@ -45,7 +45,15 @@ pub(crate) fn statement_left(stmt: &Stmt, scope: &mut Scope, left: u32) -> Optio
         }
         Stmt::Case(_, _, _, items) => items_left(items.as_slice(), scope, left),
         Stmt::For(place, start, condition, step, body) => {
-            loop_left(*place, start, condition.get(), step, body.get(), scope, left)
+            loop_left(
+                *place,
+                start,
+                condition.get(),
+                step,
+                body.get(),
+                scope,
+                left,
+            )
         }
         Stmt::Null(_) => Some(left),
         Stmt::While(..) => Some(left),
