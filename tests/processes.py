@@ -143,12 +143,25 @@ reg a 2 1
 reg i 1 0
 reg y 2 0
 reg z 2 1
+reg w 8 0
 always @* begin y = a[y]; end
 > IndexedBase 22
 always @* begin z[i] = 1; end
 > IndexedBase 18
 always @* begin if (i) y = a[y]; end
 > Latch 1 signal 2
+always @* begin y = z + 2'd1 / 2'd0; z = a; end
+> DivideByZero 30
+always @* begin if (z + 2'd1 / 2'd0) y = 0; else y = 1; z = a; end
+> DivideByZero 30
+always @* begin y[z + 2'd1 / 2'd0] = 0; z = a; end
+> DivideByZero 28
+always @* begin y = z + 4'd8 / (4'd8 + 4'd8); z = a; end
+> DivideByZero 30
+always @* begin w = z + 4'd8 / (4'd8 + 4'd8); z = a; end
+> Latch 1 signal 3
+always @* begin q = z + 2'd1 / 2'd0; z = a; end
+> Latch 1 signal 3
 end
 # a loop assigns each bit, or one bit less
 reg a 4 0

@@ -1,5 +1,6 @@
 -- Statements in which nothing is refused are ready to be built.
 use Rattle.std.proofs.Common.{◌≡◌, ℕ, Bool, true, false, List, [], ◌∷◌, ◌++◌, map, length, Option, Some, None, refl, ap, ◌∙◌, subst, arith}
+use Rattle.std.specs.Prelude.{if◌then◌else◌}
 use Rattle.std.specs.List.{flat_map}
 use Rattle.mcy_base.specs.declared.span.Span.{Span}
 use Rattle.vlog_syntax.specs.declared.expr.Expr.{Expr}
@@ -7,8 +8,9 @@ use Rattle.vlog_meaning.specs.declared.fault.Cause.TheVariants.{DivideByZero}
 use Rattle.vlog_meaning.specs.declared.fault.Fault.{Fault}
 use Rattle.vlog_meaning.specs.declared.scope.Decl.{Decl}
 use Rattle.vlog_meaning.specs.declared.scope.Decl.TheVariants.{Signal, Constant}
+use Rattle.vlog_meaning.specs.declared.shapes.Shape.{Shape}
 use Rattle.vlog_meaning.specs.Scopes.{Names}
-use Rattle.vlog_meaning.specs.Senses.{sense, fault, own_zeros, assigned}
+use Rattle.vlog_meaning.specs.Senses.{sense, fault, own_zeros, assigned, or_else, is_empty}
 use Rattle.vlog_meaning.proofs.Blanks.{left_nil, right_nil, these_nil, those_nil}
 use Rattle.vlog_effects.specs.LeftSides.{Part, parts_of, part_vector, vector_of}
 use Rattle.vlog_effects.specs.Steps.{Assigning, Steps, Done, Assign, Choose, Case, Refuse, Arms, Otherwise, Arm, steps_of}
@@ -17,9 +19,10 @@ use Rattle.vlog_effects.specs.Latches.{Target, targets, arms_targets, part_targe
 use Rattle.vlog_effects.proofs.Sizes.{IsSized, AreSized, Sized, SizedArms, sized-steps}
 use Rattle.net_builder.specs.Building.{Building, IsSignal, signal}
 use Rattle.expr_plans.specs.Made.{plan}
-use Rattle.elab_proc.specs.Refusals.{same_form, wrong, sides_faults, part_refusals, kind_refusals, assign_refusals, step_refusals, arm_refusals, own_faults, case_faults, case_refusals}
+use Rattle.elab_proc.specs.Refusals.{same_form, wrong, divisions, sides_faults, part_refusals, kind_refusals, assign_refusals, step_refusals, arm_refusals, own_faults, case_faults, case_refusals}
 use Rattle.elab_proc.specs.declared.refusal.Refusal.{Refusal}
 use Rattle.elab_proc.specs.declared.refusal.Refusal.TheVariants.{Wrong}
+use Rattle.process_latches.specs.Sound.{right_faults}
 use Rattle.proc_muxes.specs.Builds.{Work, held}
 use Rattle.proc_muxes.specs.Clear.{CanAssign, AreHeld, IsClear, AreClear}
 use Rattle.process_cells.specs.Laws.{AcceptedAreReady}
@@ -57,12 +60,18 @@ sides_free names left right e =
       right_zeros = right_nil _ _ spans;
     }
 
+right_free : (names : Names) (left right : Expr) → SidesFree names left right → right_faults names left right ≡ []
+right_free names left right f =
+    let size : Shape = assigned (sense names right) (sense names left).shape.width in
+    ap (λ (fs : List Fault). if is_empty fs then or_else (wrong names right) (divisions ((sense names right).zeros size)) else wrong names right) (nothing_wrong names left f.left_whole f.left_supported)
+    ∙ clear names right size f.right_whole f.right_supported f.right_zeros
+
 -- what is known of an assignment in which nothing is refused
 pub record Accepts (s : Assigning) : Type 0 where
   pub can : CanAssign s
   pub signals : NameSignals s.names (parts_of s.left)
   pub forms : HaveForms s.names (parts_of s.left)
-  pub right : wrong s.names s.right ≡ []
+  pub right : right_faults s.names (same_form s.left) s.right ≡ []
 
 pub accepts : (comb : Bool) (written : List Bool) (s : Assigning) → assign_refusals comb written s ≡ [] → Accepts s
 accepts comb written s e =
@@ -80,7 +89,7 @@ accepts comb written s e =
       };
       signals = w.signals;
       forms = w.forms;
-      right = nothing_wrong names s.right f.right_whole f.right_supported;
+      right = right_free names (same_form s.left) s.right f;
     }
 
 -- Targets.

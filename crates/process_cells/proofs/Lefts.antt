@@ -29,7 +29,7 @@ use Rattle.vlog_effects.specs.LeftSides.{Part, Select, Whole, Bit, Range, Indexe
 use Rattle.elab_expr.specs.Expressions.{refusals}
 use Rattle.expr_plans.specs.Made.{plan, plans, all_unsupported}
 use Rattle.elab_expr.proofs.Facts.{bit_parts, indexed_parts, indexed_one, join_supported}
-use Rattle.elab_proc.specs.Refusals.{wrong, same_form, form_step, name_refusals, part_refusals}
+use Rattle.elab_proc.specs.Refusals.{wrong, own_faults, same_form, form_step, name_refusals, part_refusals}
 use Rattle.process_latches.specs.Sound.{part_form}
 use Rattle.proc_muxes.specs.Builds.{Index}
 use Rattle.proc_muxes.specs.Clear.{IsClearPart, CanWriteAll}
@@ -63,7 +63,7 @@ NameSignals names (p ∷ ps) = NamesSignal (names p.name.name) × NameSignals na
 -- nothing is wrong in the expressions of their forms
 abbrev pub HaveForms : Names → List Part → Type 0
 HaveForms names [] = Unit {0}
-HaveForms names (p ∷ ps) = (wrong names (part_form p.name p.select) ≡ []) × HaveForms names ps
+HaveForms names (p ∷ ps) = (own_faults names (part_form p.name p.select) ≡ []) × HaveForms names ps
 
 -- the parts can be written, and have as many bits as the expression, at most 128
 pub record Writes (names : Names) (e : Expr) (ps : List Part) : Type 0 where
@@ -111,11 +111,11 @@ width_at names select o w e = ap (width_by names select) e
 pub nothing_wrong : (names : Names) (x : Expr) → IsWhole names x → (plan names x).unsupported ≡ [] → wrong names x ≡ []
 nothing_wrong names x whole supported = ap (λ (fs : List Fault). fs ++ (plan names x).unsupported) whole ∙ supported
 
-one : (names : Names) (e : Expr) (p : Part) (s : NamesSignal (names p.name.name)) → (sense names e).shape.width ≡ select_width names s.vector p.select → IsClearPart names p s.vector → IsWhole names (part_form p.name p.select) → (plan names (part_form p.name p.select)).unsupported ≡ [] → Writes names e (p ∷ [])
-one names e p s width c form supported =
+one : (names : Names) (e : Expr) (p : Part) (s : NamesSignal (names p.name.name)) → (sense names e).shape.width ≡ select_width names s.vector p.select → IsClearPart names p s.vector → IsWhole names (part_form p.name p.select) → (plan names (part_form p.name p.select)).unsupported ≡ [] → own_zeros (sense names (part_form p.name p.select)) ≡ [] → Writes names e (p ∷ [])
+one names e p s width c form supported zeros =
     let here = width_at names p.select (part_vector names p) s.vector s.is in
     let narrow = c.narrow in
-    record { width = omega (arith, width, here); narrow = omega (arith, width, narrow); can = ((s.vector, c), tt); signals = (s, tt); forms = (nothing_wrong names (part_form p.name p.select) form supported, tt) }
+    record { width = omega (arith, width, here); narrow = omega (arith, width, narrow); can = ((s.vector, c), tt); signals = (s, tt); forms = (clear names (part_form p.name p.select) (sense names (part_form p.name p.select)).shape form supported zeros, tt) }
 
 signal_in : (names : Names) (written : List Bool) (p : Part) → name_faults p.name.span (names p.name.name) ≡ [] → flat_map (part_refusals names written) (p ∷ []) ≡ [] → NamesSignal (names p.name.name)
 signal_in names written p e f = names_signal written p.name.span (names p.name.name) e (left_nil (part_refusals names written p) [] f)
@@ -138,7 +138,7 @@ right_name names written n whole supported zeros free =
       low = λ i e. no_index _ i e;
       index = λ i e. no_index _ i e;
       plain = λ i e. no_index _ i e;
-    }) whole supported
+    }) whole supported zeros
 
 right_bit : (names : Names) (written : List Bool) (n : Identifier) (at : Span) (i : Expr) → IsRight names written (v.BitSelect n at i) (record { name = n; select = Bit at i } ∷ [])
 right_bit names written n at i whole supported zeros free =
@@ -157,7 +157,7 @@ right_bit names written n at i whole supported zeros free =
       low = λ j e. low_zero at (names n.name) (sense names i) s.vector s.is parts.0 (index_varies (is_constant names i) x j e).0;
       index = λ j e. subst (λ (k : Index). refusals names k.expr (sense names k.expr).shape ≡ []) (index_varies (is_constant names i) x j e).1 (clear names i (sense names i).shape inner parts.1 none);
       plain = λ j e. tt;
-    }) whole supported
+    }) whole supported zeros
 
 right_range : (names : Names) (written : List Bool) (n : Identifier) (at : Span) (msb lsb : Expr) → IsRight names written (v.PartSelect n at msb lsb) (record { name = n; select = Range at msb lsb } ∷ [])
 right_range names written n at msb lsb whole supported zeros free =
@@ -173,7 +173,7 @@ right_range names written n at msb lsb whole supported zeros free =
       low = λ i e. no_index _ i e;
       index = λ i e. no_index _ i e;
       plain = λ i e. no_index _ i e;
-    }) whole supported
+    }) whole supported zeros
 
 right_indexed : (names : Names) (written : List Bool) (n : Identifier) (at : Span) (base count : Expr) → IsRight names written (v.IndexedPartSelect n at base count) (record { name = n; select = Indexed at base count } ∷ [])
 right_indexed names written n at base count whole supported zeros free =
@@ -192,7 +192,7 @@ right_indexed names written n at base count whole supported zeros free =
       low = λ j e. low_zero at (names n.name) (sense names base) s.vector s.is parts.0 (index_varies (is_constant names base) x j e).0;
       index = λ j e. subst (λ (k : Index). refusals names k.expr (sense names k.expr).shape ≡ []) (index_varies (is_constant names base) x j e).1 (clear names base (sense names base).shape inner.base parts.1 none);
       plain = λ j e. subst (λ (k : Index). (sense names k.expr).shape.is_signed ≡ false) (index_varies (is_constant names base) x j e).1 (unsigned_by (sense names base).shape.is_signed 0 refl (λ signed. indexed_one names (v.IndexedPartSelect n at base count) (sense names (v.IndexedPartSelect n at base count)).shape n at base count refl 0 supported inner.base signed (index_varies (is_constant names base) x j e).0));
-    }) whole supported
+    }) whole supported zeros
 
 -- Parts one after the other.
 

@@ -9,13 +9,13 @@ use Rattle.vlog_meaning.specs.declared.fault.Fault.{Fault}
 use Rattle.vlog_meaning.specs.Scopes.{Names}
 use Rattle.vlog_meaning.specs.Senses.{Bits, no_bits, either, is_empty}
 use Rattle.vlog_meaning.proofs.Blanks.{left_nil, right_nil, these_nil}
-use Rattle.vlog_effects.specs.LeftSides.{Part, parts_of}
+use Rattle.vlog_effects.specs.LeftSides.{Whole, Part, parts_of}
 use Rattle.vlog_effects.specs.Latches.{Target, targets, arms_targets, parts_targets, covered, arms_covered, early, arms_early, all_missed, parts_cover, missed, parts_missed, all_of, some_bit, is_latch, latches, first_of, latch_of}
 use Rattle.vlog_effects.specs.Steps.{Assigning, Test, Selection, Turns, Steps, Done, Assign, Choose, Case, Refuse, Arms, Otherwise, Arm, followed, steps_of}
-use Rattle.elab_proc.specs.Refusals.{wrong, own_faults, case_faults, case_refusals, assign_refusals, step_refusals, arm_refusals}
+use Rattle.elab_proc.specs.Refusals.{same_form, wrong, own_faults, case_faults, case_refusals, assign_refusals, step_refusals, arm_refusals}
 use Rattle.elab_proc.specs.declared.refusal.Refusal.{Refusal}
 use Rattle.elab_proc.specs.declared.refusal.Refusal.TheVariants.{Wrong}
-use Rattle.process_latches.specs.Sound.{sound_expr, part_form, sound_part, sound_left, sound, sound_arms, has_stop, arms_stop}
+use Rattle.process_latches.specs.Sound.{sound_by, sound_expr, sound_test, right_faults, sound_right, part_form, sound_part, sound_left, sound, sound_arms, has_stop, arms_stop}
 use Rattle.process_latches.proofs.Fitting.{parts_sound}
 use Rattle.process_cells.specs.Laws.{AcceptedAreSound}
 use Rattle.process_cells.proofs.Accepted.{Accepts, accepts, arms_free, faults_free}
@@ -23,11 +23,14 @@ use Rattle.process_cells.proofs.Labels.{AreRight, ArmsRight, HasOwnLabels, ArmsO
 use Rattle.process_cells.proofs.Lefts.{HaveForms}
 use Rattle.process_cells.proofs.Lists.{map_nil}
 
-same_expr : (names : Names) (x : Expr) → wrong names x ≡ [] → sound_expr names x ≡ x
-same_expr names x right = rw right refl
+same_by : (faults : List Fault) (x : Expr) → faults ≡ [] → sound_by faults x ≡ x
+same_by faults x right = rw right refl
 
-same_part : (names : Names) (p : Part) → wrong names (part_form p.name p.select) ≡ [] → sound_part names p ≡ p
-same_part names p right = rw right refl
+same_expr : (names : Names) (x : Expr) → wrong names x ≡ [] → sound_expr names x ≡ x
+same_expr names x right = same_by (wrong names x) x right
+
+same_part : (names : Names) (p : Part) → own_faults names (part_form p.name p.select) ≡ [] → sound_part names p ≡ p
+same_part names p right = ap (λ (fs : List Fault). if is_empty fs then p else record { name = p.name; select = Whole }) right
 
 same_parts : (names : Names) (ps : List Part) → HaveForms names ps → map (sound_part names) ps ≡ ps
 same_parts names [] h = refl
@@ -40,7 +43,7 @@ pub record AreSame (a b : Steps) : Type 0 where
   pub early_are : (c : Bits) → early a c ≡ early b c
   pub runs_on : has_stop a ≡ false
 
-same_assign : (s : Assigning) (more next : Steps) → parts_of (sound_left s.names s.left) ≡ parts_of s.left → sound_expr s.names s.right ≡ s.right → AreSame next more → AreSame (Assign (record s { left = sound_left s.names s.left; right = sound_expr s.names s.right }) next) (Assign s more)
+same_assign : (s : Assigning) (more next : Steps) → parts_of (sound_left s.names s.left) ≡ parts_of s.left → sound_right s.names s.left s.right ≡ s.right → AreSame next more → AreSame (Assign (record s { left = sound_left s.names s.left; right = sound_right s.names s.left s.right }) next) (Assign s more)
 same_assign s more next parts right rest =
     let ps : List Part = parts_of s.left in
     let qs : List Part = parts_of (sound_left s.names s.left) in
@@ -125,14 +128,13 @@ mutual
   same_steps comb written Done e own = record { targets_are = refl; covered_are = λ c. refl; early_are = λ c. refl; runs_on = refl }
   same_steps comb written (Assign s more) e own =
       let here : Accepts s = accepts comb written s (left_nil (assign_refusals comb written s) (step_refusals comb written more) e) in
-      same_assign s more (sound more) (parts_sound s.names s.left ∙ same_parts s.names (parts_of s.left) here.forms) (same_expr s.names s.right here.right)
+      same_assign s more (sound more) (parts_sound s.names s.left ∙ same_parts s.names (parts_of s.left) here.forms) (same_by (right_faults s.names (same_form s.left) s.right) s.right here.right)
       (same_steps comb written more (right_nil (assign_refusals comb written s) (step_refusals comb written more) e) own)
   same_steps comb written (Choose at c p q more) e own =
       let f = right_nil (map Wrong (own_faults c.names c.condition)) (step_refusals comb written p ++ (step_refusals comb written q ++ step_refusals comb written more)) e in
       let g = right_nil (step_refusals comb written p) (step_refusals comb written q ++ step_refusals comb written more) f in
       let faults : own_faults c.names c.condition ≡ [] = map_nil Wrong (own_faults c.names c.condition) (left_nil _ _ e) in
-      let right : wrong c.names c.condition ≡ [] = these_nil (wrong c.names c.condition) _ faults in
-      same_choice c p q more (sound p) (sound q) (sound more) (sound_expr c.names c.condition) (same_expr c.names c.condition right)
+      same_choice c p q more (sound p) (sound q) (sound more) (sound_test c.names c.condition) (same_by (own_faults c.names c.condition) c.condition faults)
       (same_steps comb written p (left_nil _ _ f) own.0) (same_steps comb written q (left_nil _ _ g) own.1)
       (same_steps comb written more (right_nil (step_refusals comb written q) (step_refusals comb written more) g) own.2) at
   same_steps comb written (Case c arms bodies more) e own =

@@ -14,12 +14,12 @@ use Rattle.vlog_syntax.specs.declared.stmt.Stmt.{Stmt}
 use Rattle.vlog_meaning.specs.declared.fault.Fault.{Fault}
 use Rattle.vlog_meaning.specs.Answers.{least}
 use Rattle.vlog_meaning.specs.Scopes.{Names}
-use Rattle.vlog_meaning.specs.Senses.{no_bits, is_empty}
+use Rattle.vlog_meaning.specs.Senses.{Bits, no_bits, is_empty}
 use Rattle.vlog_meaning.proofs.Firsts.{least_none}
 use Rattle.vlog_effects.specs.Laws.{item_steps}
 use Rattle.vlog_effects.specs.Latches.{covered, early, all_missed, arms_covered, arms_early}
 use Rattle.vlog_effects.specs.Steps.{Steps, Done, Choose, Case, Refuse, Turns, Arms, InNames, Item, Selection, labelled, labels_of, chosen_arms, default_of, done_by, bodies_of, selection_of, case_steps, followed, step_of, item_of, steps_of}
-use Rattle.elab_proc.specs.Refusals.{case_faults, labels_in}
+use Rattle.elab_proc.specs.Refusals.{own_faults, case_faults, labels_in}
 use Rattle.elab_proc.proofs.StepLemmas.{labels_same}
 use Rattle.signal_masks.specs.Masks.{bits_in}
 use Rattle.signal_masks.specs.declared.mask.Mask.{Mask}
@@ -28,7 +28,7 @@ use Rattle.case_arms.proofs.Bounds.{body_here}
 use Rattle.case_arms.specs.declared.chosen.Chosen.{Chosen as Places}
 use Rattle.process_latches.specs.declared.marks.Marks.{Marks}
 use Rattle.process_latches.specs.declared.marks.Write.{Write}
-use Rattle.process_latches.specs.Marking.{AreBlank, Added, Marked, Met, sound_reads, all_sound_reads}
+use Rattle.process_latches.specs.Marking.{AreBlank, Added, Marked, Met, reads_by, sound_reads, all_sound_reads}
 use Rattle.process_latches.specs.Sound.{sound_expr, sound, sound_arms, has_stop, arms_stop}
 use Rattle.process_latches.specs.Turning.{IsOwn, Chosen, AreArms, AlsoWrites, all_cover, some_read, items_write, some_stop}
 use Rattle.process_latches.specs.Writes.{writes, arms_writes}
@@ -55,15 +55,19 @@ own_none a blank = record {
 pub chosen_added : (f g both a b : Marks) → Met g f both → Added (bits_in both.covered) (bits_in both.early) both.writes.items both.is_stopped a b → Chosen f g a b
 chosen_added f g both a b met x = added_as _ _ _ _ _ _ _ _ a b met.covered_is met.early_is met.writes_are met.stopped_is x
 
+-- what a condition reads
+abbrev test_reads : Names → Expr → Bits
+test_reads names x = reads_by names (own_faults names x) x
+
 -- an `if`
-pub choice_marked : (at : Span) (names : Names) (condition test : Expr) (s t : Steps) (m0 m1 m2 f g : Marks) → test ≡ condition → Added no_bits (sound_reads names test) [] false m0 m1 → IsOwn (sound s) f → IsOwn (sound t) g → Chosen f g m1 m2 → Marked (sound (Choose at (record { names = names; condition = condition }) s t Done)) m0 m2
+pub choice_marked : (at : Span) (names : Names) (condition test : Expr) (s t : Steps) (m0 m1 m2 f g : Marks) → test ≡ condition → Added no_bits (reads_by names (own_faults names test) test) [] false m0 m1 → IsOwn (sound s) f → IsOwn (sound t) g → Chosen f g m1 m2 → Marked (sound (Choose at (record { names = names; condition = condition }) s t Done)) m0 m2
 choice_marked at names condition test s t m0 m1 m2 f g same x own_f own_g y =
     added_as _ _ _ _ _ _ _ _ m0 m2
     (λ n i. ap (λ (b : Bool). b && bits_in g.covered n i) (own_f.covered_is n i) ∙ ap (λ (b : Bool). covered (sound s) no_bits n i && b) (own_g.covered_is n i))
-    (λ n i. ap (λ (b : Bool). sound_reads names test n i || b) (and_end (bits_in f.early n i || bits_in g.early n i) ∙ ap (λ (b : Bool). b || bits_in g.early n i) (own_f.early_is n i) ∙ ap (λ (b : Bool). early (sound s) no_bits n i || b) (own_g.early_is n i)) ∙ ap (λ (e : Expr). sound_reads names e n i || (early (sound s) no_bits n i || early (sound t) no_bits n i)) same ∙ ap (λ (b : Bool). b || (early (sound s) no_bits n i || early (sound t) no_bits n i)) (sym (and_end (sound_reads names condition n i))) ∙ sym (or_end _))
+    (λ n i. ap (λ (b : Bool). test_reads names test n i || b) (and_end (bits_in f.early n i || bits_in g.early n i) ∙ ap (λ (b : Bool). b || bits_in g.early n i) (own_f.early_is n i) ∙ ap (λ (b : Bool). early (sound s) no_bits n i || b) (own_g.early_is n i)) ∙ ap (λ (e : Expr). test_reads names e n i || (early (sound s) no_bits n i || early (sound t) no_bits n i)) same ∙ ap (λ (b : Bool). b || (early (sound s) no_bits n i || early (sound t) no_bits n i)) (sym (and_end (test_reads names condition n i))) ∙ sym (or_end _))
     (ap (λ (l : List Write). l ++ g.writes.items) own_f.writes_are ∙ ap (λ (l : List Write). writes (sound s) ++ l) own_g.writes_are ∙ sym (append-nil (writes (sound s) ++ writes (sound t))))
     (ap (λ (b : Bool). b || g.is_stopped) own_f.stopped_is ∙ ap (λ (b : Bool). has_stop (sound s) || b) own_g.stopped_is ∙ sym (or_end (has_stop (sound s) || has_stop (sound t))))
-    (added_then no_bits (sound_reads names test) (λ n i. bits_in f.covered n i && bits_in g.covered n i) (λ n i. bits_in f.early n i || bits_in g.early n i) [] (f.writes.items ++ g.writes.items) false (f.is_stopped || g.is_stopped) m0 m1 m2 x y)
+    (added_then no_bits (test_reads names test) (λ n i. bits_in f.covered n i && bits_in g.covered n i) (λ n i. bits_in f.early n i || bits_in g.early n i) [] (f.writes.items ++ g.writes.items) false (f.is_stopped || g.is_stopped) m0 m1 m2 x y)
 
 -- Arms.
 

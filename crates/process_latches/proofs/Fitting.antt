@@ -19,7 +19,7 @@ use Rattle.vlog_meaning.proofs.Whole.{whole_index, whole_part, whole_indexed}
 use Rattle.vlog_effects.specs.LeftSides.{Select, Whole, Bit, Range, Indexed, Part, parts_of, concatenated}
 use Rattle.vlog_effects.specs.Latches.{parts_missed, index_reads}
 use Rattle.vlog_effects.proofs.Folds.{parts-name, parts-bit, parts-range, parts-indexed, parts-concatenation}
-use Rattle.elab_proc.specs.Refusals.{AreSized, wrong, same_form, form_step}
+use Rattle.elab_proc.specs.Refusals.{AreSized, own_faults, same_form, form_step}
 use Rattle.signal_masks.specs.Parts.{IsFitSelect, AreFit, indices_read}
 use Rattle.process_latches.specs.Marking.{IsPart}
 use Rattle.process_latches.specs.Sound.{part_form, part_left, left_of, sound_part, sound_left}
@@ -47,19 +47,19 @@ no_faults [] e = refl
 no_faults (f ∷ more) e = cc
 
 -- a part in which nothing is refused is taken as it is
-pub sound_whole : (names : Names) (left : LeftSide) (n : Identifier) (p : Part) → IsPart left n p → wrong names (same_form left) ≡ [] → parts_of left ≡ sound_part names p ∷ []
+pub sound_whole : (names : Names) (left : LeftSide) (n : Identifier) (p : Part) → IsPart left n p → own_faults names (same_form left) ≡ [] → parts_of left ≡ sound_part names p ∷ []
 sound_whole names left n p is whole =
-    is.parts ∙ sym (ap (λ (b : Bool). (if b then p else record { name = p.name; select = Whole }) ∷ []) (no_faults _ (subst (λ (x : Expr). wrong names x ≡ []) is.form whole)))
+    is.parts ∙ sym (ap (λ (b : Bool). (if b then p else record { name = p.name; select = Whole }) ∷ []) (no_faults _ (subst (λ (x : Expr). own_faults names x ≡ []) is.form whole)))
 
 -- and one that is refused is its name
-pub sound_name : (names : Names) (left : LeftSide) (n : Identifier) (p : Part) (f : Fault) → IsPart left n p → Some f ≡ least (wrong names (same_form left)) → parts_of (lv.Name n) ≡ sound_part names p ∷ []
+pub sound_name : (names : Names) (left : LeftSide) (n : Identifier) (p : Part) (f : Fault) → IsPart left n p → Some f ≡ least (own_faults names (same_form left)) → parts_of (lv.Name n) ≡ sound_part names p ∷ []
 sound_name names left n p f is some =
     let by_name : Identifier → List Part = λ k. record { name = k; select = Whole } ∷ [] in
-    let faults : Some f ≡ least (wrong names (part_form p.name p.select)) = subst (λ (x : Expr). Some f ≡ least (wrong names x)) is.form some in
+    let faults : Some f ≡ least (own_faults names (part_form p.name p.select)) = subst (λ (x : Expr). Some f ≡ least (own_faults names x)) is.form some in
     parts-name n ∙ ap by_name (sym is.name_is) ∙ sym (ap (λ (b : Bool). (if b then p else record { name = p.name; select = Whole }) ∷ []) (some_faults _ f faults))
 
 pub sound_keeps_name : (names : Names) (p : Part) → (sound_part names p).name ≡ p.name
-sound_keeps_name names p = go (is_empty (wrong names (part_form p.name p.select))) where
+sound_keeps_name names p = go (is_empty (own_faults names (part_form p.name p.select))) where
   go : (b : Bool) → (if b then p else record { name = p.name; select = Whole }).name ≡ p.name
   go true = refl
   go false = refl

@@ -12,7 +12,7 @@ use Rattle.elab_proc.specs.Refusals.{case_faults}
 use Rattle.process_latches.specs.declared.marks.Marks.{Marks}
 use Rattle.process_latches.specs.declared.marks.Write.{Write}
 use Rattle.process_latches.specs.Marking.{Marked}
-use Rattle.process_latches.specs.Sound.{sound_expr, sound_left, sound, sound_arms, has_stop, is_stop, arms_stop}
+use Rattle.process_latches.specs.Sound.{sound_expr, sound_test, sound_right, sound_left, sound, sound_arms, has_stop, is_stop, arms_stop}
 use Rattle.process_latches.specs.Writes.{writes, arms_writes, parts_writes}
 use Rattle.process_latches.proofs.Adding.{or_again, and_end, added_as, added_then}
 
@@ -73,8 +73,8 @@ stop_followed (Refuse x more) b = ap (λ (t : Bool). is_stop x || t) (stop_follo
 
 sound_followed : (a b : Steps) → sound (followed a b) ≡ followed (sound a) (sound b)
 sound_followed Done b = refl
-sound_followed (Assign x more) b = ap (λ (s : Steps). Assign (record x { left = sound_left x.names x.left; right = sound_expr x.names x.right }) s) (sound_followed more b)
-sound_followed (Choose at x then_part else_part more) b = ap (λ (s : Steps). Choose at (record x { condition = sound_expr x.names x.condition }) (sound then_part) (sound else_part) s) (sound_followed more b)
+sound_followed (Assign x more) b = ap (λ (s : Steps). Assign (record x { left = sound_left x.names x.left; right = sound_right x.names x.left x.right }) s) (sound_followed more b)
+sound_followed (Choose at x then_part else_part more) b = ap (λ (s : Steps). Choose at (record x { condition = sound_test x.names x.condition }) (sound then_part) (sound else_part) s) (sound_followed more b)
 sound_followed (Case x arms bodies more) b = go (is_empty (case_faults x.names (x.selector ∷ x.labels))) (sound_followed more b) where
   go : (t : Bool) → sound (followed more b) ≡ followed (sound more) (sound b) → (if t then Case (record x { selector = sound_expr x.names x.selector }) (sound_arms x.names arms) (sound bodies) (sound (followed more b)) else Refuse (Turns (first_token x.selector)) (followed (sound bodies) (sound (followed more b)))) ≡ followed (if t then Case (record x { selector = sound_expr x.names x.selector }) (sound_arms x.names arms) (sound bodies) (sound more) else Refuse (Turns (first_token x.selector)) (followed (sound bodies) (sound more))) (sound b)
   go true e = ap (λ (s : Steps). Case (record x { selector = sound_expr x.names x.selector }) (sound_arms x.names arms) (sound bodies) s) e

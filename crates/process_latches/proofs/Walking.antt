@@ -31,9 +31,10 @@ use Rattle.vlog_effects.specs.Laws.{item_steps}
 use Rattle.vlog_effects.specs.Steps.{Steps, Done, Assign, Choose, Const, InNames, Item, Loop, assigning, step_of, item_of, in_turn, looped, all_turns, flaws_of, turns, max_turns, case_steps, loop_steps, name_alone, steps_of, else_steps}
 use Rattle.vlog_effects.proofs.Variants.{steps-block, steps-conditional, steps-case, steps-loop}
 use Rattle.vlog_effects.proofs.Running.{steps-blocking, steps-nonblocking}
+use Rattle.elab_proc.specs.Refusals.{own_faults}
 use Rattle.elab_proc.proofs.TurnLemmas.{faults_at, constant_stands, turns_next, loop_by_name}
 use Rattle.process_latches.specs.declared.marks.Marks.{Marks}
-use Rattle.process_latches.specs.Marking.{AreBlank, Added, Marked, sound_reads}
+use Rattle.process_latches.specs.Marking.{AreBlank, Added, Marked, reads_by}
 use Rattle.process_latches.specs.Sound.{sound}
 use Rattle.process_latches.specs.Turning.{IsOwn, Chosen}
 use Rattle.process_latches.proofs.Adding.{added_none}
@@ -122,7 +123,7 @@ module _ (names : Names) (a b : Marks) where
   stmt_choice x at c first other is m = subst (λ (z : Steps). Marked (sound z) a b) (sym (ap (λ (y : Stmt). steps_of y names) is ∙ steps-conditional at c first other names)) m
 
   -- a choice of two parts
-  pub choice_both : (here : Names) (x : Stmt) (at : Span) (c test : Expr) (then_part first else_part second : Stmt) (other : Option Stmt) (m1 e f h g : Marks) → x ≡ s.Conditional at c then_part other → other ≡ Some else_part → test ≡ c → first ≡ then_part → second ≡ else_part → here ≡ names → Added no_bits (sound_reads names test) [] false a m1 → AreBlank e → Marked (sound (steps_of first names)) e f → AreBlank h → Marked (sound (steps_of second here)) h g → Chosen f g m1 b → Marked (sound (steps_of x names)) a b
+  pub choice_both : (here : Names) (x : Stmt) (at : Span) (c test : Expr) (then_part first else_part second : Stmt) (other : Option Stmt) (m1 e f h g : Marks) → x ≡ s.Conditional at c then_part other → other ≡ Some else_part → test ≡ c → first ≡ then_part → second ≡ else_part → here ≡ names → Added no_bits (reads_by names (own_faults names test) test) [] false a m1 → AreBlank e → Marked (sound (steps_of first names)) e f → AreBlank h → Marked (sound (steps_of second here)) h g → Chosen f g m1 b → Marked (sound (steps_of x names)) a b
   choice_both here x at c test then_part first else_part second other m1 e f h g is some same same_first same_second same_names read blank_e m blank_h n both =
       let own_f : IsOwn (sound (steps_of then_part names)) f = subst (λ (z : Stmt). IsOwn (sound (steps_of z names)) f) same_first (own_marks (sound (steps_of first names)) e f blank_e m) in
       let by_names : IsOwn (sound (steps_of second names)) g = subst (λ (z : Names). IsOwn (sound (steps_of second z)) g) same_names (own_marks (sound (steps_of second here)) h g blank_h n) in
@@ -131,7 +132,7 @@ module _ (names : Names) (a b : Marks) where
       stmt_choice x at c then_part other is (choice_marked at names c test (steps_of then_part names) (else_steps (option_map steps_of other) names) a m1 b f g same read own_f as_else both)
 
   -- a choice without an `else`
-  pub choice_one : (x : Stmt) (at : Span) (c test : Expr) (then_part first : Stmt) (other : Option Stmt) (m1 e f g : Marks) → x ≡ s.Conditional at c then_part other → other ≡ None → test ≡ c → first ≡ then_part → Added no_bits (sound_reads names test) [] false a m1 → AreBlank e → Marked (sound (steps_of first names)) e f → AreBlank g → Chosen f g m1 b → Marked (sound (steps_of x names)) a b
+  pub choice_one : (x : Stmt) (at : Span) (c test : Expr) (then_part first : Stmt) (other : Option Stmt) (m1 e f g : Marks) → x ≡ s.Conditional at c then_part other → other ≡ None → test ≡ c → first ≡ then_part → Added no_bits (reads_by names (own_faults names test) test) [] false a m1 → AreBlank e → Marked (sound (steps_of first names)) e f → AreBlank g → Chosen f g m1 b → Marked (sound (steps_of x names)) a b
   choice_one x at c test then_part first other m1 e f g is none same same_first read blank_e m blank_g both =
       let own_f : IsOwn (sound (steps_of then_part names)) f = subst (λ (z : Stmt). IsOwn (sound (steps_of z names)) f) same_first (own_marks (sound (steps_of first names)) e f blank_e m) in
       let as_else : IsOwn (sound (else_steps (option_map steps_of other) names)) g = subst (λ (z : Option Stmt). IsOwn (sound (else_steps (option_map steps_of z) names)) g) (sym none) (own_none g blank_g) in

@@ -3,6 +3,7 @@ use Rattle.std.specs.Prelude.{◌≡◌, ℕ, Bool, false, not, ◌&&◌, ◌||�
 use Rattle.vlog_syntax.specs.declared.expr.Expr.{Expr}
 use Rattle.vlog_syntax.specs.declared.identifier.Identifier.{Identifier}
 use Rattle.vlog_syntax.specs.declared.left_side.LeftSide.{LeftSide}
+use Rattle.vlog_meaning.specs.declared.fault.Fault.{Fault}
 use Rattle.vlog_meaning.specs.Scopes.{Names}
 use Rattle.vlog_meaning.specs.Senses.{Bits, no_bits}
 use Rattle.vlog_effects.specs.Expressions.{reads}
@@ -15,7 +16,7 @@ use Rattle.signal_masks.specs.Parts.{indices_read}
 use Rattle.process_latches.specs.declared.marks.Marks.{Marks}
 use Rattle.process_latches.specs.declared.marks.Write.{Write}
 use Rattle.process_latches.specs.declared.left.Manner.{Manner}
-use Rattle.process_latches.specs.Sound.{sound_expr, part_form, has_stop}
+use Rattle.process_latches.specs.Sound.{sound_by, sound_expr, part_form, has_stop}
 use Rattle.process_latches.specs.Writes.{writes, part_writes, parts_writes}
 
 -- nothing is marked
@@ -36,7 +37,11 @@ pub record Added (covers reads_early : Bits) (ws : List Write) (stops : Bool) (o
 abbrev pub Marked : Steps → Marks → Marks → Type 0
 Marked steps old new = Added (covered steps no_bits) (early steps no_bits) (writes steps) (has_stop steps) old new
 
--- what an expression reads, where it has a shape
+-- what an expression reads in which this is wrong: nothing, where anything is
+abbrev pub reads_by : Names → List Fault → Expr → Bits
+reads_by names faults x = reads names (sound_by faults x)
+
+-- what a selector or a label reads
 abbrev pub sound_reads : Names → Expr → Bits
 sound_reads names x = reads names (sound_expr names x)
 

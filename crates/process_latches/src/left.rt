@@ -9,7 +9,7 @@ ghost use Rattle.process_latches.specs.Marking.{BitsAdded, WriteAdded, PartsAdde
 ghost use Rattle.process_latches.specs.Sound.{sound_part};
 
 use crate::marks::{Marks, Write};
-use elab_proc::{same_form, wrong_in};
+use elab_proc::{own_fault, same_form};
 use mcy_base::Span;
 use signal_masks::{covered_by, indices_of};
 use std::alloc::{AllocError, Global};
@@ -61,7 +61,7 @@ fn mark_select(
     ensures { OnOk result ((p : Part) → IsPart left.now name.now p → BitsAdded (names_of scope.now) (sound_part (names_of scope.now) p ∷ []) marks.old marks.new) }
 {
     let form = same_form(alloc, left)?;
-    match wrong_in(&form, scope) {
+    match own_fault(&form, scope) {
         Some(_) => mark_name(alloc, name, scope, marks),
         None => mark_bits(left, scope, marks),
     }

@@ -2,18 +2,21 @@
 //!
 //! The parts of a choice begin with marks of their own, which are added to those before the choice: so each costs what its
 //! statements touch, and no set is copied.
-ghost use Rattle.std.specs.Prelude.{◌≡◌, ◌<◌, ◌-◌, true, false, [], length, slice_index_or, OnOk};
+ghost use Rattle.std.specs.Prelude.{◌≡◌, ◌<◌, ◌-◌, true, false, List, [], None, length, slice_index_or, OnOk};
+ghost use Rattle.vlog_meaning.specs.declared.fault.Fault.{Fault as Wrong};
+ghost use Rattle.vlog_meaning.specs.Answers.{least};
 ghost use Rattle.vlog_meaning.specs.Scopes.{names_of};
 ghost use Rattle.vlog_meaning.specs.Senses.{no_bits, IsWhole};
 ghost use Rattle.vlog_effects.specs.Expressions.{reads};
+ghost use Rattle.elab_proc.specs.Refusals.{own_faults};
 ghost use Rattle.signal_masks.specs.Masks.{bits_in};
-ghost use Rattle.process_latches.specs.Marking.{AreBlank, Added, Met, sound_reads, all_sound_reads};
+ghost use Rattle.process_latches.specs.Marking.{AreBlank, Added, Met, reads_by, sound_reads, all_sound_reads};
 
-use elab_proc::wrong_in;
+use elab_proc::{own_fault, wrong_in};
 use mcy_base::Span;
 use signal_masks::{Masks, reads_of};
 use std::alloc::{AllocError, Global};
-use vlog_meaning::Scope;
+use vlog_meaning::{Fault, Scope};
 use vlog_syntax::Expr;
 
 /// A variable where it is assigned: its number and width, the place of its name, and the first token of the assignment.
@@ -75,17 +78,40 @@ impl Marks {
         Ok(())
     }
 
-    /// An expression is read. One that is refused reads nothing.
-    pub fn read(&mut self, alloc: Global, expr: &Expr, scope: &Scope) -> Result<(), AllocError>
-        ensures { OnOk result (Added no_bits (sound_reads (names_of scope.now) expr.now) [] false self.old self.new) }
+    /// An expression is read in which this is wrong first. One that is refused reads nothing.
+    pub fn read_by(
+        &mut self,
+        alloc: Global,
+        expr: &Expr,
+        fault: Option<Fault>,
+        scope: &Scope,
+    ) -> Result<(), AllocError>
+        requires { fault ≡ None → IsWhole (names_of scope.now) expr.now }
+        ensures { OnOk result ((faults : List Wrong) → fault ≡ least faults → Added no_bits (reads_by (names_of scope.now) faults expr.now) [] false self.old self.new) }
     {
-        match wrong_in(expr, scope) {
+        match fault {
             Some(_) => Ok(()),
             None => self.read_whole(alloc, expr, scope),
         }
     }
 
-    /// Several expressions are read.
+    /// A selector or a label of a case is read.
+    pub fn read(&mut self, alloc: Global, expr: &Expr, scope: &Scope) -> Result<(), AllocError>
+        ensures { OnOk result (Added no_bits (sound_reads (names_of scope.now) expr.now) [] false self.old self.new) }
+    {
+        let fault = wrong_in(expr, scope);
+        self.read_by(alloc, expr, fault, scope)
+    }
+
+    /// A condition is read.
+    pub fn read_test(&mut self, alloc: Global, expr: &Expr, scope: &Scope) -> Result<(), AllocError>
+        ensures { OnOk result (Added no_bits (reads_by (names_of scope.now) (own_faults (names_of scope.now) expr.now) expr.now) [] false self.old self.new) }
+    {
+        let fault = own_fault(expr, scope);
+        self.read_by(alloc, expr, fault, scope)
+    }
+
+    /// Several labels are read.
     pub fn read_all(
         &mut self,
         alloc: Global,

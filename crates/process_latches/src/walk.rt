@@ -60,7 +60,7 @@ pub fn mark(
         Stmt::SeqBlock(_, _, body) => mark_block(alloc, body.as_slice(), scope, marks),
         Stmt::Conditional(_, condition, yes, no) => {
             let test = condition.get();
-            marks.read(alloc, test, scope)?;
+            marks.read_test(alloc, test, scope)?;
             let body = yes.get();
             let mut first = Marks::new(alloc);
             mark(alloc, body, scope, &mut first)?;

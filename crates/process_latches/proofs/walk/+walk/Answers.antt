@@ -66,13 +66,13 @@ pub mark-returns-clause-marked : goal.mark-returns-clause-marked
 mark-returns-clause-marked t c = on_ok_weaker c.mark_assignment-in-NonblockingAssignment.result (λ h. stmt_nonblocking (names_of c.args.scope.now) c.args.marks.now c.mark_assignment-in-NonblockingAssignment.new.marks c.args.stmt.now c.in-NonblockingAssignment.assignment c.in-NonblockingAssignment.is h) c.mark_assignment-in-NonblockingAssignment.ensures
 
 pub mark-returns-in-Some-clause-marked : goal.mark-returns-in-Some-clause-marked
-mark-returns-in-Some-clause-marked t c = choice_both (names_of c.args.scope.now) c.args.marks.now c.choose.new.marks (names_of c.mark.new.scope) c.args.stmt.now c.in-Conditional.field-0 c.in-Conditional.condition c.get-test.result.now c.in-Conditional.yes c.get-body.result.now c.in-Some.no c.get-other.result.now c.in-Conditional.no c.read.new.self c.new-first.result c.mark.new.marks c.new-second.result c.mark-in-Some.new.marks c.in-Conditional.is c.in-Some.is c.get-test.ensures c.get-body.ensures c.get-other.ensures c.in_ok-mark-in-Conditional.ensures.kept c.in_ok-read-in-Conditional.ensures c.new-first.ensures c.in_ok-mark-in-Conditional.ensures.marked c.new-second.ensures c.in_ok-mark-in-Some.ensures.marked c.in_ok-choose-in-Some.ensures
+mark-returns-in-Some-clause-marked t c = choice_both (names_of c.args.scope.now) c.args.marks.now c.choose.new.marks (names_of c.mark.new.scope) c.args.stmt.now c.in-Conditional.field-0 c.in-Conditional.condition c.get-test.result.now c.in-Conditional.yes c.get-body.result.now c.in-Some.no c.get-other.result.now c.in-Conditional.no c.read_test.new.self c.new-first.result c.mark.new.marks c.new-second.result c.mark-in-Some.new.marks c.in-Conditional.is c.in-Some.is c.get-test.ensures c.get-body.ensures c.get-other.ensures c.in_ok-mark-in-Conditional.ensures.kept c.in_ok-read_test-in-Conditional.ensures c.new-first.ensures c.in_ok-mark-in-Conditional.ensures.marked c.new-second.ensures c.in_ok-mark-in-Some.ensures.marked c.in_ok-choose-in-Some.ensures
 
 pub mark-returns-in-Some-clause-kept : goal.mark-returns-in-Some-clause-kept
 mark-returns-in-Some-clause-kept t c = c.in_ok-mark-in-Some.ensures.kept ∙ c.in_ok-mark-in-Conditional.ensures.kept
 
 pub mark-returns-in-Conditional-clause-marked : goal.mark-returns-in-Conditional-clause-marked
-mark-returns-in-Conditional-clause-marked t c = choice_one (names_of c.args.scope.now) c.args.marks.now c.choose-in-None.new.marks c.args.stmt.now c.in-Conditional.field-0 c.in-Conditional.condition c.get-test.result.now c.in-Conditional.yes c.get-body.result.now c.in-Conditional.no c.read.new.self c.new-first.result c.mark.new.marks c.new-second.result c.in-Conditional.is c.in-None.is c.get-test.ensures c.get-body.ensures c.in_ok-read-in-Conditional.ensures c.new-first.ensures c.in_ok-mark-in-Conditional.ensures.marked c.new-second.ensures c.in_ok-choose-in-None.ensures
+mark-returns-in-Conditional-clause-marked t c = choice_one (names_of c.args.scope.now) c.args.marks.now c.choose-in-None.new.marks c.args.stmt.now c.in-Conditional.field-0 c.in-Conditional.condition c.get-test.result.now c.in-Conditional.yes c.get-body.result.now c.in-Conditional.no c.read_test.new.self c.new-first.result c.mark.new.marks c.new-second.result c.in-Conditional.is c.in-None.is c.get-test.ensures c.get-body.ensures c.in_ok-read_test-in-Conditional.ensures c.new-first.ensures c.in_ok-mark-in-Conditional.ensures.marked c.new-second.ensures c.in_ok-choose-in-None.ensures
 
 pub mark-returns-in-Null-clause-marked : goal.mark-returns-in-Null-clause-marked
 mark-returns-in-Null-clause-marked t c = stmt_null (names_of c.args.scope.now) c.args.marks.now c.args.marks.now c.args.stmt.now _ c.in-Null.is
