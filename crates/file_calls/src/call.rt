@@ -5,8 +5,7 @@
 ghost use Rattle.std.specs.Prelude.{◌⊎◌, ℕ, map, string_bytes};
 ghost use Rattle.sqlite_wal.specs.Files.{image_at};
 ghost use Rattle.command_words.specs.declared.command.Command.{Command as Asked};
-ghost use Rattle.keeper_opening.specs.Found.{MayFind};
-ghost use Rattle.keeper_file.specs.Contents.{Found, IsFoundIn};
+ghost use Rattle.keeper_file.specs.Contents.{Found};
 ghost use Rattle.mcy_top.specs.Complete.{Completes, IsReady, NoneRose};
 ghost use Rattle.mcy_top.specs.Life.{Answered, Early, HasCause, IsQuiet, Life};
 
@@ -24,7 +23,7 @@ use watched_keeper::{WatchedKeeper, Watcher};
 /// loads the book, and no more than once. The keeper and its watcher are given back, to be ended.
 ///
 /// No book is told as the call begins. The one that it loads is found in the file (`Found`): the clauses are those of `mcy_main` of
-/// `mcy_top`, with what the file holds in place of what a keeper leaves. They say something of books where something is found in it at all.
+/// `mcy_top`, with what the file holds in place of what a keeper leaves.
 pub fn call_on_file<S: Start, F: SourceFiles, W: Watcher, O: Sink>(
     alloc: Global,
     database: Database<S>,
@@ -37,7 +36,6 @@ pub fn call_on_file<S: Start, F: SourceFiles, W: Watcher, O: Sink>(
     OpeningKeeper<FileStore<FileFrom<S>>, Database<S>>,
     W,
 )
-    ensures tells { ⟦<OpeningKeeper<FileStore<FileFrom<S>>, Database<S>> as Keeper>⟧.tells result.1 → MayFind (IsFoundIn (image_at S.Start)) }
     ensures answer { Answered (map string_bytes words.now) (F.held files.old) result.0 }
     ensures cause { HasCause (F.faults files.old) (F.faults files.new) 0 (⟦<OpeningKeeper<FileStore<FileFrom<S>>, Database<S>> as Keeper>⟧.faults result.1) (O.faults out.old) (O.faults out.new) result.0 }
     ensures quiet { IsQuiet (O.written out.old) (O.written out.new) result.0 }

@@ -1,1 +1,4 @@
+pub mod FlatFile
+pub mod OneDatabase
+pub mod OneSchema
 pub mod Reopened

@@ -20,7 +20,7 @@ pub record IsFoundIn (image : Image) (trees : Trees) : Type 0 where
   pub holds : (db : Trees) → HoldsDatabase image db → trees ≡ db
   pub reads : AreFoundIn image trees
 
--- what is found in such files stands for this book, or for none
+-- what is found in such files stands for this book, or for none; where nothing is found, there is no book
 abbrev pub Found : Image → Option Book → Type 0
 Found image = MayBeFound (IsFoundIn image)
 

@@ -1,6 +1,6 @@
 -- What may be left after the opening was found.
 use Rattle.std.specs.Prelude.{IsErrOf}
-use Rattle.std.proofs.Common.{◌≡◌, Option, Some, None, Ok, Err, Result, IfOk, OnErr, IsTrue, refl, sym, subst}
+use Rattle.std.proofs.Common.{◌≡◌, inl, Option, Some, None, Ok, Err, Result, IfOk, OnErr, IsTrue, refl, sym, subst}
 use Rattle.sqlite.specs.Tree.{Trees}
 use Rattle.sqlite.specs.Store.{Ghosts}
 use Rattle.sqlite.specs.Held.{Held, state}
@@ -12,7 +12,7 @@ use Rattle.keeper_sqlite.specs.declared.sql_keeper.SqlKeeper.{SqlKeeper}
 use Rattle.keeper_sqlite.specs.Stands.{StandsAs, Tells, Holds, Leaves}
 use Rattle.keeper_opening.specs.declared.opening.Place.{Place}
 use Rattle.keeper_opening.specs.declared.opening.Place.TheVariants.{Closed, Opened}
-use Rattle.keeper_opening.specs.Found.{MayFind, MayBeFound, Finds}
+use Rattle.keeper_opening.specs.Found.{MayBeFound, Finds}
 use Rattle.keeper_opening.specs.Places.{PlaceTells, PlaceHolds, PlaceLeaves, Opens}
 
 module _ {S : Type 0} (g : Ghosts S) where
@@ -25,11 +25,7 @@ module _ {S : Type 0} (g : Ghosts S) where
   left_found settled found None finds clean left leaves = absurd leaves
   left_found settled found (Some c) finds clean left leaves =
       let it = finds c refl clean in
-      ((state g c).committed.trees, it.1, subst (λ t. StandsAs t left) (settled c leaves.0 it.0 leaves.1) leaves.2)
-
-  told_found : (found : Trees → Type 0) (connection : Option (Held S)) → ((c : Held S) → connection ≡ Some c → Finds found (state g c)) → Tells g connection → MayFind found
-  told_found found None finds clean = absurd clean
-  told_found found (Some c) finds clean = ∣ ((state g c).committed.trees, (finds c refl clean).1) ∣₁
+      inl ((state g c).committed.trees, it.1, subst (λ t. StandsAs t left) (settled c leaves.0 it.0 leaves.1) leaves.2)
 
 module _ {S O : Type 0} (g : Ghosts S) where
   left_before : LeavesCommitted g → (found : O → Trees → Type 0) (p : Place S O) (k : SqlKeeper S) → Opens g found p k → Tells g k.connection
@@ -37,8 +33,8 @@ module _ {S O : Type 0} (g : Ghosts S) where
   left_before settled found (Closed opener) k fresh clean left leaves = left_found g settled (found opener) k.connection fresh.finds clean left leaves
   left_before settled found (Opened it) k same clean left leaves = subst (λ (x : SqlKeeper S). Leaves g x.connection left) same leaves
 
-  pub told_before : (found : O → Trees → Type 0) (p : Place S O) (k : SqlKeeper S) → Opens g found p k → Tells g k.connection → PlaceTells g found p
-  told_before found (Closed opener) k fresh clean = told_found g (found opener) k.connection fresh.finds clean
+  pub told_before : (found : O → Trees → Type 0) (p : Place S O) (k : SqlKeeper S) → Opens g found p k → Tells g k.connection → PlaceTells g p
+  told_before found (Closed opener) k fresh clean = tt
   told_before found (Opened it) k same clean = subst (λ (x : SqlKeeper S). Tells g x.connection) same clean
 
   pub allowed_before : LeavesCommitted g → (found : O → Trees → Type 0) (p : Place S O) (k : SqlKeeper S) → Opens g found p k → Tells g k.connection
@@ -54,7 +50,7 @@ module _ {S O : Type 0} (g : Ghosts S) where
   -- a write that has failed leaves of the place what it leaves of its keeper
   pub either_after : (found : O → Trees → Type 0) (p q : Place S O) (k k' : SqlKeeper S) → p ≡ Opened k → q ≡ Opened k' → {T : Type 0} (r r' : Result T KeepError) → r' ≡ r → (after : Book → Book)
       → (Tells g k'.connection → IsErrOf r Fault → (was : Book) → Holds g k.connection k.settled was → LeavesEither (Leaves g k'.connection) was (after was))
-      → PlaceTells g found q → IsErrOf r' Fault → (was : Book) → PlaceHolds g p was → LeavesEither (PlaceLeaves g found q) was (after was)
+      → PlaceTells g q → IsErrOf r' Fault → (was : Book) → PlaceHolds g p was → LeavesEither (PlaceLeaves g found q) was (after was)
   either_after found p q k k' old new r r' same after either tells fails was holds =
       subst (λ (x : Place S O). LeavesEither (PlaceLeaves g found x) was (after was)) (sym new)
-      (either (subst (λ (x : Place S O). PlaceTells g found x) new tells) (subst (λ x. IsErrOf x Fault) same fails) was (subst (λ (x : Place S O). PlaceHolds g x was) old holds))
+      (either (subst (λ (x : Place S O). PlaceTells g x) new tells) (subst (λ x. IsErrOf x Fault) same fails) was (subst (λ (x : Place S O). PlaceHolds g x was) old holds))

@@ -1,5 +1,5 @@
 -- What the opening of a database may find.
-use Rattle.std.specs.Prelude.{◌≡◌, ℕ, Bool, false, IsTrue, [], Option, Some}
+use Rattle.std.specs.Prelude.{◌≡◌, ◌⊎◌, ℕ, Bool, false, IsTrue, [], Option, Some, None}
 use Rattle.sqlite.specs.Schema.{Schema}
 use Rattle.sqlite.specs.Tree.{Trees}
 use Rattle.sqlite.specs.Store.{Ghosts}
@@ -8,13 +8,9 @@ use Rattle.sqlite.specs.State.{State, HasCleanDisk}
 use Rattle.mcy_keeper.specs.declared.book.Book.{Book}
 use Rattle.keeper_sqlite.specs.Stands.{StandsAs}
 
--- some trees may be found
-abbrev pub MayFind : (Trees → Type 0) → Type 0
-MayFind found = ∥ ((trees : Trees) × found trees) ∥₁
-
--- some trees that may be found stand for this book, or for none
+-- some trees that may be found stand for this book, or for none; where no trees may be found, there is no book
 abbrev pub MayBeFound : (Trees → Type 0) → Option Book → Type 0
-MayBeFound found left = (trees : Trees) × found trees × StandsAs trees left
+MayBeFound found left = ((trees : Trees) × found trees × StandsAs trees left) ⊎ ((left ≡ None) × ((trees : Trees) → ¬ found trees))
 
 -- where nobody else writes and the disk returns what was written, the connection is open and shows what it may find
 abbrev pub Finds : (Trees → Type 0) → State → Type 0

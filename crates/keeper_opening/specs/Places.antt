@@ -1,7 +1,7 @@
 -- A keeper before its first load, and after it.
-use Rattle.std.specs.Prelude.{◌≡◌, ℕ, Bool, false, Option, Some, None, ⊤, Result, Ok, Err, is_ok, is_some}
+use Rattle.std.specs.Prelude.{◌≡◌, refl, ℕ, Bool, false, Option, Some, None, ⊤, Result, Ok, Err, is_ok, is_some}
 use Rattle.std.specs.Option.{option_or}
-use mathlib.Core.Logic.{∥∥₁_elim}
+use mathlib.Core.Logic.{inl, inr}
 use Rattle.sqlite.specs.Tree.{Trees}
 use Rattle.sqlite.specs.Store.{Ghosts}
 use Rattle.sqlite.specs.Held.{Held}
@@ -19,7 +19,7 @@ use Rattle.keeper_opening.specs.declared.opening.OpenError.TheVariants.{Memory, 
 use Rattle.keeper_opening.specs.declared.opening.OpeningKeeper.{OpeningKeeper}
 use Rattle.keeper_opening.specs.declared.opening.Place.{Place}
 use Rattle.keeper_opening.specs.declared.opening.Place.TheVariants.{Closed, Opened}
-use Rattle.keeper_opening.specs.Found.{MayFind, MayBeFound, IsFresh}
+use Rattle.keeper_opening.specs.Found.{MayBeFound, IsFresh}
 
 abbrev pub is_settled : {S O : Type 0} → Place S O → Bool
 is_settled (Closed opener) = false
@@ -75,10 +75,9 @@ module _ {S O : Type 0} (gives : O → Result (Held S) OpenError → Type 0) whe
   Connects old new loaded = Answers old.place (connection_in new) (λ fault. fault_of new ≡ option_or (fault_of old) (noted_cause loaded fault))
 
 module _ {S O : Type 0} (g : Ghosts S) where
-  -- before the first load where the opener may find something
-  abbrev pub PlaceTells : (O → Trees → Type 0) → Place S O → Type 0
-  PlaceTells found (Closed opener) = MayFind (found opener)
-  PlaceTells found (Opened it) = Tells g it.connection
+  abbrev pub PlaceTells : Place S O → Type 0
+  PlaceTells (Closed opener) = ⊤
+  PlaceTells (Opened it) = Tells g it.connection
 
   abbrev pub PlaceHolds : Place S O → Book → Type 0
   PlaceHolds (Closed opener) book = ⊥
@@ -90,8 +89,8 @@ module _ {S O : Type 0} (g : Ghosts S) where
   PlaceLeaves found (Opened it) left = Leaves g it.connection left
 
   -- of the whole keeper
-  abbrev pub KeeperTells : (O → Trees → Type 0) → OpeningKeeper S O → Type 0
-  KeeperTells found k = PlaceTells found k.place
+  abbrev pub KeeperTells : OpeningKeeper S O → Type 0
+  KeeperTells k = PlaceTells k.place
 
   abbrev pub KeeperHolds : OpeningKeeper S O → Book → Type 0
   KeeperHolds k = PlaceHolds k.place
@@ -108,11 +107,11 @@ module _ {S O : Type 0} (g : Ghosts S) where
   place_one (Closed opener) a b p q = absurd p
   place_one (Opened it) a b p q = holds_one g it.connection it.settled a b p q
 
-  pub place_told : (found : O → Trees → Type 0) (p : Place S O) (b : Book) → PlaceHolds p b → PlaceTells found p
-  place_told found (Closed opener) b p = absurd p
-  place_told found (Opened it) b p = holds_tells g it.connection it.settled b p
+  pub place_told : (p : Place S O) (b : Book) → PlaceHolds p b → PlaceTells p
+  place_told (Closed opener) b p = tt
+  place_told (Opened it) b p = holds_tells g it.connection it.settled b p
 
-  pub place_survives : ((s : S) → IsClean (g.view s) → ∥ ((trees : Trees) × g.recovers s trees) ∥₁) → (found : O → Trees → Type 0) (p : Place S O) → PlaceTells found p → LeavesSome (PlaceLeaves found p)
+  pub place_survives : ((s : S) → IsClean (g.view s) → ∥ ((trees : Trees) × g.recovers s trees) ∥₁) → (found : O → Trees → Type 0) (p : Place S O) → PlaceTells p → LeavesSome (PlaceLeaves found p)
   place_survives survives found (Closed opener) tells none =
-      ∥∥₁_elim tells (λ a b. absurd a) (λ it. none None (it.0, it.1, λ book stands. none (Some book) (it.0, it.1, stands)))
+      none None (inr (refl, λ trees finds. none None (inl (trees, finds, λ book stands. none (Some book) (inl (trees, finds, stands))))))
   place_survives survives found (Opened it) tells none = leaves_some g survives it.connection tells none

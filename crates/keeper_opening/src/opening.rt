@@ -2,15 +2,15 @@
 //!
 //! `place` is the opener before the first load, and after it the keeper over the connection, or over none where
 //! the opening was refused. Nothing is opened, made or read before the first load, so a call that ends without one
-//! touches no file. Before it the keeper tells where the opener may find something, and then no book; a crash leaves
-//! what the opener may find. `fault` is why the first fault came.
+//! touches no file. Before it the keeper tells no book, and a crash leaves what the opener may find. `fault` is why
+//! the first fault came.
 ghost use Rattle.std.specs.Prelude.{◌≡◌, ◌↔◌, IfOk, IsErr, IsErrOf, IsTrue, None, OnErr, OnOk, Option, Result, Some, false};
 ghost use Rattle.sqlite.specs.Tree.{Trees};
 ghost use Rattle.sqlite.specs.Held.{Held, state};
 ghost use Rattle.mcy_keeper.specs.declared.book.Book.{Book as Pages};
 ghost use Rattle.mcy_base.specs.Causes.{IsCaused};
 ghost use Rattle.mcy_keeper.specs.Books.{Keeps, LeavesNothingNew, TellsNone};
-ghost use Rattle.keeper_opening.specs.Found.{Finds, HasNoTables, MayBeFound, MayFind};
+ghost use Rattle.keeper_opening.specs.Found.{Finds, HasNoTables, MayBeFound};
 ghost use Rattle.keeper_opening.specs.Places.{connection_in, fault_of, is_settled, faults, noted_cause, Answers, Connects, IsUnanswered, KeeperHolds, KeeperLeaves, KeeperTells, Opens, PlaceHolds, PlaceLeaves, PlaceTells, place_one, place_survives, place_told};
 
 use keeper_sqlite::SqlKeeper;
@@ -119,7 +119,7 @@ impl<S: Alter + Drop, O: Opener<S>> Place<S, O> {
 impl<S: Alter + Drop, O: Opener<S>> OpeningKeeper<S, O> {
     /// The keeper, which has opened nothing. It takes no memory, and neither reads nor writes.
     pub fn new(alloc: Global, opener: O) -> OpeningKeeper<S, O>
-        ensures tells { ⟦<OpeningKeeper<S, O> as Keeper>⟧.tells result ↔ MayFind (O.found opener) }
+        ensures tells { ⟦<OpeningKeeper<S, O> as Keeper>⟧.tells result }
         ensures untold { TellsNone (⟦<OpeningKeeper<S, O> as Keeper>⟧.holds result) }
         ensures leaves { (left : Option Pages) → ⟦<OpeningKeeper<S, O> as Keeper>⟧.leaves result left ↔ MayBeFound (O.found opener) left }
         ensures unsettled { ⟦<OpeningKeeper<S, O> as Keeper>⟧.is_settled result ≡ false }
@@ -163,7 +163,7 @@ impl<S: Alter + Drop, O: Opener<S>> OpeningKeeper<S, O> {
 }
 
 impl<S: Alter + Drop, O: Opener<S>> Keeper for OpeningKeeper<S, O> {
-    ghost tells = { λ k. PlaceTells S.Store O.found k.place };
+    ghost tells = { λ k. PlaceTells S.Store k.place };
 
     ghost holds = { λ k. PlaceHolds S.Store k.place };
 
@@ -175,17 +175,17 @@ impl<S: Alter + Drop, O: Opener<S>> Keeper for OpeningKeeper<S, O> {
 
     ghost one = { λ k. place_one (record { view = S.Store.view; faults = S.Store.faults; recovers = S.Store.recovers; is_shielded = S.Store.is_shielded; is_step = S.Store.is_step; blamed = S.Store.blamed; names = S.Store.names }) k.place };
 
-    ghost told = { λ k. place_told (record { view = S.Store.view; faults = S.Store.faults; recovers = S.Store.recovers; is_shielded = S.Store.is_shielded; is_step = S.Store.is_step; blamed = S.Store.blamed; names = S.Store.names }) O.found k.place };
+    ghost told = { λ k. place_told (record { view = S.Store.view; faults = S.Store.faults; recovers = S.Store.recovers; is_shielded = S.Store.is_shielded; is_step = S.Store.is_step; blamed = S.Store.blamed; names = S.Store.names }) k.place };
 
     ghost survives = { λ k. place_survives (record { view = S.Store.view; faults = S.Store.faults; recovers = S.Store.recovers; is_shielded = S.Store.is_shielded; is_step = S.Store.is_step; blamed = S.Store.blamed; names = S.Store.names }) S.Store.survives O.found k.place };
 
     fn load(&mut self) -> Result<Book, KeepError>
         ensures connected { Connects O.gives self.old self.new result }
-        ensures tells { KeeperTells S.Store O.found self.new → KeeperTells S.Store O.found self.old }
-        ensures answer { KeeperTells S.Store O.found self.new → IfOk result (Keeps (KeeperHolds S.Store self.new) (KeeperLeaves S.Store O.found self.new)) }
-        ensures same { KeeperTells S.Store O.found self.new → IfOk result (λ found. (was : Pages) → KeeperHolds S.Store self.old was → found ≡ was) }
-        ensures allowed { KeeperTells S.Store O.found self.new → IfOk result (λ found. KeeperLeaves S.Store O.found self.old (Some found)) }
-        ensures refused { KeeperTells S.Store O.found self.new → OnErr result (LeavesNothingNew (KeeperLeaves S.Store O.found self.old) (KeeperLeaves S.Store O.found self.new)) }
+        ensures tells { KeeperTells S.Store self.new → KeeperTells S.Store self.old }
+        ensures answer { KeeperTells S.Store self.new → IfOk result (Keeps (KeeperHolds S.Store self.new) (KeeperLeaves S.Store O.found self.new)) }
+        ensures same { KeeperTells S.Store self.new → IfOk result (λ found. (was : Pages) → KeeperHolds S.Store self.old was → found ≡ was) }
+        ensures allowed { KeeperTells S.Store self.new → IfOk result (λ found. KeeperLeaves S.Store O.found self.old (Some found)) }
+        ensures refused { KeeperTells S.Store self.new → OnErr result (LeavesNothingNew (KeeperLeaves S.Store O.found self.old) (KeeperLeaves S.Store O.found self.new)) }
         ensures settles { OnOk result (IsTrue (is_settled self.new.place)) }
         ensures stays { OnErr result (is_settled self.new.place ≡ is_settled self.old.place) }
         ensures cause { IsCaused (faults self.old.place) (faults self.new.place) (IsErrOf result KeepError.Fault) }
@@ -226,9 +226,9 @@ impl<S: Alter + Drop, O: Opener<S>> Keeper for OpeningKeeper<S, O> {
     }
 }
 
-/// Before the first load it tells where its opener may find something, and no book; after it, what the keeper over its connection tells.
+/// Before the first load it tells, and no book; after it, what the keeper over its connection tells.
 pub fn opening_keepers_tell<S: Alter + Drop, O: Opener<S>>(keeper: &OpeningKeeper<S, O>)
-    ensures tells { ⟦<OpeningKeeper<S, O> as Keeper>⟧.tells keeper.now ↔ KeeperTells S.Store O.found keeper.now }
+    ensures tells { ⟦<OpeningKeeper<S, O> as Keeper>⟧.tells keeper.now ↔ KeeperTells S.Store keeper.now }
     ensures holds { (b : Pages) → ⟦<OpeningKeeper<S, O> as Keeper>⟧.holds keeper.now b ↔ KeeperHolds S.Store keeper.now b }
     ensures leaves { (left : Option Pages) → ⟦<OpeningKeeper<S, O> as Keeper>⟧.leaves keeper.now left ↔ KeeperLeaves S.Store O.found keeper.now left }
 {

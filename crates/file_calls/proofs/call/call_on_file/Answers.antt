@@ -4,9 +4,6 @@ use Rattle.mcy_top.specs.Life.{HasCause}
 use Rattle.file_calls.proofs.OnFiles.{lived_on, ready_on}
 use Rattle.file_calls.proofs.call.call_on_file.Goals as goal
 
-pub returns-clause-tells : goal.returns-clause-tells
-returns-clause-tells g c tells = c.new-opening.ensures.tells.0 (c.mcy_call-outcome.ensures.tells tells)
-
 pub returns-clause-answer : goal.returns-clause-answer
 returns-clause-answer g c = c.mcy_call-outcome.ensures.answer
 
