@@ -1,12 +1,20 @@
 -- Lookups of scopes and modules, from what the code has in hand.
-use Rattle.std.proofs.Common.{◌≡◌, ℕ, zero, suc, ◌+◌, ◌<◌, ◌≤◌, Bool, true, false, List, [], ◌∷◌, map, length, Option, None, Some, refl, sym, ap, ◌∙◌, arith, true≢false}
+use Rattle.std.proofs.Common.{◌≡◌, ℕ, zero, suc, ◌+◌, ◌<◌, ◌≤◌, Bool, true, false, List, [], ◌∷◌, map, length, Option, None, Some, refl, sym, ap, subst, ◌∙◌, arith, true≢false}
 use Rattle.std.specs.Prelude.{slice_get, if◌then◌else◌}
 use Rattle.std.specs.Option.{is_some}
 use Rattle.std.specs.Str.{bytes_eq}
 use Rattle.vlog_syntax.specs.declared.module.Module.{Module}
+use Rattle.vlog_meaning.specs.Scopes.{Names}
+use Rattle.flat_scopes.specs.declared.opening.Head.{Head}
+use Rattle.flat_scopes.specs.declared.signal.Signal.{Signal}
+use Rattle.flat_scopes.specs.Openings.{Opened, unopened}
+use Rattle.flat_scopes.specs.Opens.{OpensModule}
 use Rattle.flat_scopes.specs.Owns.{what_of}
+use Rattle.flat_instances.specs.Instances.{no_names}
 use Rattle.flat_instances.specs.declared.place.Place.{Place as Kept}
-use Rattle.flat_items.specs.Flattened.{module_from, module_at}
+use Rattle.flat_items.specs.declared.task.Task.{Task}
+use Rattle.flat_items.specs.Flattened.{Flat, add_all, entered, module_from, module_at, tasks_of}
+use Rattle.flat_items.specs.Replacing.{Flattens, FlattensModule, repeated, top_head}
 use Rattle.flat_instances.specs.Places.{place_of}
 use Rattle.flat_items.specs.Tops.{IsTop, own_at}
 
@@ -38,3 +46,23 @@ top_none modules name n o h is past =
 
 pub top_found : (modules : List Module) (name : List ℕ) (n : ℕ) (o : Option ℕ) (m : Module) → o ≡ module_at modules name → o ≡ Some n → slice_get modules n ≡ Some m → IsTop modules name m
 top_found modules name n o m h is there = (n, sym h ∙ is, there)
+
+-- a design begins with the modules of a name that stands already, and goes on with what its top lists
+pub top_entered : (modules : List Module) (n : ℕ) (m : Module) (head : Head) (outside inside : Names) (signals : List Signal) (start child : Opened) (tasks : List Task) (blank first next last : Flat) (within : List ℕ)
+    → slice_get modules n ≡ Some m → head ≡ top_head m → outside ≡ no_names → inside ≡ no_names → signals ≡ [] → start ≡ unopened inside signals → OpensModule head outside m start child
+    → blank ≡ record { signals = []; places = []; items = [] } → first ≡ add_all blank (repeated modules 0 modules) → within ≡ n ∷ []
+    → tasks ≡ tasks_of (length first.places) child.steps → next ≡ entered first head.prefix None within child → Flattens modules tasks next last → FlattensModule modules n last
+top_entered modules n m head outside inside signals start child tasks blank first next last within got h o i none s opens b f w ts nx runs =
+    let begins : Flat = record { signals = []; places = []; items = repeated modules 0 modules } in
+    let listed : first ≡ begins = f ∙ ap (λ (x : Flat). add_all x (repeated modules 0 modules)) b in
+    let starts : start ≡ unopened no_names [] = s ∙ ap (λ (x : Names). unopened x signals) i ∙ ap (λ (x : List Signal). unopened no_names x) none in
+    let steps : tasks ≡ tasks_of 0 child.steps = ts ∙ ap (λ (x : Flat). tasks_of (length x.places) child.steps) listed in
+    let enters : next ≡ entered begins [] None (n ∷ []) child =
+    nx ∙ ap (λ (x : Flat). entered x head.prefix None within child) listed ∙ ap (λ (x : Head). entered begins x.prefix None within child) h ∙ ap (λ (x : List ℕ). entered begins [] None x child) w in
+    record {
+      m = m;
+      numbered = got;
+      child = child;
+      opens = subst (λ (x : Head). OpensModule x no_names m (unopened no_names []) child) h (subst (λ (x : Names). OpensModule head x m (unopened no_names []) child) o (subst (λ (x : Opened). OpensModule head outside m x child) starts opens));
+      flattens = subst (λ (x : List Task). Flattens modules x (entered begins [] None (n ∷ []) child) last) steps (subst (λ (x : Flat). Flattens modules tasks x last) enters runs);
+    }
