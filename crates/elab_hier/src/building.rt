@@ -36,7 +36,6 @@ fn begin(alloc: Global, flat: &Flat<'_>) -> Result<Builder, ElabError>
 }
 
 /// Builds all items of a design whose loops do not take too many turns, up to the first one that is refused.
-#[tactic(auto, using(crate::proofs::Counted::all_built, crate::proofs::Counted::all_refused))]
 fn build_all(
     mut builder: Builder,
     mut desk: Desk,
@@ -60,7 +59,6 @@ fn build_all(
 
 /// Why a design is not built whose loops take too many turns with the item that stands behind so many: one of those before it is refused,
 /// or they are all built.
-#[tactic(auto, using(crate::proofs::Counted::some_refused, crate::proofs::Counted::turns_refused))]
 fn refuse(
     mut builder: Builder,
     mut desk: Desk,
