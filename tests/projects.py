@@ -425,6 +425,11 @@ def cases():
     yield from rows()
     yield "random edits"
     yield from edits(400)
+    yield "blanks are spaces and tabs"
+    yield b" \t[options]\t \n\tsize\t 10 \t\n"
+    for text in [b"size\f10", b"size 10\f", b"\v", "size\u00a010".encode()]:
+        yield b"[options]\n" + text + b"\n"
+    yield b"\f[options]\nsize 10\n"
 
 
 def given(case):

@@ -376,6 +376,9 @@ WORKED = [
     (" print(", "Indent(1)"),
 ]
 
+# Where a number ends, and what is no blank.
+BLANKS = [('print("%d" % 1or 2)', "1^ | 1^ | 1^"), ('print("%d"\v% 1)', "Bad(1)")]
+
 
 def edges():
     """Reports at the limits."""
@@ -405,7 +408,7 @@ def cases():
         lines = maker.block(0, 3)
         if len(lines) <= 10:
             made.append(("^".join(lines), None))
-    for text, said in [(text, None) for text in TAKEN] + WORKED + list(edges()) + made:
+    for text, said in [(text, None) for text in TAKEN] + WORKED + list(edges()) + made + BLANKS:
         yield text, said
 
 

@@ -72,6 +72,11 @@ BY_RULE = [
     ('"a""b"', "0: t:a t:b"),
     ("\\", "0: \\"),
     ("\t\"", "tab: bad"),
+    ("1or 2", "0: d:1 k:Or d:2"),
+    ("1or2 and3", "0: d:1 n:or2 n:and3"),
+    ("0.5if", "0: d:0.5 k:If"),
+    ("a\fb", "0: n:a \f n:b"),
+    ("\vpass", "0: \v k:Pass"),
 ]
 
 

@@ -102,9 +102,14 @@ def asked(code, words):
     return f"Done({tags})"
 
 
+def parted(text):
+    """The lines for Python, which reads `0or` as a number."""
+    return text.replace("0or", "0 or").replace("^", "\n")
+
+
 def asks(text):
     plain = re.sub(r"\b0+(?=\d)", "", text)
-    code = compile(plain.replace("^", "\n"), "script", "exec")
+    code = compile(parted(plain), "script", "exec")
     return " ".join(asked(code, (t, u)) for t in (None, 0, 1, 2) for u in (None, 0, 1, 3))
 
 
@@ -115,7 +120,7 @@ def names_of(tree):
 
 
 def taken(text):
-    tree = ast.parse(text.replace("^", "\n"))
+    tree = ast.parse(parted(text))
     return "script" + statements(tree.body, names_of(tree))
 
 
@@ -326,7 +331,9 @@ def cases():
         lines, _ = maker.block(0, [], 3)
         if len(lines) <= 40:
             made.append(("^".join(lines), None))
-    for text, said in WORKED + list(edges()) + made:
+    # where a number ends, and what is no blank
+    blanks = [('if 0or 1:^ tag("X")', None), ("pass\f", "Bad(1)")]
+    for text, said in WORKED + list(edges()) + made + blanks:
         yield text, taken(text) if said is None else said
 
 
