@@ -1178,7 +1178,7 @@ module top(input a, output reg y, output z);
   end
 endmodule
 elaborate top
-> Unknown 4:14
+> Unknown 3:14
 '''
 
 
