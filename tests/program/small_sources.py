@@ -33,9 +33,6 @@ if result("same") == "PASS":
 BEGUN = r"Sites: [0-9]+\nMutations: [0-9]+\n"
 SECONDS, MEGABYTES, ADDRESS_SPACE = 10, 300, 2 << 30
 
-# Shapes whose limits the program does not keep yet, by name: these are not tried.
-NOT_YET = []
-
 
 @dataclass
 class Shape:
@@ -77,8 +74,8 @@ def constants():
     for name, depth, value, inmost, around in kinds:
         text = nested(depth, inmost, around)
         head = ["module top(input a, input b, output y, output z);", f"  parameter P = {value};", "  assign y = a & b;"]
-        yield Shape(f"{name}, in a constant", lines(*head, f"  localparam L = {text};", "  assign z = L;", "endmodule"), seconds=2)
-        yield Shape(f"{name}, in an assign", lines(*head, f"  assign z = {text};", "endmodule"), seconds=2)
+        yield Shape(f"{name}, in a constant", lines(*head, f"  localparam L = {text};", "  assign z = L;", "endmodule"), seconds=1)
+        yield Shape(f"{name}, in an assign", lines(*head, f"  assign z = {text};", "endmodule"), seconds=1)
 
 
 def doubled(levels, head, inside, first, second):
@@ -98,7 +95,7 @@ def scopes():
     yield Shape("65,535 instances", doubled(15, "", "", "u()", "v()"))
     gate = ["module top(input a, input b, output y);", "  assign y = a & b;"]
     # each sees the names of those around it
-    for levels, megabytes in ((16, 300), (24, 600), (60, 1000)):
+    for levels, megabytes in ((16, 300), (24, 350), (60, 650)):
         names = [f"g{k}" for k in range(levels)]
         text = "  generate " + "".join(f"for ({g} = 0; {g} < 2; {g} = {g} + 1) begin : b{g} " for g in names) + "end " * levels + "endgenerate"
         yield Shape(f"generate loops of two turns, {levels} of them", lines(*gate, f"  genvar {', '.join(names)};", text, "endmodule"), error, megabytes=megabytes)
@@ -154,7 +151,7 @@ def main():
     passed = failed = 0
     for make in (constants, scopes, turns):
         for shape in make():
-            if shape.name in NOT_YET or names and shape.name not in names:
+            if names and shape.name not in names:
                 continue
             wrong, taken = answer(program, shape)
             if wrong is None:
@@ -162,8 +159,6 @@ def main():
             else:
                 failed += 1
                 print(f"FAILED: {shape.name}, {len(shape.source)} bytes: {wrong} ({taken})")
-    if NOT_YET:
-        print(f"not tried: {', '.join(NOT_YET)}")
     print(f"{passed} passed, {failed} failed")
     sys.exit(1 if failed else 0)
 
