@@ -1,5 +1,5 @@
 -- A call on a file, and lists of them.
-use Rattle.std.proofs.Common.{◌⊎◌, inl, inr, ℕ, List, [], ◌∷◌, Option, Some}
+use Rattle.std.proofs.Common.{◌≡◌, ◌⊎◌, inl, inr, ℕ, List, [], ◌∷◌, Option, Some, subst, sym}
 use Rattle.sqlite_wal.specs.Recovery.{Image}
 use Rattle.mcy_keeper.specs.declared.book.Book.{Book}
 use Rattle.mcy_keeper.specs.Books.{LeavesNothingNew, LeavesSome}
@@ -8,8 +8,8 @@ use Rattle.campaign_outcomes.specs.declared.outcome.Outcome.{Outcome}
 use Rattle.command_words.specs.declared.command.Command.{Command}
 use Rattle.keeper_file.specs.Contents.{HasOnly, IsEmptyFile}
 use Rattle.keeper_file.proofs.Reopened.{empty_found}
-use Rattle.mcy_top.specs.Complete.{IsReady}
-use Rattle.mcy_top.specs.Life.{Early, Life}
+use Rattle.mcy_top.specs.Complete.{IsReady, NoneRose}
+use Rattle.mcy_top.specs.Life.{Early, HasCause, Life}
 use Rattle.mcy_top.specs.Histories.{AllFindBooks, AreTurns, IsNew, Left, Turn}
 use Rattle.mcy_top.proofs.Histories.{calls_find, calls_history, calls_safe, calls_tell}
 use Rattle.file_calls.specs.Turns.{AreOnFiles, CallsOnFilesAreSafe, HaveBooks}
@@ -76,3 +76,10 @@ safe_on tells holds leaves survives turns on =
       restarts = restarts;
       books = books_on holds leaves tells IsNew IsEmptyFile empty_found turns on restarts;
     }
+
+-- the causes of a call whose keeper had counted this many faults before
+pub cause_on : (files files' keeper keeper' count sink sink' : ℕ) (outcome : Outcome) → keeper ≡ count → HasCause files files' keeper keeper' sink sink' outcome → HasCause files files' count keeper' sink sink' outcome
+cause_on files files' keeper keeper' count sink sink' outcome is cause = subst (λ (n : ℕ). HasCause files files' n keeper' sink sink' outcome) is cause
+
+pub none_on : (files files' keeper keeper' count sink sink' : ℕ) → keeper ≡ count → NoneRose files files' count keeper' sink sink' → NoneRose files files' keeper keeper' sink sink'
+none_on files files' keeper keeper' count sink sink' is none = subst (λ (n : ℕ). NoneRose files files' n keeper' sink sink') (sym is) none

@@ -1,14 +1,14 @@
-use Rattle.std.proofs.Common.{map, string_bytes, subst, sym, ℕ}
-use Rattle.mcy_top.specs.Complete.{NoneRose}
-use Rattle.mcy_top.specs.Life.{HasCause}
-use Rattle.file_calls.proofs.OnFiles.{lived_on, ready_on}
+use Rattle.std.proofs.Common.{map, string_bytes}
+use Rattle.file_calls.proofs.OnFiles.{cause_on, lived_on, none_on, ready_on}
 use Rattle.file_calls.proofs.call.call_on_file.Goals as goal
 
 pub returns-clause-answer : goal.returns-clause-answer
 returns-clause-answer g c = c.mcy_call-outcome.ensures.answer
 
 pub returns-clause-cause : goal.returns-clause-cause
-returns-clause-cause g c = subst (λ (n : ℕ). HasCause _ _ n _ _ _ c.mcy_call-outcome.result) c.new-opening.ensures.uncounted c.mcy_call-outcome.ensures.cause
+returns-clause-cause g c =
+    cause_on (g.F.SourceFiles.faults c.args.files.now) (g.F.SourceFiles.faults c.mcy_call-outcome.new.files) _ _ _ (g.O.Sink.faults c.args.out.now) (g.O.Sink.faults c.mcy_call-outcome.new.out)
+    c.mcy_call-outcome.result c.new-opening.ensures.uncounted c.mcy_call-outcome.ensures.cause
 
 pub returns-clause-quiet : goal.returns-clause-quiet
 returns-clause-quiet g c = c.mcy_call-outcome.ensures.quiet
@@ -22,4 +22,5 @@ pub returns-clause-complete : goal.returns-clause-complete
 returns-clause-complete g c tells command ready none =
     c.mcy_call-outcome.ensures.complete tells command
     (ready_on (map string_bytes c.args.words.now) (g.F.SourceFiles.held c.args.files.now) _ _ _ (λ left was. (c.new-opening.ensures.leaves left).0 was) command ready)
-    (subst (λ (n : ℕ). NoneRose _ _ n _ _ _) (sym c.new-opening.ensures.uncounted) none)
+    (none_on (g.F.SourceFiles.faults c.args.files.now) (g.F.SourceFiles.faults c.mcy_call-outcome.new.files) _ _ _ (g.O.Sink.faults c.args.out.now) (g.O.Sink.faults c.mcy_call-outcome.new.out)
+    c.new-opening.ensures.uncounted none)
