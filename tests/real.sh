@@ -360,6 +360,8 @@ if [ "$may_be_refused" = 1 ]; then
     finished_folder && chmod 444 mcy.db*
     refuses 12 "$no_access" "" run
 fi
+new_folder && printf x >mcy.db && chmod 666 mcy.db
+refuses 12 "$no_book" "" run
 finished_folder && head -c 5000 mcy.db >short && mv short mcy.db && rm -f mcy.db-wal && chmod 666 mcy.db
 refuses 12 "$no_book" "./mcy.db-wal " run
 if [ "$has_shell" = 1 ]; then
@@ -390,8 +392,10 @@ if [ "$has_shell" = 1 ]; then
     echo '.quit' >&"${SHELL_OF[1]}"
     wait "$SHELL_OF_PID"
 fi
-new_folder && : >mcy.db && chmod 666 mcy.db
-ends 0 "$finished" "" run
+for left in '' '\0'; do
+    new_folder && printf "$left" >mcy.db && chmod 666 mcy.db
+    ends 0 "$finished" "" run
+done
 
 # Files that may not grow, as on a full disk: each call tells so, and with room again the campaign goes on.
 for kilobytes in 8 40 260; do
