@@ -103,7 +103,7 @@ class Campaign:
         return [f"{n}: {self.text(site)} [same={told[word][0]}] {told[word][1]}" for n, (site, word) in enumerate(zip(self.mutations, self.words), 1)]
 
     def rows(self):
-        return [f"{n} {n} 0 {word} 1 {2 - word}" for n, word in enumerate(self.words)]
+        return [f"{n} {n} 0 {word} 1 {2 - word} 20000" for n, word in enumerate(self.words)]
 
 
 def tilde(lines):

@@ -83,10 +83,10 @@ def project(options, name, top):
 
 
 class Campaign:
-    """Mutations with their texts and the codes of their words."""
+    """Mutations with their texts, the codes of their words, and the limit that their rows have as bounds."""
 
-    def __init__(self, sites, texts, words):
-        self.sites, self.texts, self.words = sites, texts, words
+    def __init__(self, sites, texts, words, conflicts=20000):
+        self.sites, self.texts, self.words, self.conflicts = sites, texts, words, conflicts
 
     def counts(self, rows):
         return [sum(1 for word in self.words[:rows] if word == code) for code in (0, 1, 3)]
@@ -107,7 +107,7 @@ class Campaign:
 
     def book(self, rows):
         masks = {0: 2, 1: 1, 3: 4}
-        return [f"3 items, {len(self.texts)} mutations"] + [f"{n} {n} 0 {word} 1 {masks[word]}" for n, word in enumerate(self.words[:rows])]
+        return [f"3 items, {len(self.texts)} mutations"] + [f"{n} {n} 0 {word} 1 {masks[word]} {self.conflicts}" for n, word in enumerate(self.words[:rows])]
 
     def told(self, words, text, rows, head=("status 0",)):
         written = [*text, f"{sum(len(line) + 1 for line in text)} bytes"] if text else []
@@ -131,14 +131,14 @@ def counter():
     plain = [step(*state) for state in states]
     codes = [0 if all(step(*state, site) == now for state, now in zip(states, plain)) else 1 for site in taken]
     texts = [f"{mode} sat {kind} {name} {port} {bit}" + ("" if control is None else f" {control}") + f" sat.v:{line}" for mode, kind, name, port, bit, control, line in taken]
-    return Campaign(len(sites), texts, codes)
+    return Campaign(len(sites), texts, codes, 60000)
 
 
 def redundant(given_up):
     """A redundant or: a bit that is constant 0 at the and gate, or at the or gate's second input, leaves the output as it is."""
     places = [("and_0", "A", 2), ("and_0", "B", 2), ("and_0", "Y", 2), ("or_1", "A", 3), ("or_1", "B", 3), ("or_1", "Y", 3)]
     same = 3 if given_up else 0
-    return Campaign(6, [f"const0 g cell {name} {port} 0 g.v:{line}" for name, port, line in places], [same, same, same, 1, same, 1])
+    return Campaign(6, [f"const0 g cell {name} {port} 0 g.v:{line}" for name, port, line in places], [same, same, same, 1, same, 1], 1 if given_up else 9)
 
 
 def counter_cases():

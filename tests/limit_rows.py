@@ -45,7 +45,7 @@ def run(differ, test="same", last="UNKNOWN", items=3):
     count, fails = len(differ), sum(differ)
     lines = [f"Mutations: {count}", f"Finished: {count}", f"Test {test}: PASS {count - fails} FAIL {fails} {last} 0"]
     lines += [f"Tag CHANGED: {fails}", f"Tag NOCHANGE: {count - fails}", "Asserts: 0", "Unexpected: 0"]
-    rows = [f"{n} {n} 0 {int(fails)} 1 {1 if fails else 2}" for n, fails in enumerate(differ)]
+    rows = [f"{n} {n} 0 {int(fails)} 1 {1 if fails else 2} 20000" for n, fails in enumerate(differ)]
     rows = rows if len(rows) <= 100 else [f"{len(rows)} rows"]
     return told(lines, [f"{items} items, {count} mutations", *rows])
 
@@ -144,7 +144,7 @@ def script_cases():
     logic = [f'a{n} = result("{test}")' for n, test in enumerate(tests)] + ['tag("T31")']
     lines = ["Mutations: 1", "Finished: 1", *[f"Test {test}: PASS 0 FAIL 1 UNKNOWN 0" for test in tests]]
     lines += [f"Tag {tag}: {int(tag == 'T31')}" for tag in tags] + ["Asserts: 0", "Unexpected: 0"]
-    rows = [f"{n} 0 {n} 1 0 0" for n in range(15)] + [f"15 0 15 1 1 {1 << 31}"]
+    rows = [f"{n} 0 {n} 1 0 0 20000" for n in range(15)] + [f"15 0 15 1 1 {1 << 31} 20000"]
     config = project(["size 1", "tags " + " ".join(tags), "modes inv"], [line for test in tests for line in (f"[test {test}]", "eq")], logic)
     yield "# A project has 16 tests and 32 tags.", ["new", f"hold config.mcy {config}", spread(0, NOT)], told(lines, ["3 items, 1 mutations", *rows])
     names = [f"n{n} = 1" for n in range(32)]

@@ -131,7 +131,7 @@ def told(project, command):
         if count:
             status, left = "status 1", [f"{count} left"]
     text = {"list": project.list, "source": project.sources}.get(command, project.status)()
-    rows = [" ".join(map(str, (seq, *row))) for seq, row in enumerate(project.rows)]
+    rows = [" ".join(map(str, (seq, *row, 20000))) for seq, row in enumerate(project.rows)]
     written = [*text, f"{sum(len(line) + 1 for line in text)} bytes"]
     return [f"> {command}", status, *left, *written, f"3 items, {len(project.campaign.mutations)} mutations", *rows]
 

@@ -108,7 +108,7 @@ refuses() {
     case_is $? "status $status of 'mcy $*' touches '$made', and not: $touched"
 }
 
-usage='mcy: usage: mcy init | run [--stop-after N] | list | status | source'
+usage='mcy: usage: mcy init | run [--stop-after N] [--retry N] | list | status | source'
 finished='Mutations: 9
 Finished: 9
 Test same: PASS 0 FAIL 9 UNKNOWN 0
@@ -204,9 +204,10 @@ cp was.v g.v
 case_is $? "status 13 where standard output is full: $(cat "$room/lines")"
 ends 0 "$finished" "" status
 
-# The rows of the database, by the stock shell, as `seq mutation test word mark tags` in the order of seq.
+# The rows of the database, by the stock shell, as `seq mutation test word mark tags` in the order of seq. Those of a database of
+# the first format are in `journal`.
 rows() {
-    sqlite3 -separator ' ' mcy.db 'SELECT seq, mutation, test, word, mark, tags FROM journal ORDER BY seq'
+    sqlite3 -separator ' ' mcy.db "SELECT seq, mutation, test, word, mark, tags FROM ${1:-journal2} ORDER BY seq"
 }
 
 if [ "$has_shell" = 1 ]; then
@@ -215,9 +216,9 @@ if [ "$has_shell" = 1 ]; then
     case_is $? "a run has nine rows"
     [ "$(sqlite3 mcy.db 'PRAGMA integrity_check')" = ok ]
     case_is $? "the stock shell finds the database sound"
-    [ "$(sqlite3 mcy.db '.tables' | tr -s ' \n' ' ')" = "journal meta mutations " ]
-    case_is $? "the database has three tables"
-    [ "$(sqlite3 mcy.db 'SELECT body FROM meta WHERE item = 0')" = 1 ]
+    [ "$(sqlite3 mcy.db '.tables' | tr -s ' \n' ' ')" = "journal journal2 meta mutations " ]
+    case_is $? "the database has four tables"
+    [ "$(sqlite3 mcy.db 'SELECT body FROM meta WHERE item = 0')" = 2 ]
     case_is $? "item 0 of meta is the format's number"
 fi
 
@@ -317,6 +318,112 @@ Tag GIVENUP: 4
 Asserts: 0
 Unexpected: 0' "" run
 
+# A test that was given up is asked again under a greater limit, once, and then stands.
+rm -rf "$room/here" && cp -r "$root/examples/given_up" "$room/here" && cd "$room/here" && chmod -R go+rX . && chmod 777 . || exit 1
+given='Mutations: 6
+Finished: 6
+Test same: PASS 0 FAIL 5 UNKNOWN 1
+Tag CHANGED: 5
+Tag NOCHANGE: 0
+Tag GIVENUP: 1
+Asserts: 0
+Unexpected: 0'
+settled='Mutations: 6
+Finished: 6
+Test same: PASS 1 FAIL 5 UNKNOWN 0
+Tag CHANGED: 5
+Tag NOCHANGE: 1
+Tag GIVENUP: 0
+Asserts: 0
+Unexpected: 0'
+ends 0 "$given" "" run
+ends 0 "$settled" "" run --retry 9
+ends 0 "$settled" "" run --retry=9
+ends 0 "$settled" "" status
+
+# The same over its database as the first format has it, in three tables and without bounds: a run moves the rows and gives them the
+# project's limit, and retries that are killed end with the undisturbed rows.
+if [ "$has_shell" = 1 ]; then
+    bounds() {
+        sqlite3 -separator ' ' mcy.db "SELECT mutation, test, word, bound FROM journal2 ORDER BY seq"
+    }
+    here_again() {
+        rm -rf "$room/here" && cp -r "$root/examples/given_up" "$room/here" && cd "$room/here" && cp "$room/kept.db" mcy.db &&
+            chmod -R go+rX . && chmod 777 . && chmod 666 mcy.db
+    }
+    settled_bounds=$(bounds)
+    given_bounds=$(head -n 6 <<<"$settled_bounds")
+    old_rows=$(rows | head -n 6)
+    sqlite3 mcy.db "BEGIN;
+        INSERT INTO journal SELECT seq, mutation, test, word, mark, tags FROM journal2 WHERE seq < 6;
+        DROP TABLE journal2;
+        UPDATE meta SET body = x'31' WHERE item = 0;
+        COMMIT;
+        PRAGMA wal_checkpoint(TRUNCATE)" >/dev/null
+    cp mcy.db "$room/kept.db"
+    here_again
+    ends 0 "$given" "" status
+    [ "$(rows journal)" = "$old_rows" ] && chmod 666 mcy.db*
+    case_is $? "a status leaves the rows of a database of the first format"
+    ends 0 "$given" "" run
+    [ "$(rows)" = "$old_rows" ] && [ "$(bounds)" = "$given_bounds" ] && [ -z "$(rows journal)" ] && [ "$(sqlite3 mcy.db 'SELECT body FROM meta WHERE item = 0')" = 2 ]
+    case_is $? "a run moves the rows to the second format, and takes none away"
+    kills=0
+    asked=0
+    times=$((campaigns < 50 ? campaigns : 50))
+    for _ in $(seq "$times"); do
+        here_again
+        killed_call run --retry 9
+        killed_call run --retry 9
+        [ "$("$mcy" run --retry 9 2>"$room/lines")" = "$settled" ] && [ "$(sqlite3 mcy.db 'PRAGMA integrity_check')" = ok ] && [ "$(bounds)" = "$settled_bounds" ] && asked=$((asked + 1))
+    done
+    [ "$asked" = "$times" ]
+    case_is $? "each of $times retries that were killed $kills times ends with the undisturbed rows ($asked)"
+fi
+
+# The campaign of nine mutations as a program wrote it that knew the first format alone: three of its rows, in three tables. `list`,
+# `status` and `source` read it as it is; `run` moves it to the second format and goes on. A call that is killed leaves the rows in one
+# of the two tables, all of them, under the number of that table's format.
+old_folder() {
+    rm -rf "$room/here" && cp -r "$root/tests/first_format" "$room/here" && cd "$room/here" && chmod -R go+rX . && chmod 777 . && chmod 666 mcy.db*
+}
+if [ "$has_shell" = 1 ]; then
+    old_folder
+    older=$(rows journal)
+    [ "$(echo "$older" | wc -l)" = 3 ] && [ "$(sqlite3 mcy.db 'SELECT body FROM meta WHERE item = 0')" = 1 ]
+    case_is $? "the older database has three rows of the first format"
+    [ "$(sqlite3 mcy.db '.tables' | tr -s ' \n' ' ')" = "journal meta mutations " ]
+    case_is $? "the older database has three tables"
+    chmod 666 mcy.db*
+    for command in list status source; do
+        "${as_user[@]}" "$mcy" "$command" >"$room/text" 2>"$room/lines"
+        [ -s "$room/text" ] && [ ! -s "$room/lines" ]
+        case_is $? "'mcy $command' over the older database: $(cat "$room/lines")"
+    done
+    [ "$(rows journal)" = "$older" ] && [ "$(rows)" = "" ]
+    case_is $? "they leave its rows where they are"
+    chmod 666 mcy.db*
+    ends 0 "$finished" "" run
+    [ "$(rows | head -n 3)" = "$older" ] && [ "$(rows)" = "$wanted" ] && [ "$(rows journal)" = "" ]
+    case_is $? "a run moves the rows of the older database, and goes on behind them"
+    [ "$(sqlite3 mcy.db 'SELECT DISTINCT bound FROM journal2')" = 20000 ]
+    case_is $? "the rows that were moved have the limit of the project"
+    whole=0
+    kills=0
+    times=$((campaigns < 50 ? campaigns : 50))
+    for _ in $(seq "$times"); do
+        old_folder
+        killed_call run
+        case $(sqlite3 mcy.db 'SELECT body FROM meta WHERE item = 0') in
+            1) kept=$(rows journal) && [ "$(sqlite3 mcy.db '.tables' | grep -c journal2)" = 0 -o "$(rows)" = "" ] ;;
+            2) kept=$(rows | head -n 3) && [ "$(rows journal)" = "" ] ;;
+            *) kept=none ;;
+        esac && [ "$kept" = "$older" ] && chmod 666 mcy.db* && [ "$("$mcy" run 2>"$room/lines")" = "$finished" ] && [ "$(rows)" = "$wanted" ] && whole=$((whole + 1))
+    done
+    [ "$whole" = "$times" ]
+    case_is $? "each of $times upgrades, $kills of them killed, leaves the rows whole ($whole)"
+fi
+
 # Three mutations of twelve sites in two modes, picked from each line first.
 rm -rf "$room/here" && cp -r "$root/examples/parity" "$room/here" && cd "$room/here" && chmod -R go+rX . && chmod 777 . || exit 1
 sed 's/^modes inv$/modes inv const0/; s/^tags /size 3\npick even\n&/' "$root/examples/parity/config.mcy" >config.mcy
@@ -340,11 +447,11 @@ for name in serial arbiter processor; do
     case_is $? "the campaign of $name is finished: $(cat "$room/lines")"
 done
 
-# Databases that are none, and one whose tables have no constraints, which is taken.
+# Databases that are none, and one whose tables have no CHECK, which is taken.
 tables='CREATE TABLE meta(item INTEGER PRIMARY KEY, body BLOB NOT NULL) STRICT;
 CREATE TABLE mutations(number INTEGER PRIMARY KEY, place BLOB NOT NULL) STRICT;
 CREATE TABLE journal(seq INTEGER PRIMARY KEY, mutation INTEGER NOT NULL, test INTEGER NOT NULL,
-    word INTEGER NOT NULL, mark INTEGER NOT NULL, tags INTEGER NOT NULL) STRICT'
+    word INTEGER NOT NULL, mark INTEGER NOT NULL, tags INTEGER NOT NULL, UNIQUE(mutation, test)) STRICT'
 fault='mcy: database fault'
 no_book="$fault
 mcy: mcy.db: another program's, or damaged"
@@ -369,15 +476,19 @@ if [ "$has_shell" = 1 ]; then
     refuses 12 "$no_book" "./mcy.db-wal " run
     finished_folder && sqlite3 mcy.db "DELETE FROM meta WHERE item = 1" && chmod 666 mcy.db*
     refuses 12 "$no_book" "./mcy.db-wal " run
-    new_folder && sqlite3 mcy.db "$tables; INSERT INTO journal VALUES (0, 0, 0, 4294967296, 0, 0)" && chmod 666 mcy.db
-    refuses 12 "$no_book" "./mcy.db-wal " run
-    for change in 'CREATE VIEW found AS SELECT word FROM journal' 'DROP TABLE journal' 'ALTER TABLE meta ADD COLUMN more BLOB'; do
+    # A number that is no u32, and a row in the journal that is not the one of the book's format.
+    new_folder && sqlite3 mcy.db "$tables; INSERT INTO meta VALUES (0, x'31'); INSERT INTO journal VALUES (0, 0, 0, 4294967296, 0, 0)" && chmod 666 mcy.db
+    refuses 12 "$no_book" "./mcy.db ./mcy.db-wal " run
+    new_folder && sqlite3 mcy.db "$tables; INSERT INTO journal VALUES (0, 0, 0, 1, 0, 0)" && chmod 666 mcy.db
+    refuses 12 "$no_book" "./mcy.db ./mcy.db-wal " run
+    for change in 'CREATE VIEW found AS SELECT word FROM journal' 'DROP TABLE journal' 'ALTER TABLE meta ADD COLUMN more BLOB' \
+        'CREATE INDEX words ON journal(word)'; do
         new_folder && sqlite3 mcy.db "$tables; $change" && chmod 666 mcy.db
         refuses 12 "$no_book" "./mcy.db-wal " run
     done
     new_folder && sqlite3 mcy.db "$tables" && chmod 666 mcy.db
     ends 0 "$finished" "" run
-    finished_folder && sqlite3 mcy.db "UPDATE journal SET word = 9 WHERE seq = 0" && chmod 666 mcy.db*
+    finished_folder && sqlite3 mcy.db "UPDATE journal2 SET word = 9 WHERE seq = 0" && chmod 666 mcy.db*
     refuses 10 "mcy: database: row 0" "./mcy.db-wal " run
     finished_folder && sqlite3 mcy.db "UPDATE mutations SET place = x'00' WHERE number = 8" && chmod 666 mcy.db*
     refuses 10 "mcy: database: mutation 8" "./mcy.db-wal " run

@@ -66,7 +66,7 @@ class Both:
     def rows(self, count):
         rows = []
         for m, (bench, equal, tag) in enumerate(zip(self.bench, self.equal.words, self.tags)):
-            rows += [f"{2 * m} {m} 0 {bench} 0 0", f"{2 * m + 1} {m} 1 {equal} 1 {1 << tag}"]
+            rows += [f"{2 * m} {m} 0 {bench} 0 0 0", f"{2 * m + 1} {m} 1 {equal} 1 {1 << tag} 60000"]
         return ["3 items, 20 mutations".replace("3", "4", 1)] + rows[:count]
 
     def status(self, rows):

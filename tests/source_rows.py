@@ -61,7 +61,7 @@ class Rows:
         status = (f"Mutations: {n}\nFinished: {n}\nTest same: PASS {n - seen} FAIL {seen} UNKNOWN 0\n"
                   f"Tag CHANGED: {seen}\nTag NOCHANGE: {n - seen}\nAsserts: 0\nUnexpected: 0\n")
         book = [f"{2 + len(files)} items, {n} mutations"]
-        book += [f"{i} {i} 0 {int(it)} 1 {1 if it else 2}" for i, (_, it) in enumerate(lines)]
+        book += [f"{i} {i} 0 {int(it)} 1 {1 if it else 2} 20000" for i, (_, it) in enumerate(lines)]
         self.call("run", ["status 0", *status.splitlines(), f"{len(status)} bytes", *book])
         listed = "".join(f"{i}: inv {where} [same={'FAIL' if it else 'PASS'}] {'CHANGED' if it else 'NOCHANGE'}\n"
                          for i, (where, it) in enumerate(lines, 1))

@@ -1,11 +1,12 @@
 #!/usr/bin/env python3
-"""What a terminal is told beside the lines of the outcomes: how far a campaign is, and what to do next.
+"""What a terminal is told beside the lines of the outcomes: how far a campaign is, which retry asks again, and what to do next.
 
     python3 tests/program/progress.py PROGRAM
 
 Runs a campaign with standard error as a terminal: lines come, ten times a second at most, each with numbers that fit
 the campaign, and the last one is cleared. Standard output is the same as where standard error is a pipe, to which nothing is written.
-Calls that are refused for what the database holds write a second line on a terminal, and only there.
+Tests that are UNKNOWN are told behind the text of `run` and `status` on a terminal, and only there. Calls that are refused for what the
+database holds write a second line there.
 Ends with the line 'progress: N lines', or tells what is wrong.
 """
 
@@ -47,6 +48,7 @@ endmodule
 # A line in the place of the one before, which the terminal does not go on on another; the cursor waits below it.
 LINE = re.compile(rb"(\x1b\[A)?\r\x1b\[K\x1b\[\?7lmcy: (\d+) of (\d+) finished, (\d+) tests a second(?:, (\d+) s left)?\x1b\[\?7h\r\n")
 CLEARED = b"\x1b[A\r\x1b[K"
+UNKNOWN = re.compile(rb"mcy: \d+ UNKNOWN: run --retry \d+ asks again\r\n\Z")
 NO_CAMPAIGN = "no campaign", "run or init begins one"
 BEGUN = "campaign already begun", "run goes on with it"
 CHANGED = "database: meta 2", "config.mcy, a source or mcy.db has changed: undo that, or move mcy.db and mcy.db-wal away to begin anew"
@@ -130,21 +132,44 @@ def check_refusals(program, here):
     assert on_terminal(program, ["none"], here)[2].count(b"\n") == 1, "words that are none have a second line"
 
 
+GIVEN_UP = "examples", "given_up"
+
+
+def check_given_up(program):
+    """A test that is UNKNOWN is told with the retry that asks it again, twice its limit; after one that settles it nothing is told."""
+    example = os.path.join(os.path.dirname(os.path.abspath(__file__)), "..", "..", *GIVEN_UP)
+    with tempfile.TemporaryDirectory() as here:
+        for name in os.listdir(example):
+            with open(os.path.join(example, name)) as source, open(os.path.join(here, name), "w") as copy:
+                copy.write(source.read())
+        asks = b"mcy: 1 UNKNOWN: run --retry 2 asks again\r\n"
+        first = on_terminal(program, ["run"], here)
+        assert first[0] == 0 and first[2].endswith(asks), first
+        assert on_terminal(program, ["status"], here)[:3] == (0, first[1], asks), "a status tells of no UNKNOWN"
+        assert on_terminal(program, ["list"], here)[2] == b"", "a list tells of UNKNOWN"
+        piped = subprocess.run([program, "status"], cwd=here, capture_output=True, timeout=60)
+        assert piped.stderr == b"", piped
+        settled = on_terminal(program, ["run", "--retry", "9"], here)
+        assert settled[0] == 0 and b"UNKNOWN" not in settled[2], settled
+        assert on_terminal(program, ["status"], here)[2] == b"", "what is settled is told of"
+
+
 def main():
     program = os.path.realpath(sys.argv[1])
     with folder() as here:
         status, text, seen, spent = on_terminal(program, ["run"], here)
         assert status == 0 and text, (status, seen)
-        count = check_lines(seen, spent)
+        count = check_lines(UNKNOWN.sub(b"", seen), spent)
         assert count > 0, "there is no line"
         again = on_terminal(program, ["run"], here)
-        assert again[:3] == (0, text, b""), ("a finished campaign is told of", again)
+        assert (*again[:2], UNKNOWN.sub(b"", again[2])) == (0, text, b""), ("a finished campaign is told of", again)
         assert on_terminal(program, ["list"], here)[2] == b"", "a list is told of"
+    check_given_up(program)
     with folder() as here:
         check_cut_off(program, here)
     with folder() as here:
         stopped = on_terminal(program, ["run", "--stop-after", "3"], here)
-        assert stopped[0] == 1 and stopped[2].endswith(CLEARED), stopped
+        assert stopped[0] == 1 and UNKNOWN.sub(b"", stopped[2]).endswith(CLEARED), stopped
     with folder() as here:
         piped = subprocess.run([program, "run"], cwd=here, capture_output=True, timeout=60)
         assert (piped.returncode, piped.stdout, piped.stderr) == (0, text, b""), piped

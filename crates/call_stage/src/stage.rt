@@ -9,14 +9,15 @@
 //! | `bytes NAME BYTE ..` | There is this file, of these bytes. |
 //! | `wide NAME INPUTS AGAIN` | There is this file, a source with so many inputs, one of them twice where AGAIN is 1. |
 //! | `forget` | There are no files. |
-//! | `row SEQ MUTATION TEST WORD MARK TAGS` | The book has this row more. |
+//! | `row SEQ MUTATION TEST WORD MARK TAGS BOUND` | The book has this row more. |
 //! | `unrow` | The book has no rows. |
+//! | `format TEXT` | Item 0 of the book is this text, and where that is `1` no row has a bound. |
 //! | `fail-read CALL` | This read of the next call fails, counted from 0. |
 //! | `fail-keeper CALL WHOLE` | This call of the keeper fails, and leaves the new book where WHOLE is 1. |
 //! | `fail-write CALL BYTES` | This write fails after so many bytes. |
 use crate::content::{file_bytes, numbers_of};
 use crate::world::World;
-use mcy_base::{Bytes, FileList, SourceFile, Text};
+use mcy_base::{Bytes, BytesList, FileList, SourceFile, Text};
 use mcy_keeper::{Book, Entry, Journal, MemoryKeeper};
 use mcy_outside::{MemoryFiles, MemorySink};
 use std::alloc::{AllocError, Global};
@@ -136,6 +137,30 @@ impl Stage {
         self.book.journal = Journal::from_vec(Vec::new(self.alloc));
     }
 
+    /// Gives the book another number of its format.
+    fn set_format(&mut self, number: &str) -> Result<(), AllocError> {
+        let mut meta = Vec::new(self.alloc);
+        meta.push(Bytes::copy(self.alloc, number.as_bytes())?)?;
+        for item in self.book.meta.as_slice().iter().skip(1) {
+            meta.push(Bytes::copy(self.alloc, item.as_slice())?)?;
+        }
+        self.book.meta = BytesList::from_vec(meta);
+        if number == "1" {
+            self.take_bounds()?;
+        }
+        Ok(())
+    }
+
+    /// Takes the bounds of the rows away.
+    fn take_bounds(&mut self) -> Result<(), AllocError> {
+        let mut rows = self.book.journal.as_slice().to_vec(self.alloc)?;
+        for row in rows.iter_mut() {
+            row.bound = 0;
+        }
+        self.book.journal = Journal::from_vec(rows);
+        Ok(())
+    }
+
     /// Holds a file of these bytes.
     fn hold(&mut self, name: &str, bytes: Vec<u8>) -> Result<(), AllocError> {
         let file = SourceFile {
@@ -152,6 +177,7 @@ impl Stage {
             "new" => self.begin(),
             "forget" => self.forget(),
             "unrow" => self.unrow(),
+            "format" => self.set_format(rest)?,
             "hold" | "spread" | "fill" | "bytes" | "wide" => return self.hold_file(verb, rest),
             _ => return self.list(verb, rest),
         }
@@ -182,7 +208,7 @@ impl Stage {
 
     /// Lists a row.
     fn list_row(&mut self, numbers: &[u32]) -> Result<bool, AllocError> {
-        let [seq, mutation, test, word, mark, tags] = numbers else {
+        let [seq, mutation, test, word, mark, tags, bound] = numbers else {
             return Ok(false);
         };
         self.book.journal.push(Entry {
@@ -192,6 +218,7 @@ impl Stage {
             word: *word,
             mark: *mark,
             tags: *tags,
+            bound: *bound,
         })?;
         Ok(true)
     }

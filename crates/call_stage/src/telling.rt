@@ -14,8 +14,8 @@ pub fn tell_bytes<R: Print + AllocGlobal>(rt: &R, bytes: &[u8]) -> io::Result<()
 /// Prints a row.
 pub fn tell_row<R: Print + AllocGlobal>(rt: &R, row: &Entry) -> io::Result<()> {
     println!(rt;
-        "{} {} {} {} {} {}",
-        row.seq, row.mutation, row.test, row.word, row.mark, row.tags
+        "{} {} {} {} {} {} {}",
+        row.seq, row.mutation, row.test, row.word, row.mark, row.tags, row.bound
     )
 }
 

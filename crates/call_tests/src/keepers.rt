@@ -2,7 +2,7 @@
 ghost use Rattle.std.specs.Prelude.{◌≡◌, ◌≢◌, []};
 
 use mcy_base::{Bytes, BytesList};
-use mcy_keeper::{CleanKeeper, Entry, KeepError, Keeper, MemoryKeeper};
+use mcy_keeper::{Book, BoundList, CleanKeeper, Entry, Journal, KeepError, Keeper, MemoryKeeper};
 use std::alloc::{AllocError, Global};
 use std::test::Fail;
 
@@ -13,7 +13,8 @@ fn one_item(alloc: Global) -> Result<BytesList, AllocError> {
 }
 
 fn first_row() -> Entry
-    ensures { result.seq ≡ 0 }
+    ensures seq { result.seq ≡ 0 }
+    ensures bound { result.bound ≡ 0 }
 {
     Entry {
         seq: 0,
@@ -22,12 +23,14 @@ fn first_row() -> Entry
         word: 1,
         mark: 16,
         tags: 3,
+        bound: 0,
     }
 }
 
 /// Begins the book of a keeper that has none, and adds a row to it. How many rows a load then finds.
 fn rows_kept<K: Keeper>(keeper: &mut K, list: &BytesList, row: &Entry) -> Result<usize, KeepError>
     requires first { row.now.seq ≡ 0 }
+    requires bound { row.now.bound ≡ 0 }
     requires list { list.now ≢ [] }
 {
     if !keeper.load()?.is_blank() {
@@ -63,5 +66,52 @@ fn rows_after_a_failed_append(alloc: Global, whole: bool) -> Result<usize, KeepE
 fn a_failed_append_leaves_the_book_that_the_list_says(rt: HostRuntime) -> Result<(), Fail> {
     assert_eq!(rt; rows_after_a_failed_append(rt.alloc(), false), Ok(0));
     assert_eq!(rt; rows_after_a_failed_append(rt.alloc(), true), Ok(1));
+    Ok(())
+}
+
+/// A book of the first format with one row.
+fn first_book(alloc: Global) -> Result<Book, AllocError> {
+    Ok(Book {
+        meta: one_item(alloc)?,
+        mutations: one_item(alloc)?,
+        journal: Journal::from_vec([first_row()].to_vec(alloc)?),
+    })
+}
+
+/// Upgrades a book of one row, whose new bound is 20,000, by a keeper whose second call fails where the list says so. The bound that
+/// a load then finds, and whether the book is of the second format.
+fn bound_after_an_upgrade(
+    alloc: Global,
+    failing: Vec<(u64, bool)>,
+) -> Result<Option<(u32, bool)>, KeepError> {
+    let mut keeper = MemoryKeeper::holding(alloc, first_book(alloc)?, failing);
+    let loaded = keeper.load()?;
+    if !loaded.is_first() || loaded.journal.as_slice().len() != 1 {
+        return Ok(None);
+    }
+    let bounds = BoundList::from_vec([20_000].to_vec(alloc)?);
+    let written = keeper.upgrade(&bounds);
+    let book = keeper.load()?;
+    match (written, book.journal.as_slice()) {
+        (Ok(()) | Err(KeepError::Fault), [row]) => Ok(Some((row.bound, book.is_second()))),
+        _ => Ok(None),
+    }
+}
+
+#[test]
+fn an_upgrade_gives_each_row_its_bound_or_changes_nothing(rt: HostRuntime) -> Result<(), Fail> {
+    let alloc = rt.alloc();
+    assert_eq!(rt;
+        bound_after_an_upgrade(alloc, Vec::new(alloc)),
+        Ok(Some((20_000, true)))
+    );
+    assert_eq!(rt;
+        bound_after_an_upgrade(alloc, [(1, false)].to_vec(alloc)?),
+        Ok(Some((0, false)))
+    );
+    assert_eq!(rt;
+        bound_after_an_upgrade(alloc, [(1, true)].to_vec(alloc)?),
+        Ok(Some((20_000, true)))
+    );
     Ok(())
 }

@@ -1,6 +1,5 @@
 -- A book can keep the campaign of a project and its scripts: these name only its tests and tags, and there are few of all.
-use Rattle.std.proofs.Common.{◌≡◌, ℕ, zero, suc, ◌≤◌, List, [], ◌∷◌, length, map, true, Ok, inl, inr, refl, sym, ◌∙◌, subst, arith}
-use Rattle.std.specs.List.{All}
+use Rattle.std.proofs.Common.{◌≡◌, ℕ, ◌≤◌, List, length, map, true, Ok, refl, sym, ◌∙◌, subst, arith}
 use Rattle.std.proofs.lemmas.List.{length-map}
 use Rattle.mcy_base.specs.declared.file.SourceFile.{SourceFile}
 use Rattle.netlist_core.specs.declared.raw.RawNetlist.{RawNetlist}
@@ -8,10 +7,8 @@ use Rattle.mutation_sites.specs.declared.site.Site.{Site}
 use Rattle.mutation_sites.specs.SiteTexts.{site_text}
 use Rattle.project_file.specs.declared.project.Project.{Project}
 use Rattle.project_file.specs.declared.project.TestPlan.{TestPlan}
-use Rattle.project_file.specs.declared.project.TestKind.{TestKind}
-use Rattle.project_file.specs.declared.project.TestKind.TheVariants.{Eq, Sim}
 use Rattle.project_file.specs.Projects.{IsProject}
-use Rattle.project_limits.proofs.Sizes.{size_within}
+use Rattle.project_limits.proofs.Sizes.{conflicts_within, size_within}
 use Rattle.project_limits.proofs.Tags.{tags_few}
 use Rattle.project_limits.proofs.Tests.{tests_few}
 use Rattle.script_lines.specs.Rows.{rows_of}
@@ -23,7 +20,7 @@ use Rattle.report_script.specs.declared.report.Report.{Report}
 use Rattle.report_script.specs.Fits.{report_fits}
 use Rattle.report_script.specs.Reading.{report_of}
 use Rattle.report_script.proofs.Fitting.{reads_fit as report_reads_fit}
-use Rattle.result_book.specs.Campaigns.{IsFit, IsKind}
+use Rattle.result_book.specs.Campaigns.{IsFit}
 use Rattle.campaign_choice.specs.Campaigns.{campaign_of, names_of}
 use Rattle.campaign_choice.specs.Mutations.{picked_sites, site_line}
 use Rattle.campaign_choice.specs.Projects.{HasScripts, kind_of, test_kinds, test_names}
@@ -38,19 +35,11 @@ report_fit : (p : Project) (s : Script) (r : Report) → HasScripts p s r → re
 unfolding report_of
 report_fit p s r has = report_reads_fit (record { tags = p.tags; limit = first_too_many p.report }) (rows_of p.report) (Ok r) has.report
 
-each_kind : (tests : List TestPlan) → All IsKind (map (λ (t : TestPlan). kind_of t.kind) tests)
-each_kind [] k d below = absurd (omega (arith, below))
-each_kind (t ∷ tests) zero d below = one t.kind
-  where
-    one : (kind : TestKind) → IsKind (kind_of kind)
-    one Eq = inl refl
-    one (Sim name files pass fail) = inr refl
-each_kind (t ∷ tests) (suc k) d below = each_kind tests k d (omega (arith, below))
-
 -- so a book can keep its campaign
 pub campaign_fits : (config : List ℕ) (p : Project) (s : Script) (r : Report) (files : List SourceFile) (netlist : RawNetlist) → IsProject config p → HasScripts p s r → IsFit (campaign_of config p s r files netlist)
 campaign_fits config p s r files netlist says has =
     let picked : List Site = picked_sites p netlist in
+    let within = conflicts_within config p says in
     let few : length picked ≤ 10000 = omega (arith, within-size p netlist, size_within config p says) in
     let mutations : length (map (site_text netlist (names_of files)) picked) ≡ length picked = length-map picked (site_text netlist (names_of files)) in
     let lines : length (map (site_line netlist) picked) ≡ length picked = length-map picked (site_line netlist) in
@@ -65,7 +54,9 @@ campaign_fits config p s r files netlist says has =
       expects = expects ∙ sym kinds;
       few_tags = tags_few config p says;
       meta = λ is. cc;
-      kinds = each_kind p.tests;
+      format = refl;
+      some_conflicts = within.0;
+      few_conflicts = within.1;
       script = subst (λ (n : ℕ). script_fits n (length p.tags) s ≡ true) (names ∙ sym kinds) (script_fit p s r has);
       report = report_fit p s r has;
     }

@@ -14,10 +14,10 @@ use Rattle.campaign_choice.specs.Mutations.{picked_sites, site_line}
 abbrev pub file_item : SourceFile → List ℕ
 file_item file = file.name ++ (codes "\n" ++ file.bytes)
 
--- what a book keeps of the project and its sources: the number of the format, the project's bytes, and each source
--- (docs/FORMATS.md)
+-- what a book keeps of the project and its sources: the number of the format in which books are begun, the project's bytes,
+-- and each source (docs/FORMATS.md)
 abbrev pub meta_of : List ℕ → List SourceFile → List (List ℕ)
-meta_of config files = codes "1" ∷ config ∷ map file_item files
+meta_of config files = codes "2" ∷ config ∷ map file_item files
 
 -- the files' names
 abbrev pub names_of : List SourceFile → List (List ℕ)
@@ -35,4 +35,5 @@ campaign_of config project script report files netlist = record {
   tags = project.tags;
   script = script;
   report = report;
+  conflicts = project.conflicts;
 }

@@ -30,7 +30,7 @@ fn make_meta(alloc: Global, config: &[u8], files: &[SourceFile]) -> Result<Bytes
     ensures { IfOk result (λ meta. meta ≡ meta_of config.now files.now) }
 {
     let mut meta = Vec::new(alloc);
-    meta.push(Bytes::copy(alloc, b"1")?)?;
+    meta.push(Bytes::copy(alloc, b"2")?)?;
     meta.push(Bytes::copy(alloc, config)?)?;
     for file in files {
         meta.push(file_item(alloc, file)?)?;
@@ -131,6 +131,7 @@ pub(crate) fn new_campaign(
     ensures { IfOk result (λ campaign. campaign ≡ campaign_of config.now taken.project taken.script taken.report files.now netlist.now.raw) }
 {
     let lists = lists_of(alloc, config, &taken.project, files, netlist, sites)?;
+    let conflicts = taken.project.conflicts;
     let (project, script, report) = taken.into_parts();
     Ok(Campaign {
         meta: lists.meta,
@@ -142,5 +143,6 @@ pub(crate) fn new_campaign(
         tags: project.tags,
         script,
         report,
+        conflicts,
     })
 }

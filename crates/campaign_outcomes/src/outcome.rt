@@ -12,7 +12,7 @@ use tag_script::ScriptError;
 pub enum Outcome {
     /// The command was carried out, and its whole text was written.
     Done,
-    /// As many tests were run as were asked for, the text was written, and so many mutations are not finished.
+    /// As many tests were run as were asked for, the text was written, and so many mutations want a test still.
     Unfinished(u32),
     /// The words give no command.
     Usage,

@@ -43,6 +43,5 @@ plan_once c d one two same =
     let campaign : c.campaign ≡ d.campaign = one.made.campaign ∙ derived ∙ sym two.made.campaign in
     let parts : design_part one.made.project one.files ≡ design_part two.made.project two.files = λ i. design_part (project i) (files i) in
     let sources : c.files ≡ d.files = one.made.sources ∙ parts ∙ sym two.made.sources in
-    let conflicts : c.conflicts ≡ d.conflicts = one.made.conflicts ∙ ap (λ (p : Project). p.conflicts) project ∙ sym two.made.conflicts in
-    let same : c ≡ record d { trials = c.trials } = λ i. record { campaign = campaign i; site_count = count i; sites = places i; netlist = netlist i; trials = c.trials; conflicts = conflicts i; cycles = cycles i; word_seed = seed i; files = sources i } in
+    let same : c ≡ record d { trials = c.trials } = λ i. record { campaign = campaign i; site_count = count i; sites = places i; netlist = netlist i; trials = c.trials; cycles = cycles i; word_seed = seed i; files = sources i } in
     (same, trials)

@@ -55,11 +55,12 @@ plan_limits c t plan at =
     let equality = trials_equality plan.made.reading plan.made.project.tests c.trials t plan.made.trials at in
     (plan.made.few.few_bits equality, plan.made.few.few_gates equality)
 
--- and gives this test 1 to 100,000 lemmas
-pub plan_conflicts : (c : Prepared) → IsPlan c → (1 ≤ c.conflicts) × (c.conflicts ≤ 100000)
+-- and gives this test 1 to 100,000 lemmas at first
+pub plan_conflicts : (c : Prepared) → IsPlan c → (1 ≤ c.campaign.conflicts) × (c.campaign.conflicts ≤ 100000)
 plan_conflicts c plan =
     let within = conflicts_within plan.config plan.made.project plan.made.says in
-    (omega (arith, within.0, plan.made.conflicts), omega (arith, within.1, plan.made.conflicts))
+    let is : c.campaign.conflicts ≡ plan.made.project.conflicts = ap (λ (a : Campaign). a.conflicts) plan.made.campaign in
+    (omega (arith, within.0, is), omega (arith, within.1, is))
 
 -- it has few cells and bits
 pub plan_nets : (c : Prepared) → IsPlan c → (length c.netlist.cells ≤ 65535) × (net_bits c.netlist ≤ 1048576)

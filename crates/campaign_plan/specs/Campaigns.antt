@@ -32,7 +32,6 @@ pub record IsPrepared (config : List ℕ) (files : List SourceFile) (c : Prepare
   pub trials : AreTrials reading project.tests c.trials
   pub cycles : c.cycles ≡ project.cycles
   pub seed : c.word_seed ≡ project.word_seed
-  pub conflicts : c.conflicts ≡ project.conflicts
   pub campaign : c.campaign ≡ campaign_of config project script report files c.netlist
   pub count : c.site_count ≡ length (all_sites project c.netlist)
   pub places : c.sites ≡ picked_sites project c.netlist

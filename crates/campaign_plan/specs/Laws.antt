@@ -51,10 +51,10 @@ code_of (Simulation bench pass fail) = sim_kind
 abbrev pub TestsHaveKinds : Type 0
 TestsHaveKinds = (c : Prepared) → IsPlan c → (length c.campaign.kinds ≡ length c.trials) × ((t : ℕ) (trial : Trial) → slice_get c.trials t ≡ Some trial → slice_get c.campaign.kinds t ≡ Some (code_of trial))
 
--- Where a test is an equality, the netlist has few free bits and few gates, and the test has 1 to 100,000 lemmas.
+-- Where a test is an equality, the netlist has few free bits and few gates, and the test has 1 to 100,000 lemmas at first.
 abbrev pub EqualitiesAreFew : Type 0
 EqualitiesAreFew = (c : Prepared) (t : ℕ) → IsPlan c → slice_get c.trials t ≡ Some Equality
-    → (free_bits c.netlist ≤ max_free) × (design_gates c.netlist ≤ max_design_gates) × (1 ≤ c.conflicts) × (c.conflicts ≤ 100000)
+    → (free_bits c.netlist ≤ max_free) × (design_gates c.netlist ≤ max_design_gates) × (1 ≤ c.campaign.conflicts) × (c.campaign.conflicts ≤ 100000)
 
 -- The bench of a test fits the design.
 abbrev pub BenchesFit : Type 0

@@ -14,10 +14,9 @@ pub struct Prepared {
     pub site_count: usize,
     pub sites: SiteList,
     pub netlist: CheckedNetlist,
-    /// The tests in the order of the project, how many lemmas an equality may add, how many cycles a simulation may take, and where
-    /// `$random` begins.
+    /// The tests in the order of the project, how many cycles a simulation may take, and where `$random` begins. How many lemmas an
+    /// equality may add at first is said by `campaign`.
     pub trials: TrialList,
-    pub conflicts: u32,
     pub cycles: u32,
     pub word_seed: u64,
     /// The sources of the design in the order of reading.
@@ -32,7 +31,6 @@ impl Drop for Prepared {
             sites: _sites,
             netlist: _netlist,
             trials: _trials,
-            conflicts: _,
             cycles: _,
             word_seed: _,
             files: _files,

@@ -38,7 +38,6 @@ pub(crate) fn make_campaign(
     requires few { IsWithinLimits taken.project checked }
     ensures { IfOk result (λ prepared. IsPrepared config.now files.now prepared) }
 {
-    let conflicts = taken.project.conflicts;
     let cycles = taken.project.cycles;
     let word_seed = taken.project.word_seed;
     let choice = choose(alloc, config, taken, files, checked.netlist(), all)?;
@@ -48,7 +47,6 @@ pub(crate) fn make_campaign(
         sites: choice.sites,
         netlist: checked,
         trials,
-        conflicts,
         cycles,
         word_seed,
         files: choice.files,

@@ -1,47 +1,34 @@
--- What the script asks for on a mutation, and how it changes with a row.
-use Rattle.std.proofs.Common.{◌≡◌, ◌≢◌, inl, inr, arith, ℕ, ◌+◌, ◌<◌, true, List, length, map, slice_get, Some, refl, sym, ◌∙◌, ap, subst}
+-- What mutations want, and how it changes with a row.
+use Rattle.std.proofs.Common.{◌≡◌, ◌≢◌, inl, inr, arith, ℕ, ◌+◌, ◌<◌, List, [], ◌∷◌, ◌++◌, None, Some, sym, ◌∙◌, subst, append_assoc}
 use Rattle.std.proofs.lemmas.Bool.Decides.{eqb_tells}
-use Rattle.std.proofs.lemmas.List.{length-map}
+use Rattle.std.proofs.lemmas.List.{append-nil}
 use Rattle.mcy_keeper.specs.declared.book.Entry.{Entry}
-use Rattle.tag_script.specs.declared.answer.Ask.{Ask}
-use Rattle.tag_script.specs.declared.answer.Ask.TheVariants.{Need, Done, AssertFailed, Unexpected}
-use Rattle.result_book.specs.declared.campaign.Campaign.{Campaign}
-use Rattle.result_book.specs.Scripts.{Answer, ask, is_ended}
-use Rattle.result_book.specs.Rows.{ask_on, groups}
-use Rattle.result_book.proofs.Grouping.{answers_of-other, groups_from-at, length-groups_from}
+use Rattle.result_book.specs.declared.goal.Goal.{Goal}
+use Rattle.result_book.specs.Goals.{wanted}
+use Rattle.result_book.proofs.Wanting.{wanted-other}
 use Rattle.campaign_plan.specs.declared.prepared.Prepared.{Prepared}
-use Rattle.campaign_run.specs.Running.{AddsRow}
+use Rattle.campaign_run.specs.Running.{AddsRow, AreWanted, IsWanted}
 
--- what a state says of a mutation
-pub asked_at : (c : Campaign) (rows : List Entry) (asks : List Ask) (m : ℕ) (found : Ask) → asks ≡ map (ask c) (groups c rows) → m < length c.mutations → slice_get asks m ≡ Some found → ask_on c m rows ≡ found
-asked_at c rows asks m found are below at =
-    let place : 0 + m ≡ m = omega arith in
-    let mapped : slice_get (map (ask c) (groups c rows)) m ≡ Some (ask_on c m rows) = groups_from-at (ask c) 0 (length c.mutations) m rows below ∙ ap (λ (j : ℕ). Some (ask_on c j rows)) place in
-    let both : Some (ask_on c m rows) ≡ Some found = sym mapped ∙ ap (λ (l : List Ask). slice_get l m) (sym are) ∙ at in
-    cc
-
--- a row of a mutation leaves the scripts of those before it as they are
-pub ended_added : (c : Prepared) (old new : List Entry) (m : ℕ) → AddsRow c old new m → ((k : ℕ) → k < m → is_ended (ask_on c.campaign k old) ≡ true) → (k : ℕ) → k < m → is_ended (ask_on c.campaign k new) ≡ true
-ended_added c old new m added each k below =
+-- a row of a mutation leaves what those before it want as it is
+pub none_added : (c : Prepared) (goal : Goal) (old new : List Entry) (m t bound : ℕ) → AddsRow c old new m t bound → ((k : ℕ) → k < m → wanted c.campaign old k goal ≡ None) → (k : ℕ) → k < m → wanted c.campaign new k goal ≡ None
+none_added c goal old new m t bound added each k below =
     let of : added.row.mutation ≡ m = added.mutation in
     let other : added.row.mutation ≢ k = omega (arith, of, below) in
-    rw added.is (ap (λ (l : List Answer). is_ended (ask c.campaign l)) (answers_of-other k old added.row other) ∙ each k below)
+    rw added.is (wanted-other c.campaign old k goal added.row other ∙ each k below)
 
--- one mutation more needs no test
-pub ended_known : (c : Campaign) (rows : List Entry) (m : ℕ) → ((t : ℕ) → ask_on c m rows ≢ Need t) → ((k : ℕ) → k < m → is_ended (ask_on c k rows) ≡ true) → (k : ℕ) → k < m + 1 → is_ended (ask_on c k rows) ≡ true
-ended_known c rows m none each k below = go (ask_on c m rows) refl
+-- one mutation more wants none
+pub none_known : (c : Prepared) (goal : Goal) (rows : List Entry) (m : ℕ) → wanted c.campaign rows m goal ≡ None → ((k : ℕ) → k < m → wanted c.campaign rows k goal ≡ None) → (k : ℕ) → k < m + 1 → wanted c.campaign rows k goal ≡ None
+none_known c goal rows m none each k below = elim (eqb_tells k m) [ inl h ↦ subst (λ (j : ℕ). wanted c.campaign rows j goal ≡ None) (sym h.1) none | inr h ↦ each k (less h.1) ]
   where
     less : k ≢ m → k < m
     less other = omega (arith, below, other)
 
-    here : is_ended (ask_on c m rows) ≡ true → is_ended (ask_on c k rows) ≡ true
-    here ended = elim (eqb_tells k m) [ inl h ↦ subst (λ (j : ℕ). is_ended (ask_on c j rows) ≡ true) (sym h.1) ended | inr h ↦ each k (less h.1) ]
+-- the row that was added is the one that was wanted
+pub wanted_row : (c : Prepared) (goal : Goal) (old new : List Entry) (m t bound : ℕ) (added : AddsRow c old new m t bound) → wanted c.campaign old m goal ≡ Some (record { test = t; bound = bound }) → IsWanted c goal old added.row
+wanted_row c goal old new m t bound added is = rw (added.mutation, added.test, added.bound_is) is
 
-    go : (a : Ask) → ask_on c m rows ≡ a → is_ended (ask_on c k rows) ≡ true
-    go (Need t) is = absurd (none t is)
-    go (Done tags) is = here (ap is_ended is)
-    go (AssertFailed line) is = here (ap is_ended is)
-    go (Unexpected test) is = here (ap is_ended is)
-
-pub asks_length : (c : Campaign) (rows : List Entry) (asks : List Ask) → asks ≡ map (ask c) (groups c rows) → length asks ≡ length c.mutations
-asks_length c rows asks are = ap length are ∙ length-map (groups c rows) (ask c) ∙ length-groups_from 0 (length c.mutations) rows
+-- and so are all, with one more at the end
+pub wanted_more : (c : Prepared) (goal : Goal) (earlier rows : List Entry) (e : Entry) → AreWanted c goal earlier rows → IsWanted c goal (earlier ++ rows) e → AreWanted c goal earlier (rows ++ e ∷ [])
+wanted_more c goal earlier [] e all is = (subst (λ (rs : List Entry). IsWanted c goal rs e) (append-nil earlier) is, tt)
+wanted_more c goal earlier (x ∷ rows) e all is =
+    (all.0, wanted_more c goal (earlier ++ x ∷ []) rows e all.1 (subst (λ (rs : List Entry). IsWanted c goal rs e) (sym (append_assoc earlier (x ∷ []) rows)) is))

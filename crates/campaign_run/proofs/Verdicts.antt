@@ -28,8 +28,8 @@ use Rattle.pair_gates.specs.Refusals.{max_free, IsAccepted}
 use Rattle.pair_gates.specs.Weights.{design_gates, max_design_gates}
 
 -- the word of a test on a site, true or given up
-abbrev IsRightAt : Prepared → ℕ → Option Site → Option Trial → ℕ → Type 0
-IsRightAt c t site trial word = IsTrueWordAt c t site trial word ⊎ IsGivenUpAt c site trial word
+abbrev IsRightAt : Prepared → ℕ → Option Site → Option Trial → (bound word : ℕ) → Type 0
+IsRightAt c t site trial bound word = IsTrueWordAt c t site trial word ⊎ IsGivenUpAt c site trial bound word
 
 -- an attempt of a pair of netlists is one of the clauses of a mutant
 attempt_of : (netlist : RawNetlist) (site : Site) (limit : ℕ) (original mutated : Plan) (log : Log) → original.raw ≡ netlist → IsSound original → IsSound mutated → IsMutantAt netlist mutated.raw site → Tells original mutated limit (Unknown log) → HasAttempt netlist site limit
@@ -55,28 +55,28 @@ equal_here : MutantsAreNetlists → (netlist : RawNetlist) (site : Site) (origin
 equal_here laws netlist site original mutated is broken equal =
     subst (λ (n : RawNetlist). OneStepEqual (design n) (design mutated.raw)) (sym is) ((laws netlist mutated.raw site broken.runs broken.each_run).1 equal)
 
-right_at : MutantsAreNetlists → (c : Prepared) (t : ℕ) (site : Site) (original mutated : Plan) (verdict : EqVerdict) → original.raw ≡ c.netlist → IsSound original → IsSound mutated → IsMutantAt c.netlist mutated.raw site → Tells original mutated c.conflicts verdict → IsRightAt c t (Some site) (Some Equality) (told_word verdict)
-right_at laws c t site original mutated (NoChange log) is sound mutated_sound broken tells = inl (inl (refl, equal_there laws c.netlist site original mutated is broken tells.2))
-right_at laws c t site original mutated (Change difference) is sound mutated_sound broken tells = inl (inr (refl, λ equal. tells.1 (equal_here laws c.netlist site original mutated is broken equal)))
-right_at laws c t site original mutated (Unknown log) is sound mutated_sound broken tells = inr (refl, attempt_of c.netlist site c.conflicts original mutated log is sound mutated_sound broken tells)
+right_at : MutantsAreNetlists → (c : Prepared) (t bound : ℕ) (site : Site) (original mutated : Plan) (verdict : EqVerdict) → original.raw ≡ c.netlist → IsSound original → IsSound mutated → IsMutantAt c.netlist mutated.raw site → Tells original mutated bound verdict → IsRightAt c t (Some site) (Some Equality) bound (told_word verdict)
+right_at laws c t bound site original mutated (NoChange log) is sound mutated_sound broken tells = inl (inl (refl, equal_there laws c.netlist site original mutated is broken tells.2))
+right_at laws c t bound site original mutated (Change difference) is sound mutated_sound broken tells = inl (inr (refl, λ equal. tells.1 (equal_here laws c.netlist site original mutated is broken equal)))
+right_at laws c t bound site original mutated (Unknown log) is sound mutated_sound broken tells = inr (refl, attempt_of c.netlist site bound original mutated log is sound mutated_sound broken tells)
 
 -- What the equivalence test of a mutant finds is the word of its mutation.
-pub right_word : MutantsAreNetlists → (c : Prepared) (m t : ℕ) (original mutated : Plan) (verdict : EqVerdict) → slice_get c.trials t ≡ Some Equality → original.raw ≡ c.netlist → IsSound original → IsSound mutated → IsBrokenAt c m mutated.raw → Tells original mutated c.conflicts verdict → IsRightWord c m t (told_word verdict)
-right_word laws c m t original mutated verdict test is sound mutated_sound broken tells =
-    elim (slice_get c.sites m) as (λ o. IsBroken c.netlist o mutated.raw → IsRightAt c t o (slice_get c.trials t) (told_word verdict)) [
+pub right_word : MutantsAreNetlists → (c : Prepared) (m t bound : ℕ) (original mutated : Plan) (verdict : EqVerdict) → slice_get c.trials t ≡ Some Equality → original.raw ≡ c.netlist → IsSound original → IsSound mutated → IsBrokenAt c m mutated.raw → Tells original mutated bound verdict → IsRightWord c m t bound (told_word verdict)
+right_word laws c m t bound original mutated verdict test is sound mutated_sound broken tells =
+    elim (slice_get c.sites m) as (λ o. IsBroken c.netlist o mutated.raw → IsRightAt c t o (slice_get c.trials t) bound (told_word verdict)) [
       | None ↦ λ b. absurd b
-      | Some site ↦ λ b. subst (λ (o : Option Trial). IsRightAt c t (Some site) o (told_word verdict)) (sym test) (right_at laws c t site original mutated verdict is sound mutated_sound b tells)
+      | Some site ↦ λ b. subst (λ (o : Option Trial). IsRightAt c t (Some site) o bound (told_word verdict)) (sym test) (right_at laws c t bound site original mutated verdict is sound mutated_sound b tells)
     ] broken
 
 -- What a simulation of a mutant comes to is the word of its mutation.
-pub right_sim_word : (c : Prepared) (m t : ℕ) (bench : Parts) (pass fail : List ℕ) (mutated : Plan) (verdict : SimVerdict) → IsPlan c → slice_get c.trials t ≡ Some (Simulation bench pass fail) → IsRunnable bench → IsSound mutated → IsBrokenAt c m mutated.raw → FitsDesign bench mutated.raw → Says (record { bench = bench; netlist = mutated.raw; seed = c.word_seed }) c.cycles pass fail verdict → IsRightWord c m t (told_verdict verdict)
-right_sim_word c m t bench pass fail mutated verdict plan test runnable sound broken fits says =
-    elim (slice_get c.sites m) as (λ o. IsBroken c.netlist o mutated.raw → IsRightAt c t o (slice_get c.trials t) (told_verdict verdict)) [
+pub right_sim_word : (c : Prepared) (m t bound : ℕ) (bench : Parts) (pass fail : List ℕ) (mutated : Plan) (verdict : SimVerdict) → IsPlan c → slice_get c.trials t ≡ Some (Simulation bench pass fail) → IsRunnable bench → IsSound mutated → IsBrokenAt c m mutated.raw → FitsDesign bench mutated.raw → Says (record { bench = bench; netlist = mutated.raw; seed = c.word_seed }) c.cycles pass fail verdict → IsRightWord c m t bound (told_verdict verdict)
+right_sim_word c m t bound bench pass fail mutated verdict plan test runnable sound broken fits says =
+    elim (slice_get c.sites m) as (λ o. IsBroken c.netlist o mutated.raw → IsRightAt c t o (slice_get c.trials t) bound (told_verdict verdict)) [
       | None ↦ λ b. absurd b
       | Some site ↦ λ b. (
           let said : IsSimulated c.netlist site (record { bench = bench; seed = c.word_seed; cycles = c.cycles; pass = pass; fail = fail }) (told_verdict verdict) = record { runnable = runnable; mutated = mutated; sound = sound; broken = b; fits = fits; verdict = verdict; says = says; word_is = refl } in
           let word : IsSaid c t site (told_verdict verdict) = record { other = c; plan = plan; same = refl; bench = bench; pass = pass; fail = fail; at = test; said = said } in
-          subst (λ (o : Option Trial). IsRightAt c t (Some site) o (told_verdict verdict)) (sym test) (inl word))
+          subst (λ (o : Option Trial). IsRightAt c t (Some site) o bound (told_verdict verdict)) (sym test) (inl word))
     ] broken
 
 -- a netlist with the clauses of `mutate` is the mutant of the mutation at this place

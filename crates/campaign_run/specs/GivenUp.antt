@@ -1,4 +1,4 @@
--- The words of equivalence tests, and when one may be given up: the clauses of the pair have an attempt for the limit.
+-- The words of equivalence tests, and when one may be given up: the clauses of the pair have an attempt for the limit of the test.
 use Rattle.std.specs.Prelude.{◌≡◌, ℕ, List, ℤ}
 use Rattle.netlist_core.specs.declared.raw.RawNetlist.{RawNetlist}
 use Rattle.netlist_core.specs.Checked.{Plan, IsSound, free_bits}

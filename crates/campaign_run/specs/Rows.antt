@@ -2,10 +2,10 @@
 use Rattle.std.specs.Prelude.{◌≡◌, ◌⊎◌, ℕ, ◌+◌, ◌≤◌, List, [], ◌∷◌, ◌++◌, length, slice_get, Option, None, Some}
 use Rattle.mcy_keeper.specs.declared.book.Entry.{Entry}
 use Rattle.mcy_keeper.specs.declared.book.Book.{Book}
-use Rattle.mcy_keeper.specs.Books.{IsBlank}
+use Rattle.mcy_keeper.specs.Books.{IsBlank, IsFirst, IsSecond}
 use Rattle.result_book.specs.declared.script.TestWord.TheVariants.{Pass, Fail, Unknown}
 use Rattle.result_book.specs.Scripts.{word_code}
-use Rattle.result_book.specs.Rows.{IsRow, IsWellFormed}
+use Rattle.result_book.specs.Rows.{history, upgrade_of, IsRow, IsWellFormed}
 use Rattle.mutation_sites.specs.declared.site.Site.{Site}
 use Rattle.campaign_plan.specs.declared.prepared.Prepared.{Prepared}
 use Rattle.tb_bench.specs.declared.parts.Parts.{Parts}
@@ -42,21 +42,21 @@ IsTrueWordAt c t site trial word = ⊥
 abbrev pub IsTrueWord : Prepared → (m t word : ℕ) → Type 0
 IsTrueWord c m t word = IsTrueWordAt c t (slice_get c.sites m) (slice_get c.trials t) word
 
--- UNKNOWN of an equality, where the clauses of the mutant and the design have an attempt for the limit
-abbrev pub IsGivenUpOf : Prepared → Site → Trial → ℕ → Type 0
-IsGivenUpOf c site Equality word = (word ≡ word_code Unknown) × HasAttempt c.netlist site c.conflicts
-IsGivenUpOf c site (Simulation bench pass fail) word = ⊥
+-- UNKNOWN of an equality, where the clauses of the mutant and the design have an attempt for the bound
+abbrev pub IsGivenUpOf : Prepared → Site → Trial → (bound word : ℕ) → Type 0
+IsGivenUpOf c site Equality bound word = (word ≡ word_code Unknown) × HasAttempt c.netlist site bound
+IsGivenUpOf c site (Simulation bench pass fail) bound word = ⊥
 
-abbrev pub IsGivenUpAt : Prepared → Option Site → Option Trial → ℕ → Type 0
-IsGivenUpAt c (Some site) (Some trial) word = IsGivenUpOf c site trial word
-IsGivenUpAt c site trial word = ⊥
+abbrev pub IsGivenUpAt : Prepared → Option Site → Option Trial → (bound word : ℕ) → Type 0
+IsGivenUpAt c (Some site) (Some trial) bound word = IsGivenUpOf c site trial bound word
+IsGivenUpAt c site trial bound word = ⊥
 
-abbrev pub IsGivenUp : Prepared → (m t word : ℕ) → Type 0
-IsGivenUp c m t word = IsGivenUpAt c (slice_get c.sites m) (slice_get c.trials t) word
+abbrev pub IsGivenUp : Prepared → (m t bound word : ℕ) → Type 0
+IsGivenUp c m t bound word = IsGivenUpAt c (slice_get c.sites m) (slice_get c.trials t) bound word
 
--- the word that the test may have: the true one, or UNKNOWN where it may be given up
-abbrev pub IsRightWord : Prepared → (m t word : ℕ) → Type 0
-IsRightWord c m t word = IsTrueWord c m t word ⊎ IsGivenUp c m t word
+-- the word that the test may have that was run under this bound: the true one, or UNKNOWN where it may be given up
+abbrev pub IsRightWord : Prepared → (m t bound word : ℕ) → Type 0
+IsRightWord c m t bound word = IsTrueWord c m t word ⊎ IsGivenUp c m t bound word
 
 -- the netlist is the mutant of this mutation
 abbrev pub IsBroken : RawNetlist → Option Site → RawNetlist → Type 0
@@ -66,17 +66,18 @@ IsBroken netlist (Some site) mutated = IsMutantAt netlist mutated site
 abbrev pub IsBrokenAt : Prepared → ℕ → RawNetlist → Type 0
 IsBrokenAt c m mutated = IsBroken c.netlist (slice_get c.sites m) mutated
 
--- each row has such a word
+-- each row of a book of the second format has such a word, under its own bound
 abbrev pub AreRight : Prepared → List Entry → Type 0
 AreRight c [] = Unit {0}
-AreRight c (e ∷ more) = IsRightWord c e.mutation e.test e.word × AreRight c more
+AreRight c (e ∷ more) = IsRightWord c e.mutation e.test e.bound e.word × AreRight c more
 
--- the book is well-formed for the project that it keeps itself, and its words are right
+-- The book is well-formed for the project that it keeps itself, and its words are right: those of a book of the first format
+-- under the project's limit, which its upgrade has as bounds.
 pub record IsGood (book : Book) : Type 0 where
   pub prepared : Prepared
   pub plan : IsPlan prepared
   pub form : IsWellFormed prepared.campaign book
-  pub words_right : AreRight prepared book.journal
+  pub words_right : AreRight prepared (history prepared.campaign book).journal
 
 abbrev pub IsBlankOrGood : Book → Type 0
 IsBlankOrGood book = IsBlank book ⊎ IsGood book
@@ -88,16 +89,38 @@ pub record GoesOn (book other : Book) : Type 0 where
   pub more : List Entry
   pub rows : other.journal ≡ book.journal ++ more
 
--- the book is a first part of the other
+-- The next book is the upgrade of one of the first format whose project is one.
+pub record IsUpgrade (book next : Book) : Type 0 where
+  pub prepared : Prepared
+  pub plan : IsPlan prepared
+  pub first : IsFirst book
+  pub meta : next.meta ≡ prepared.campaign.meta
+  pub is : next ≡ upgrade_of prepared.campaign book
+
+-- the book stands as it is, or as its upgrade
+abbrev pub Stands : (book other : Book) → Type 0
+Stands book other = (other ≡ book) ⊎ IsUpgrade book other
+
+-- the other book goes on from this one, as these two stand
+pub record GoesOnAs (book other : Book) : Type 0 where
+  pub one : Book
+  pub two : Book
+  pub stands : Stands book one
+  pub other_stands : Stands other two
+  pub goes_on : GoesOn one two
+
+-- The book is a first part of the other: it is empty, or the other goes on from it, as they stand or as their upgrades do. Books of
+-- two formats go on from one another only as upgrades, for a book keeps the number of its format.
 abbrev pub IsPrefix : Book → Book → Type 0
-IsPrefix book other = IsBlank book ⊎ GoesOn book other
+IsPrefix book other = IsBlank book ⊎ GoesOnAs book other
 
 -- the other book has the book as its first part, and one entry more at most
 pub record IsWithinOne (book other : Book) : Type 0 where
   pub prefix : IsPrefix book other
   pub one : length other.journal ≤ length book.journal + 1
 
--- the row may come next, with a word that its test may have
+-- the row may come next in a book of the second format, with a word that its test may have under its bound
 pub record IsNextRow (c : Prepared) (book : Book) (e : Entry) : Type 0 where
+  pub second : IsSecond book
   pub row : IsRow c.campaign book.journal e
-  pub word_right : IsRightWord c e.mutation e.test e.word
+  pub word_right : IsRightWord c e.mutation e.test e.bound e.word

@@ -1,5 +1,5 @@
--- How a word that is the option of `run` looks to the lexer, and how no other word does.
-use Rattle.std.proofs.Common.{◌≡◌, ◌∙◌, ◌==◌, ℕ, Bool, true, false, true≢false, refl, sym, ap, [], ◌∷◌, ◌++◌, drop, take, arith, ◌+◌, suc, Option, Some, None, inl, inr, codes, nat_eq}
+-- How a word that is an option of `run` looks to the lexer, and how no other word does.
+use Rattle.std.proofs.Common.{◌≡◌, ◌∙◌, ◌==◌, ℕ, Bool, true, false, true≢false, refl, sym, ap, [], ◌∷◌, ◌++◌, drop, take, length, arith, ◌+◌, suc, Option, Some, None, inl, inr, codes, nat_eq, append_assoc}
 use Rattle.std.specs.Prelude.{◌⊎◌, bytes_eq, option_and_then}
 use Rattle.std.specs.Option.{is_some, option_map_or}
 use Rattle.std.specs.List.{before_first, position_or_len, starts_with}
@@ -9,20 +9,35 @@ use Rattle.std.proofs.lemmas.Slice.Eq.{bytes_eq-Decides, starts_is}
 use Rattle.clap.specs.Lexer.{long_of, long_of_rest, short_of, short_of_rest, strip_byte}
 use Rattle.clap.specs.Walk.{Text}
 
-abbrev pub stop_name : Text
-stop_name = codes "stop-after"
+-- the options of `run`
+pub data Flag : Type 0 where
+  Stop : Flag
+  Retry : Flag
 
-abbrev pub alone : Text
-alone = codes "--stop-after"
+abbrev pub name_of : Flag → Text
+name_of Stop = codes "stop-after"
+name_of Retry = codes "retry"
 
-abbrev pub joined : Text → Text
-joined value = codes "--stop-after=" ++ value
+-- the option without a value, what stands before a value that is joined to it, and the option with such a value
+abbrev pub alone : Flag → Text
+alone f = 45 ∷ 45 ∷ name_of f
 
--- the word is not the option, with a value or without
+abbrev pub prefix : Flag → Text
+prefix f = 45 ∷ 45 ∷ (name_of f ++ (61 ∷ []))
+
+abbrev pub joined : Flag → Text → Text
+joined f value = prefix f ++ value
+
+-- the word is not this option, with a value or without
+pub record IsNot (f : Flag) (word : Text) : Type 0 where
+  pub long : (p : Text × Option Text) → long_of word ≡ Some p → bytes_eq (name_of f) p.0 ≡ false
+  pub not_alone : bytes_eq word (alone f) ≡ false
+  pub not_joined : starts_with nat_eq word (prefix f) ≡ false
+
+-- the word is neither option
 pub record IsOther (word : Text) : Type 0 where
-  pub long : (p : Text × Option Text) → long_of word ≡ Some p → bytes_eq stop_name p.0 ≡ false
-  pub alone : bytes_eq word (codes "--stop-after") ≡ false
-  pub joined : starts_with nat_eq word (codes "--stop-after=") ≡ false
+  pub stop : IsNot Stop word
+  pub retry : IsNot Retry word
 
 none_is_no_some : {X : Type 0} (x : X) → None ≡ Some x → ⊥
 none_is_no_some x e = true≢false (sym (ap is_some e))
@@ -84,31 +99,50 @@ cut_as (x ∷ xs) = go (x == 61) refl (cut_as xs)
     go false e (inl h) = inl (ap (λ ys. x ∷ ys) h ∙ sym (before_more x xs e))
     go false e (inr h) = inr (h.0, ap (λ ys. x ∷ ys) h.1 ∙ ap (λ front. front ++ 61 ∷ h.0) (sym (before_more x xs e)))
 
--- a long flag with the option's name is the option
-named : (word : Text) (p : Text × Option Text) → long_of word ≡ Some p → bytes_eq stop_name p.0 ≡ true → (word ≡ alone) ⊎ ((value : Text) × (word ≡ joined value))
-named word p e same =
-    let parts = long_parts word p e in
-    let name : before_first (λ x. x == 61) parts.0 ≡ stop_name = sym parts.2 ∙ sym ((bytes_eq-Decides stop_name p.0).0 same) in
-    go parts.0 parts.1 name (cut_as parts.0)
-  where
-    go : (rest : Text) → word ≡ 45 ∷ 45 ∷ rest → before_first (λ x. x == 61) rest ≡ stop_name
-        → (rest ≡ before_first (λ x. x == 61) rest) ⊎ ((more : Text) × (rest ≡ before_first (λ x. x == 61) rest ++ 61 ∷ more)) → (word ≡ alone) ⊎ ((value : Text) × (word ≡ joined value))
-    go rest is name (inl h) = inl (is ∙ ap (λ t. 45 ∷ 45 ∷ t) (h ∙ name))
-    go rest is name (inr h) = inr (h.0, is ∙ ap (λ t. 45 ∷ 45 ∷ t) h.1 ∙ ap (λ t. 45 ∷ 45 ∷ t ++ 61 ∷ h.0) name)
+module _ (f : Flag) (word : Text) where
+  -- a long flag with the option's name is the option
+  named : (p : Text × Option Text) → long_of word ≡ Some p → bytes_eq (name_of f) p.0 ≡ true → (word ≡ alone f) ⊎ ((value : Text) × (word ≡ joined f value))
+  named p e same =
+      let parts = long_parts word p e in
+      let name : before_first (λ x. x == 61) parts.0 ≡ name_of f = sym parts.2 ∙ sym ((bytes_eq-Decides (name_of f) p.0).0 same) in
+      go parts.0 parts.1 name (cut_as parts.0)
+    where
+      go : (rest : Text) → word ≡ 45 ∷ 45 ∷ rest → before_first (λ x. x == 61) rest ≡ name_of f
+          → (rest ≡ before_first (λ x. x == 61) rest) ⊎ ((more : Text) × (rest ≡ before_first (λ x. x == 61) rest ++ 61 ∷ more)) → (word ≡ alone f) ⊎ ((value : Text) × (word ≡ joined f value))
+      go rest is name (inl h) = inl (is ∙ ap (λ t. 45 ∷ 45 ∷ t) (h ∙ name))
+      go rest is name (inr h) =
+          inr (h.0, is ∙ ap (λ t. 45 ∷ 45 ∷ t) (h.1 ∙ ap (λ t. t ++ (61 ∷ h.0)) name ∙ sym (append_assoc (name_of f) (61 ∷ []) h.0)))
 
-pub option_or_other : (word : Text) → (word ≡ alone) ⊎ (((value : Text) × (word ≡ joined value)) ⊎ IsOther word)
-option_or_other word = go (bytes_eq word alone) refl (starts_with nat_eq word (codes "--stop-after=")) refl
+  pub flag_or_not : (word ≡ alone f) ⊎ (((value : Text) × (word ≡ joined f value)) ⊎ IsNot f word)
+  flag_or_not = go (bytes_eq word (alone f)) refl (starts_with nat_eq word (prefix f)) refl
+    where
+      go : (a : Bool) → bytes_eq word (alone f) ≡ a → (b : Bool) → starts_with nat_eq word (prefix f) ≡ b → (word ≡ alone f) ⊎ (((value : Text) × (word ≡ joined f value)) ⊎ IsNot f word)
+      go true e b g = inl ((bytes_eq-Decides word (alone f)).0 e)
+      go false e true g = inr (inl (drop (length (prefix f)) word, (starts_is Decides-eqb word (prefix f) _ refl).0 g))
+      go false e false g = inr (inr (record {
+        long = λ p is. false_from_ne_true _ (λ same. either (named p is same));
+        not_alone = e;
+        not_joined = g;
+      }))
+        where
+          either : (word ≡ alone f) ⊎ ((value : Text) × (word ≡ joined f value)) → ⊥
+          either (inl h) = true≢false (sym ((bytes_eq-Decides word (alone f)).1 h) ∙ e)
+          either (inr h) = true≢false (sym ((starts_is Decides-eqb word (prefix f) _ refl).1 h.0 h.1) ∙ g)
+
+-- a word is an option without a value, one with a value, or neither
+abbrev pub IsAlone : Text → Type 0
+IsAlone word = (f : Flag) × (word ≡ alone f)
+
+abbrev pub IsJoined : Text → Type 0
+IsJoined word = (f : Flag) × (value : Text) × (word ≡ joined f value)
+
+pub option_or_other : (word : Text) → IsAlone word ⊎ (IsJoined word ⊎ IsOther word)
+option_or_other word = go (flag_or_not Stop word) (flag_or_not Retry word)
   where
-    go : (a : Bool) → bytes_eq word alone ≡ a → (b : Bool) → starts_with nat_eq word (codes "--stop-after=") ≡ b
-        → (word ≡ alone) ⊎ (((value : Text) × (word ≡ joined value)) ⊎ IsOther word)
-    go true e b f = inl ((bytes_eq-Decides word alone).0 e)
-    go false e true f = inr (inl (drop 13 word, (starts_is Decides-eqb word (codes "--stop-after=") _ refl).0 f))
-    go false e false f = inr (inr (record {
-      long = λ p is. false_from_ne_true _ (λ same. either (named word p is same));
-      alone = e;
-      joined = f;
-    }))
-      where
-        either : (word ≡ alone) ⊎ ((value : Text) × (word ≡ joined value)) → ⊥
-        either (inl h) = true≢false (sym ((bytes_eq-Decides word alone).1 h) ∙ e)
-        either (inr h) = true≢false (sym ((starts_is Decides-eqb word (codes "--stop-after=") _ refl).1 h.0 h.1) ∙ f)
+    go : (word ≡ alone Stop) ⊎ (((value : Text) × (word ≡ joined Stop value)) ⊎ IsNot Stop word) → (word ≡ alone Retry) ⊎ (((value : Text) × (word ≡ joined Retry value)) ⊎ IsNot Retry word)
+        → IsAlone word ⊎ (IsJoined word ⊎ IsOther word)
+    go (inl is) retry = inl (Stop, is)
+    go (inr (inl v)) retry = inr (inl (Stop, v.0, v.1))
+    go (inr (inr no_stop)) (inl is) = inl (Retry, is)
+    go (inr (inr no_stop)) (inr (inl v)) = inr (inl (Retry, v.0, v.1))
+    go (inr (inr no_stop)) (inr (inr no_retry)) = inr (inr (record { stop = no_stop; retry = no_retry }))

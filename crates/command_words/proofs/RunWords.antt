@@ -1,177 +1,105 @@
--- The words behind `run`: what the parse holds after each, and the command that they give. There are few places in which it can be:
--- before the option, behind an option that waits for its value, and behind a value; and once it has a value, all further words are refused.
-use Rattle.std.proofs.Common.{◌≡◌, ◌∙◌, ◌||◌, cond, false, refl, sym, ap, ap₂, subst, List, [], ◌∷◌, drop, Option, Some, None, inl, inr, codes}
-use Rattle.std.specs.Prelude.{◌⊎◌, ⊤, bytes_eq}
-use Rattle.clap.specs.Walk.{Held, Row, Rule, Step, Text, Walk, after_step, first_of, idle, option, plain_word, walked, word_met}
-use Rattle.clap.specs.Simple.{Shape, built_leaf, filled, inherited, marked_built, with_index, with_leaf_noted}
+-- The options behind `run`, one after the other: a value behind its option, and an option with its value.
+use Rattle.std.proofs.Common.{◌≡◌, ◌∙◌, Bool, true, false, refl, sym, ap, ap₂, subst, List, [], ◌∷◌, ◌++◌, drop, Some, None, inl, inr}
+use Rattle.std.specs.Prelude.{◌⊎◌}
+use Rattle.clap.specs.Walk.{Held, Row, Step, Text, after_step, has_row, idle, next, option, plain_word, used, walked, word_met}
 use Rattle.clap.specs.Kinds.{Kinds, or_else}
-use Rattle.clap.specs.Faults.{step_fault, turn_fault, word_fault}
-use Rattle.clap.specs.declared.parser.matches.ValueSource.TheVariants.{CommandLine}
-use Rattle.clap.specs.declared.builder.value_parser.Reading.TheVariants.{AsWritten}
+use Rattle.clap.specs.Faults.{step_fault, turn_fault, use_fault, word_fault}
 use Rattle.clap.proofs.OnLiterals.{clap_on_literals}
-use Rattle.command_words.specs.declared.command.Command.{Command}
-use Rattle.command_words.specs.Commands.{command_of, run_until}
-use Rattle.command_words.specs.Program.{command_line, run_by, run_shape, stop_rule}
-use Rattle.command_words.proofs.OptionWords.{IsOther, alone, joined, option_or_other, stop_name}
-use Rattle.command_words.proofs.Turns.{Begins, IsRefused, KnowsNot, at, dashes, holding, moves_to, or_refused, refused_at, stray, verdict, word_is_met}
+use Rattle.command_words.proofs.FoundRows.{row}
+use Rattle.command_words.proofs.OptionWords.{Flag, IsAlone, IsJoined, IsOther, alone, joined, name_of, option_or_other}
+use Rattle.command_words.proofs.Turns.{Begins, IsRefused, holding, moves_to, or_refused, refused_at, same_turn, taken_refused, word_is_met}
+use Rattle.command_words.proofs.RunTurns.{IsClean, run, rule_of, by_rows, answer, begun, waits, given, further, knows_not, other_refused, use_refused, use_taken, used_first, joined_fault, joined_turn, joined_walk, alone_turn, alone_walk, given_joined_turn, given_joined_walk, given_alone_turn, given_alone_walk, waits_alone_refused, waits_joined_refused, waits_plain, ended, begun_ended, given_ended}
 
--- no word is `--`
-abbrev pub IsClean : List Text → Type 0
-IsClean [] = ⊤
-IsClean (word ∷ rest) = (bytes_eq word dashes ≡ false) × IsClean rest
+-- ---- a value behind its option
 
--- a subcommand of the program, as it is built
-abbrev pub below : Shape → Shape
-below s = built_leaf (inherited (with_leaf_noted (marked_built command_line.top)) s)
+-- it is taken over before whatever comes next
+taken_over : (f : Flag) (v : Text) (rows : List Row) (words : List Text) → IsClean words → (b : Bool) → has_row (name_of f) rows ≡ b → answer (given f rows v) words ≡ further b (rows ++ row f v ∷ []) words
+taken_over f v rows [] clean true there =
+    given_ended f v rows ∙ taken_refused (use_fault false (rule_of f) (v ∷ []) rows) _ _ (use_refused f v rows there)
+taken_over f v rows [] clean false none =
+    given_ended f v rows ∙ ap₂ ended (use_taken f v rows none) (used_first f v rows none) ∙ sym (begun_ended (rows ++ row f v ∷ []))
+taken_over f v rows (word ∷ rest) clean true there = go (option_or_other word)
+  where
+    refused : (is : Text) → word ≡ is → IsRefused (turn_fault run [] (given f rows v) is) → answer (given f rows v) (word ∷ rest) ≡ None
+    refused is same h = refused_at run by_rows (given f rows v) word rest (subst (λ x. IsRefused (turn_fault run [] (given f rows v) x)) (sym same) h)
 
-abbrev pub run : Shape
-run = below run_shape
+    at_joined : (g : Flag) (u : Text) → IsRefused (turn_fault run [] (given f rows v) (joined g u))
+    at_joined g u =
+        subst IsRefused (sym (given_joined_turn f g v u rows))
+        (or_refused (or_else (use_fault false (rule_of f) (v ∷ []) rows) (use_fault false (rule_of g) (u ∷ []) (used (rule_of f) (v ∷ []) rows))) []
+        (or_refused (use_fault false (rule_of f) (v ∷ []) rows) (use_fault false (rule_of g) (u ∷ []) (used (rule_of f) (v ∷ []) rows)) (use_refused f v rows there)))
 
-abbrev stop : Rule
-stop = with_index 1 (filled stop_rule)
+    at_alone : (g : Flag) → IsRefused (turn_fault run [] (given f rows v) (alone g))
+    at_alone g = subst IsRefused (sym (given_alone_turn f g v rows)) (or_refused (use_fault false (rule_of f) (v ∷ []) rows) [] (use_refused f v rows there))
 
-abbrev pub by_rows : List Row → Option Command
-by_rows rows = run_by (first_of stop_name rows)
+    go : IsAlone word ⊎ (IsJoined word ⊎ IsOther word) → answer (given f rows v) (word ∷ rest) ≡ None
+    go (inl is) = refused (alone is.0) is.1 (at_alone is.0)
+    go (inr (inl is)) = refused (joined is.0 is.1) is.2 (at_joined is.0 is.1)
+    go (inr (inr other)) = other_refused rows (Some (name_of f, v ∷ [])) word rest other clean.0
+taken_over f v rows (word ∷ rest) clean false none = go (option_or_other word)
+  where
+    both : (is : Text) → word ≡ is → turn_fault run [] (given f rows v) is ≡ turn_fault run [] (begun (rows ++ row f v ∷ [])) is
+        → walked run.rules [] (given f rows v) is ≡ walked run.rules [] (begun (rows ++ row f v ∷ [])) is → answer (given f rows v) (word ∷ rest) ≡ answer (begun (rows ++ row f v ∷ [])) (word ∷ rest)
+    both is word_is fault step =
+        subst (λ x. answer (given f rows v) (x ∷ rest) ≡ answer (begun (rows ++ row f v ∷ [])) (x ∷ rest)) (sym word_is)
+        (same_turn run by_rows (given f rows v) (begun (rows ++ row f v ∷ [])) is rest fault step)
 
-abbrev pub answer : Walk → List Text → Option Command
-answer = verdict run by_rows
+    go : IsAlone word ⊎ (IsJoined word ⊎ IsOther word) → answer (given f rows v) (word ∷ rest) ≡ answer (begun (rows ++ row f v ∷ [])) (word ∷ rest)
+    go (inl is) =
+        both (alone is.0) is.1
+        (given_alone_turn f is.0 v rows ∙ ap (λ (k : Kinds). or_else k []) (use_taken f v rows none) ∙ sym (alone_turn is.0 (rows ++ row f v ∷ [])))
+        (given_alone_walk f is.0 v rows ∙ ap (waits is.0) (used_first f v rows none) ∙ sym (alone_walk is.0 (rows ++ row f v ∷ [])))
+    go (inr (inl is)) =
+        both (joined is.0 is.1) is.2
+        (given_joined_turn f is.0 v is.1 rows ∙ ap₂ (joined_fault is.0 is.1) (use_taken f v rows none) (used_first f v rows none) ∙ sym (joined_turn is.0 is.1 (rows ++ row f v ∷ [])))
+        (given_joined_walk f is.0 v is.1 rows ∙ ap (λ (rs : List Row). begun (used (rule_of is.0) (is.1 ∷ []) rs)) (used_first f v rows none) ∙ sym (joined_walk is.0 is.1 (rows ++ row f v ∷ [])))
+    go (inr (inr other)) = other_refused rows (Some (name_of f, v ∷ [])) word rest other clean.0 ∙ sym (other_refused (rows ++ row f v ∷ []) None word rest other clean.0)
 
--- ---- the places
-
-abbrev pub begun : Walk
-begun = at (holding [] None) idle
-
-abbrev row : Text → Row
-row value = record { id = stop_name; values = value ∷ []; count = None; source = Some CommandLine; reading = AsWritten }
-
--- the option waits for its value
-abbrev waits : List Row → Walk
-waits rows = at (holding rows (Some (stop_name, []))) (option stop_name)
-
--- a word was its value
-abbrev given : List Row → Text → Walk
-given rows value = at (holding rows (Some (stop_name, value ∷ []))) idle
-
--- its value stood behind `=`
-abbrev has : Text → Walk
-has value = at (holding (row value ∷ []) None) idle
-
--- ---- what is refused
-
-knows_not : (word : Text) → IsOther word → KnowsNot run word
-knows_not word other = record { long = λ p e. ap (λ b. cond (b || false) (Some stop) None) (other.long p e); short = λ c. refl }
-
-other_refused : (rows : List Row) (pending : Option (Text × List Text)) (word : Text) (rest : List Text) → IsOther word → bytes_eq word dashes ≡ false
-    → answer (at (holding rows pending) idle) (word ∷ rest) ≡ None
-other_refused rows pending word rest other dash =
-    refused_at run by_rows (at (holding rows pending) idle) word rest (stray run [] word rows pending (knows_not word other) refl refl dash)
-
-refused_as : (w : Walk) (word is : Text) (rest : List Text) → word ≡ is → IsRefused (turn_fault run [] w is) → answer w (word ∷ rest) ≡ None
-refused_as w word is rest same h = refused_at run by_rows w word rest (subst (λ x. IsRefused (turn_fault run [] w x)) (sym same) h)
-
--- ---- behind an option that waits
-
-after_wait : (rows : List Row) (word : Text) (rest : List Text) → bytes_eq word dashes ≡ false
-    → ((answer (waits rows) (word ∷ rest) ≡ None) × Begins word) ⊎ (answer (waits rows) (word ∷ rest) ≡ answer (given rows word) rest)
+-- a plain word behind an option that waits is its value
+value_moves : (f : Flag) (v : Text) (rows : List Row) (rest : List Text) → word_fault run [] false (option (name_of f)) v (holding rows (Some (name_of f, []))) ≡ []
+    → word_met run.rules [] false (option (name_of f)) 1 v (holding rows (Some (name_of f, []))) ≡ (holding rows (Some (name_of f, v ∷ [])), next idle) → answer (waits f rows) (v ∷ rest) ≡ answer (given f rows v) rest
 unfolding clap_on_literals
-after_wait rows word rest dash = go (option_or_other word)
+value_moves f v rows rest none is =
+    moves_to run by_rows (waits f rows) v rest (given f rows v) (ap₂ (λ (k : Kinds) (m : Held × Step). or_else k (step_fault run 1 m.0 m.1)) none is)
+    (ap (λ (m : Held × Step). after_step run.rules v (waits f rows) m.0 m.1) is)
+
+-- ---- an option between two options
+
+-- with its value
+pub joined_read : (f : Flag) (v : Text) (rows : List Row) (rest : List Text) (b : Bool) → has_row (name_of f) rows ≡ b → answer (begun rows) (joined f v ∷ rest) ≡ further b (rows ++ row f v ∷ []) rest
+joined_read f v rows rest true there =
+    refused_at run by_rows (begun rows) (joined f v) rest
+    (subst IsRefused (sym (joined_turn f v rows)) (or_refused (use_fault false (rule_of f) (v ∷ []) rows) [] (use_refused f v rows there)))
+joined_read f v rows rest false none =
+    moves_to run by_rows (begun rows) (joined f v) rest (begun (rows ++ row f v ∷ [])) (joined_turn f v rows ∙ ap (λ (k : Kinds). or_else k []) (use_taken f v rows none))
+    (joined_walk f v rows ∙ ap begun (used_first f v rows none))
+
+-- without one: the next word is its value
+pub alone_read : (f : Flag) (rows : List Row) (rest : List Text) → answer (begun rows) (alone f ∷ rest) ≡ answer (waits f rows) rest
+alone_read f rows rest = moves_to run by_rows (begun rows) (alone f) rest (waits f rows) (alone_turn f rows) (alone_walk f rows)
+
+-- unless it begins with a hyphen and is refused
+abbrev ValueRead : Flag → Text → List Row → List Text → Bool → Type 0
+ValueRead f v rows rest b = ((answer (waits f rows) (v ∷ rest) ≡ None) × Begins v) ⊎ (answer (waits f rows) (v ∷ rest) ≡ further b (rows ++ row f v ∷ []) rest)
+
+abbrev waiting_fault : Flag → Text → List Row → Kinds
+waiting_fault f v rows = word_fault run [] false (option (name_of f)) v (holding rows (Some (name_of f, [])))
+
+abbrev waiting_met : Flag → Text → List Row → Held × Step
+waiting_met f v rows = word_met run.rules [] false (option (name_of f)) 1 v (holding rows (Some (name_of f, [])))
+
+pub value_read : (f : Flag) (v : Text) (rows : List Row) (rest : List Text) → IsClean (v ∷ rest) → (b : Bool) → has_row (name_of f) rows ≡ b
+    → ((answer (waits f rows) (v ∷ rest) ≡ None) × Begins v) ⊎ (answer (waits f rows) (v ∷ rest) ≡ further b (rows ++ row f v ∷ []) rest)
+value_read f v rows rest clean b has = go (option_or_other v)
   where
-    by : (IsRefused (word_fault run [] false (option stop_name) word (holding rows (Some (stop_name, [])))) × Begins word) ⊎ (((word_fault run [] false (option stop_name) word (holding rows (Some (stop_name, [])))) ≡ []) × (word_met run.rules [] false (option stop_name) 1 word (holding rows (Some (stop_name, []))) ≡ plain_word run.rules (option stop_name) word (holding rows (Some (stop_name, [])))))
-        → ((answer (waits rows) (word ∷ rest) ≡ None) × Begins word) ⊎ (answer (waits rows) (word ∷ rest) ≡ answer (given rows word) rest)
-    by (inl r) = inl (refused_at run by_rows (waits rows) word rest (or_refused (word_fault run [] false (option stop_name) word (holding rows (Some (stop_name, [])))) (step_fault run 1 (word_met run.rules [] false (option stop_name) 1 word (holding rows (Some (stop_name, [])))).0 (word_met run.rules [] false (option stop_name) 1 word (holding rows (Some (stop_name, [])))).1) r.0), r.1)
-    by (inr r) = inr (moves_to run by_rows (waits rows) word rest (given rows word)
-        (ap₂ (λ (f : Kinds) (m : Held × Step). or_else f (step_fault run 1 m.0 m.1)) r.0 r.1)
-        (ap (λ (m : Held × Step). after_step run.rules word (waits rows) m.0 m.1) r.1))
+    refused : (is : Text) → v ≡ is → IsRefused (turn_fault run [] (waits f rows) is) → answer (waits f rows) (v ∷ rest) ≡ None
+    refused is same h = refused_at run by_rows (waits f rows) v rest (subst (λ x. IsRefused (turn_fault run [] (waits f rows) x)) (sym same) h)
 
-    go : (word ≡ alone) ⊎ (((value : Text) × (word ≡ joined value)) ⊎ IsOther word)
-        → ((answer (waits rows) (word ∷ rest) ≡ None) × Begins word) ⊎ (answer (waits rows) (word ∷ rest) ≡ answer (given rows word) rest)
-    go (inl is) = inl (refused_as (waits rows) word alone rest is tt, (drop 1 alone, is))
-    go (inr (inl v)) = inl (refused_as (waits rows) word (joined v.0) rest v.1 tt, (drop 1 (joined v.0), v.1))
-    go (inr (inr other)) = by (word_is_met run (option stop_name) word rows (Some (stop_name, [])) (knows_not word other) [] refl dash)
+    by : (IsRefused (waiting_fault f v rows) × Begins v) ⊎ ((waiting_fault f v rows ≡ []) × (waiting_met f v rows ≡ plain_word run.rules (option (name_of f)) v (holding rows (Some (name_of f, []))))) → ValueRead f v rows rest b
+    by (inl r) = inl (refused_at run by_rows (waits f rows) v rest (or_refused (waiting_fault f v rows) (step_fault run 1 (waiting_met f v rows).0 (waiting_met f v rows).1) r.0), r.1)
+    by (inr r) = inr (value_moves f v rows rest r.0 (r.1 ∙ waits_plain f v rows) ∙ taken_over f v rows rest clean.1 b has)
 
--- ---- behind a first value
-
-twice_more : (v n word : Text) (rest : List Text) → bytes_eq word dashes ≡ false → answer (given (row v ∷ []) n) (word ∷ rest) ≡ None
-unfolding clap_on_literals
-twice_more v n word rest dash = go (option_or_other word)
-  where
-    go : (word ≡ alone) ⊎ (((value : Text) × (word ≡ joined value)) ⊎ IsOther word) → answer (given (row v ∷ []) n) (word ∷ rest) ≡ None
-    go (inl is) = refused_as (given (row v ∷ []) n) word alone rest is tt
-    go (inr (inl u)) = refused_as (given (row v ∷ []) n) word (joined u.0) rest u.1 tt
-    go (inr (inr other)) = other_refused (row v ∷ []) (Some (stop_name, n ∷ [])) word rest other dash
-
-twice : (v n : Text) (words : List Text) → IsClean words → answer (given (row v ∷ []) n) words ≡ None
-unfolding clap_on_literals
-twice v n [] clean = refl
-twice v n (word ∷ rest) clean = twice_more v n word rest clean.0
-
-again : (v : Text) (words : List Text) → IsClean words → answer (waits (row v ∷ [])) words ≡ None
-unfolding clap_on_literals
-again v [] clean = refl
-again v (n ∷ rest) clean = go (after_wait (row v ∷ []) n rest clean.0)
-  where
-    go : ((answer (waits (row v ∷ [])) (n ∷ rest) ≡ None) × Begins n) ⊎ (answer (waits (row v ∷ [])) (n ∷ rest) ≡ answer (given (row v ∷ []) n) rest)
-        → answer (waits (row v ∷ [])) (n ∷ rest) ≡ None
-    go (inl r) = r.0
-    go (inr e) = e ∙ twice v n rest clean.1
-
--- a place behind a value, at which the option alone leads to a second wait and the option with a value is refused
-past : (rows : List Row) (pending : Option (Text × List Text)) (v word : Text) (rest : List Text) → turn_fault run [] (at (holding rows pending) idle) alone ≡ []
-    → walked run.rules [] (at (holding rows pending) idle) alone ≡ waits (row v ∷ []) → ((u : Text) → IsRefused (turn_fault run [] (at (holding rows pending) idle) (joined u)))
-    → IsClean (word ∷ rest) → answer (at (holding rows pending) idle) (word ∷ rest) ≡ None
-past rows pending v word rest none step refuses clean = go (option_or_other word)
-  where
-    go : (word ≡ alone) ⊎ (((value : Text) × (word ≡ joined value)) ⊎ IsOther word) → answer (at (holding rows pending) idle) (word ∷ rest) ≡ None
-    go (inl is) = ap (λ x. answer (at (holding rows pending) idle) (x ∷ rest)) is ∙ moves_to run by_rows (at (holding rows pending) idle) alone rest (waits (row v ∷ [])) none step ∙ again v rest clean.1
-    go (inr (inl u)) = refused_as (at (holding rows pending) idle) word (joined u.0) rest u.1 (refuses u.0)
-    go (inr (inr other)) = other_refused rows pending word rest other clean.0
-
-past_given : (v word : Text) (rest : List Text) → IsClean (word ∷ rest) → answer (given [] v) (word ∷ rest) ≡ None
-unfolding clap_on_literals
-past_given v word rest clean = past [] (Some (stop_name, v ∷ [])) v word rest refl refl (λ u. tt) clean
-
-past_has : (v word : Text) (rest : List Text) → IsClean (word ∷ rest) → answer (has v) (word ∷ rest) ≡ None
-unfolding clap_on_literals
-past_has v word rest clean = past (row v ∷ []) None v word rest refl refl (λ u. tt) clean
-
--- ---- all words behind `run`
-
-begins_no_number : (word : Text) → Begins word → None ≡ run_until word
-begins_no_number word b = sym (ap run_until b.1)
-
-first_wait : (n : Text) (rest : List Text) → IsClean (n ∷ rest) → answer (waits []) (n ∷ rest) ≡ (elim rest [ [] ↦ run_until n | m ∷ more ↦ None ])
-unfolding clap_on_literals
-first_wait n [] clean = go (after_wait [] n [] clean.0)
-  where
-    go : ((answer (waits []) (n ∷ []) ≡ None) × Begins n) ⊎ (answer (waits []) (n ∷ []) ≡ answer (given [] n) []) → answer (waits []) (n ∷ []) ≡ run_until n
-    go (inl r) = r.0 ∙ begins_no_number n r.1
-    go (inr e) = e
-first_wait n (m ∷ more) clean = go (after_wait [] n (m ∷ more) clean.0)
-  where
-    go : ((answer (waits []) (n ∷ m ∷ more) ≡ None) × Begins n) ⊎ (answer (waits []) (n ∷ m ∷ more) ≡ answer (given [] n) (m ∷ more)) → answer (waits []) (n ∷ m ∷ more) ≡ None
-    go (inl r) = r.0
-    go (inr e) = e ∙ past_given n m more clean.1
-
-pub run_words : (words : List Text) → IsClean words → answer begun words ≡ command_of (codes "run" ∷ words)
-unfolding clap_on_literals
-run_words [] clean = refl
-run_words (word ∷ []) clean = go (option_or_other word)
-  where
-    go : (word ≡ alone) ⊎ (((value : Text) × (word ≡ joined value)) ⊎ IsOther word) → answer begun (word ∷ []) ≡ command_of (codes "run" ∷ word ∷ [])
-    go (inl is) = subst (λ x. answer begun (x ∷ []) ≡ command_of (codes "run" ∷ x ∷ [])) (sym is) (moves_to run by_rows begun alone [] (waits []) refl refl)
-    go (inr (inl v)) = subst (λ x. answer begun (x ∷ []) ≡ command_of (codes "run" ∷ x ∷ [])) (sym v.1) (moves_to run by_rows begun (joined v.0) [] (has v.0) refl refl)
-    go (inr (inr other)) = other_refused [] None word [] other clean.0 ∙ sym (ap (λ b. cond b (run_until (drop 13 word)) None) other.joined)
-run_words (word ∷ n ∷ []) clean = go (option_or_other word)
-  where
-    go : (word ≡ alone) ⊎ (((value : Text) × (word ≡ joined value)) ⊎ IsOther word) → answer begun (word ∷ n ∷ []) ≡ command_of (codes "run" ∷ word ∷ n ∷ [])
-    go (inl is) = subst (λ x. answer begun (x ∷ n ∷ []) ≡ command_of (codes "run" ∷ x ∷ n ∷ [])) (sym is)
-        (moves_to run by_rows begun alone (n ∷ []) (waits []) refl refl ∙ first_wait n [] clean.1)
-    go (inr (inl v)) = subst (λ x. answer begun (x ∷ n ∷ []) ≡ command_of (codes "run" ∷ x ∷ n ∷ [])) (sym v.1)
-        (moves_to run by_rows begun (joined v.0) (n ∷ []) (has v.0) refl refl ∙ past_has v.0 n [] clean.1)
-    go (inr (inr other)) = other_refused [] None word (n ∷ []) other clean.0 ∙ sym (ap (λ b. cond b (run_until n) None) other.alone)
-run_words (word ∷ n ∷ m ∷ more) clean = go (option_or_other word)
-  where
-    go : (word ≡ alone) ⊎ (((value : Text) × (word ≡ joined value)) ⊎ IsOther word) → answer begun (word ∷ n ∷ m ∷ more) ≡ None
-    go (inl is) = ap (λ x. answer begun (x ∷ n ∷ m ∷ more)) is ∙ moves_to run by_rows begun alone (n ∷ m ∷ more) (waits []) refl refl ∙ first_wait n (m ∷ more) clean.1
-    go (inr (inl v)) = ap (λ x. answer begun (x ∷ n ∷ m ∷ more)) v.1 ∙ moves_to run by_rows begun (joined v.0) (n ∷ m ∷ more) (has v.0) refl refl ∙ past_has v.0 n (m ∷ more) clean.1
-    go (inr (inr other)) = other_refused [] None word (n ∷ m ∷ more) other clean.0
+    go : IsAlone v ⊎ (IsJoined v ⊎ IsOther v) → ValueRead f v rows rest b
+    go (inl is) = inl (refused (alone is.0) is.1 (waits_alone_refused f is.0 rows), (drop 1 (alone is.0), is.1))
+    go (inr (inl is)) = inl (refused (joined is.0 is.1) is.2 (waits_joined_refused f is.0 is.1 rows), (drop 1 (joined is.0 is.1), is.2))
+    go (inr (inr other)) = by (word_is_met run (option (name_of f)) v rows (Some (name_of f, [])) (knows_not v other) [] refl clean.0)

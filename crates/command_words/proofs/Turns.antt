@@ -1,5 +1,5 @@
 -- One word at a time: a word that names no flag is refused, or it is what it is without flags.
-use Rattle.std.proofs.Common.{◌≡◌, ◌∙◌, ℕ, Bool, cond, true, false, zero, suc, refl, sym, ap, subst, List, [], ◌∷◌, drop, length, Option, Some, None, inl, inr}
+use Rattle.std.proofs.Common.{◌≡◌, ◌∙◌, ℕ, Bool, cond, true, false, zero, suc, refl, sym, ap, ap₂, subst, List, [], ◌∷◌, drop, length, Option, Some, None, inl, inr}
 use Rattle.std.specs.Prelude.{◌⊎◌, ⊤, bytes_eq, encode_utf8, slice_get}
 use Rattle.std.specs.Option.{option_map_or}
 use Rattle.std.specs.List.{fold}
@@ -142,3 +142,9 @@ module _ (s : Shape) (command : List Row → Option Command) (w : Walk) (word : 
 
   pub moves_to : (next : Walk) → turn_fault s [] w word ≡ [] → walked s.rules [] w word ≡ next → verdict s command w (word ∷ rest) ≡ verdict s command next rest
   moves_to next none step = turn_first ∙ ap (λ f. with_turn f (walked s.rules [] w word)) none ∙ ap (λ v. with_turn [] v) step
+
+-- two places at which a word does the same
+pub same_turn : (s : Shape) (command : List Row → Option Command) (v w : Walk) (word : Text) (rest : List Text) → turn_fault s [] v word ≡ turn_fault s [] w word → walked s.rules [] v word ≡ walked s.rules [] w word
+    → verdict s command v (word ∷ rest) ≡ verdict s command w (word ∷ rest)
+same_turn s command v w word rest fault step =
+    turn_first s command v word rest ∙ ap₂ (λ (f : Kinds) (next : Walk). with_turn s command v word rest f next) fault step ∙ sym (turn_first s command w word rest)

@@ -1,8 +1,8 @@
 -- All the words: the first names the command, and what stands behind it is read there. So the parse fails just where they give no command.
-use Rattle.std.proofs.Common.{◌≡◌, ◌∙◌, ◌||◌, ◌&&◌, Bool, cond, true, false, true≢false, refl, sym, ap, ap₂, subst, List, [], ◌∷◌, drop, Option, Some, None, option_map, codes, nat_eq}
+use Rattle.std.proofs.Common.{◌≡◌, ◌∙◌, ◌||◌, Bool, cond, true, false, true≢false, refl, sym, ap, ap₂, subst, List, [], ◌∷◌, Option, Some, None, option_map, codes}
 use Rattle.std.specs.Prelude.{bytes_eq}
 use Rattle.std.specs.Option.{is_some}
-use Rattle.std.specs.List.{fold, list_any, starts_with}
+use Rattle.std.specs.List.{fold, list_any}
 use Rattle.std.proofs.lemmas.Bool.{false_from_ne_true}
 use Rattle.std.proofs.lemmas.Slice.Eq.{bytes_eq-Decides}
 use Rattle.clap.specs.Walk.{Names, Text, Walk, finished, idle, nothing_held, subcommand_met, walked}
@@ -15,10 +15,16 @@ use Rattle.clap.proofs.FaultLemmas.{stopped_fault}
 use Rattle.clap.proofs.WalkLemmas.{walk_stopped}
 use Rattle.command_words.specs.declared.command.Command.{Command}
 use Rattle.command_words.specs.declared.command.Command.TheVariants.{Init, List as Listing, Status, Source}
-use Rattle.command_words.specs.Commands.{command_of, one_word, run_until}
+use Rattle.command_words.specs.Commands.{alone, command_of, no_options, one_word, options_of, run_with}
 use Rattle.command_words.specs.Program.{command_by, command_line, leaf}
 use Rattle.command_words.proofs.Turns.{IsRefused, dashes, end_fault, or_refused, refused_at, stray, taken, taken_last, taken_refused, verdict}
-use Rattle.command_words.proofs.RunWords.{IsClean, begun, below, by_rows, run, run_words}
+use Rattle.command_words.proofs.OptionList.{dashes_none, run_words}
+use Rattle.command_words.proofs.RunTurns.{IsClean, below, by_rows, run}
+use Rattle.command_words.proofs.RunTurns as places
+
+-- no word is read yet
+abbrev begun : Walk
+begun = places.begun []
 
 abbrev line : App
 line = built command_line
@@ -59,7 +65,7 @@ run_named rest clean = enters (codes "run") rest refl refl
 bare : (name : Text) (command : Command) → bytes_eq name (codes "run") ≡ false → one_word name ≡ Some command → (rest : List Text) → IsClean rest
     → verdict (below (leaf name)) (λ rows. Some command) begun rest ≡ command_of (name ∷ rest)
 unfolding clap_on_literals
-bare name command other is [] clean = sym is
+bare name command other is [] clean = sym (ap (λ (b : Bool). cond b (run_with (options_of no_options [])) (one_word name)) other ∙ is)
 bare name command other is (x ∷ rest) clean = refused ∙ sym (go rest)
   where
     refused : verdict (below (leaf name)) (λ rows. Some command) begun (x ∷ rest) ≡ None
@@ -67,9 +73,7 @@ bare name command other is (x ∷ rest) clean = refused ∙ sym (go rest)
         (stray (below (leaf name)) [] x [] None (record { long = λ p e. refl; short = λ c. refl }) refl refl clean.0)
 
     go : (more : List Text) → command_of (name ∷ x ∷ more) ≡ None
-    go [] = ap (λ b. cond (b && starts_with nat_eq x (codes "--stop-after=")) (run_until (drop 13 x)) None) other
-    go (y ∷ []) = ap (λ b. cond (b && bytes_eq x (codes "--stop-after")) (run_until y) None) other
-    go (y ∷ z ∷ more) = refl
+    go more = ap (λ (b : Bool). cond b (run_with (options_of no_options (x ∷ more))) None) other
 
 init_named : (rest : List Text) → IsClean rest → whole (codes "init" ∷ rest) ≡ command_of (codes "init" ∷ rest)
 unfolding clap_on_literals
@@ -118,10 +122,8 @@ no_name word rest clean no_init no_run no_list no_status no_source = refused ∙
         (or_refused (turn_fault line.top names begun word) _ strays)
 
     go : (more : List Text) → command_of (word ∷ more) ≡ None
-    go [] = rw (no_init, no_run, no_list, no_status, no_source)
-    go (x ∷ []) = ap (λ b. cond (b && starts_with nat_eq x (codes "--stop-after=")) (run_until (drop 13 x)) None) no_run
-    go (x ∷ y ∷ []) = ap (λ b. cond (b && bytes_eq x (codes "--stop-after")) (run_until y) None) no_run
-    go (x ∷ y ∷ z ∷ more) = refl
+    go [] = rw (no_run, no_init, no_list, no_status, no_source) refl
+    go (x ∷ more) = ap (λ (b : Bool). cond b (run_with (options_of no_options (x ∷ more))) None) no_run
 
 -- ---- all words
 
@@ -179,34 +181,20 @@ clean_from (word ∷ rest) e = go (bytes_eq word dashes) refl e (clean_from rest
 -- they give no command
 pub with_dashes : (words : List Text) → list_any (λ word. bytes_eq word dashes) words ≡ true → None ≡ command_of words
 with_dashes [] e = absurd (true≢false (sym e))
-with_dashes (a ∷ []) e = go (bytes_eq a dashes) refl e
+with_dashes (word ∷ rest) e = go (bytes_eq word dashes) refl e
   where
-    go : (b : Bool) → bytes_eq a dashes ≡ b → (b || false) ≡ true → None ≡ command_of (a ∷ [])
-    go true same h = subst (λ x. None ≡ command_of (x ∷ [])) (sym ((bytes_eq-Decides a dashes).0 same)) refl
-    go false other h = absurd (true≢false (sym h))
-with_dashes (a ∷ b ∷ []) e = go (bytes_eq a dashes) refl (bytes_eq b dashes) refl e
-  where
-    never : (x y : Bool) (r : Option Command) → y ≡ false → None ≡ cond (x && y) r None
-    never true y r e = sym (ap (λ z. cond z r None) e)
-    never false y r e = refl
+    more : (rest : List Text) → list_any (λ x. bytes_eq x dashes) rest ≡ true → None ≡ alone word rest
+    more [] h = absurd (true≢false (sym h))
+    more (x ∷ xs) h = refl
 
-    go : (p : Bool) → bytes_eq a dashes ≡ p → (q : Bool) → bytes_eq b dashes ≡ q → (p || (q || false)) ≡ true → None ≡ command_of (a ∷ b ∷ [])
-    go true same q f h = subst (λ x. None ≡ command_of (x ∷ b ∷ [])) (sym ((bytes_eq-Decides a dashes).0 same)) refl
-    go false other true same h = subst (λ x. None ≡ command_of (a ∷ x ∷ [])) (sym ((bytes_eq-Decides b dashes).0 same)) (never (bytes_eq a (codes "run")) false (run_until (drop 13 dashes)) refl)
-    go false other false f h = absurd (true≢false (sym h))
-with_dashes (a ∷ b ∷ c ∷ []) e = go (bytes_eq a dashes) refl (bytes_eq b dashes) refl (bytes_eq c dashes) refl e
-  where
-    never : (x : Bool) (r : Option Command) → None ≡ cond (x && false) r None
-    never true r = refl
-    never false r = refl
+    dash_alone : (rest : List Text) → None ≡ alone dashes rest
+    dash_alone [] = refl
+    dash_alone (x ∷ xs) = refl
 
-    same_none : (x : Bool) → None ≡ cond x (run_until dashes) None
-    same_none true = refl
-    same_none false = refl
+    behind : (b : Bool) → list_any (λ x. bytes_eq x dashes) rest ≡ true → None ≡ cond b (run_with (options_of no_options rest)) (alone word rest)
+    behind true h = sym (ap run_with (dashes_none no_options rest h))
+    behind false h = more rest h
 
-    go : (p : Bool) → bytes_eq a dashes ≡ p → (q : Bool) → bytes_eq b dashes ≡ q → (r : Bool) → bytes_eq c dashes ≡ r → (p || (q || (r || false))) ≡ true → None ≡ command_of (a ∷ b ∷ c ∷ [])
-    go true same q f r g h = subst (λ x. None ≡ command_of (x ∷ b ∷ c ∷ [])) (sym ((bytes_eq-Decides a dashes).0 same)) refl
-    go false other true same r g h = subst (λ x. None ≡ command_of (a ∷ x ∷ c ∷ [])) (sym ((bytes_eq-Decides b dashes).0 same)) (never (bytes_eq a (codes "run")) (run_until c))
-    go false other false f true same h = subst (λ x. None ≡ command_of (a ∷ b ∷ x ∷ [])) (sym ((bytes_eq-Decides c dashes).0 same)) (same_none (bytes_eq a (codes "run") && bytes_eq b (codes "--stop-after")))
-    go false other false f false g h = absurd (true≢false (sym h))
-with_dashes (a ∷ b ∷ c ∷ d ∷ more) e = refl
+    go : (b : Bool) → bytes_eq word dashes ≡ b → (b || list_any (λ x. bytes_eq x dashes) rest) ≡ true → None ≡ command_of (word ∷ rest)
+    go true same h = subst (λ x. None ≡ command_of (x ∷ rest)) (sym ((bytes_eq-Decides word dashes).0 same)) (dash_alone rest)
+    go false other h = behind (bytes_eq word (codes "run")) h

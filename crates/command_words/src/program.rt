@@ -1,4 +1,4 @@
-//! The command line as `clap` knows it: a subcommand for each command, and the one option of `run`. `clap`'s own help is
+//! The command line as `clap` knows it: a subcommand for each command, and the two options of `run`. `clap`'s own help is
 //! switched off, so that `help`, `-h` and `--help` are words that it does not know.
 ghost use Rattle.std.specs.Prelude.{◌≡◌, IfOk, false};
 ghost use Rattle.clap.specs.Words.{app_of};
@@ -24,7 +24,7 @@ pub(crate) fn command_line<'a>(alloc: Global) -> Result<clap::Command<'a>, Alloc
         .subcommand(clap::Command::new(alloc, "source"))
 }
 
-/// `run` with its one option.
+/// `run` with its options.
 fn run_line<'a>(alloc: Global) -> Result<clap::Command<'a>, AllocError>
     ensures shape { IfOk result (λ line. app_of line ≡ run_line) }
     ensures local { IfOk result (λ line. (fields_of line).has_globals ≡ false) }
@@ -32,5 +32,8 @@ fn run_line<'a>(alloc: Global) -> Result<clap::Command<'a>, AllocError>
     let stop_after = Arg::new(alloc, "stop-after")
         .long("stop-after")
         .action(ArgAction::Set);
-    clap::Command::new(alloc, "run").arg(stop_after)
+    let retry = Arg::new(alloc, "retry")
+        .long("retry")
+        .action(ArgAction::Set);
+    clap::Command::new(alloc, "run").arg(stop_after)?.arg(retry)
 }

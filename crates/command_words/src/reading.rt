@@ -1,12 +1,12 @@
-//! Reading the words after the program's name: `init`, `run`, `list`, `status` or `source`, alone, or `run` with its one option,
-//! `run --stop-after N` or `run --stop-after=N`.
-ghost use Rattle.std.specs.Prelude.{◌≡◌, IfOk, bytes_eq, codes, map, option_map, string_bytes};
+//! Reading the words after the program's name: `init`, `run`, `list`, `status` or `source`, alone, or `run` with its options, each at
+//! most once and in any order: `--stop-after N` or `--stop-after=N`, and `--retry N` or `--retry=N`.
+ghost use Rattle.std.specs.Prelude.{◌≡◌, IfOk, bytes_eq, codes, map, string_bytes};
 ghost use Rattle.std.specs.List.{list_any};
 ghost use Rattle.clap.specs.Words.{subcommand_rows_of};
 ghost use Rattle.command_words.specs.Commands.{command_of};
-ghost use Rattle.command_words.specs.Program.{command_by, run_by};
+ghost use Rattle.command_words.specs.Program.{command_by};
 
-use crate::command::{Command, run_until};
+use crate::command::{Command, run_by};
 use crate::program::command_line;
 use clap::ArgMatches;
 use clap::error::ErrorKind;
@@ -46,20 +46,10 @@ fn matched(matches: &ArgMatches<'_>) -> Option<Command>
     let (name, inner) = matches.subcommand()?;
     match name {
         "init" => Some(Command::Init),
-        "run" => stopping(inner.get_str("stop-after")),
+        "run" => run_by(inner.get_str("stop-after"), inner.get_str("retry")),
         "list" => Some(Command::List),
         "status" => Some(Command::Status),
         "source" => Some(Command::Source),
         _ => None,
-    }
-}
-
-/// `run` with the value of its option, if it has one.
-fn stopping(number: Option<&str>) -> Option<Command>
-    ensures { result ≡ run_by (option_map (λ word. word.now) number.entry) }
-{
-    match number {
-        Some(word) => run_until(word),
-        None => Some(Command::Run { stop_after: None }),
     }
 }

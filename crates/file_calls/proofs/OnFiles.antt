@@ -6,13 +6,13 @@ use Rattle.mcy_keeper.specs.Books.{LeavesNothingNew, LeavesSome}
 use Rattle.mcy_outside.specs.Files.{Held}
 use Rattle.campaign_outcomes.specs.declared.outcome.Outcome.{Outcome}
 use Rattle.command_words.specs.declared.command.Command.{Command}
-use Rattle.keeper_file.specs.Contents.{HasOnly, IsEmptyFile}
+use Rattle.keeper_file.specs.Contents.{HasOnly}
 use Rattle.keeper_file.proofs.Reopened.{empty_found}
 use Rattle.mcy_top.specs.Complete.{IsReady, NoneRose}
 use Rattle.mcy_top.specs.Life.{Early, HasCause, Life}
 use Rattle.mcy_top.specs.Histories.{AllFindBooks, AreTurns, IsNew, Left, Turn}
 use Rattle.mcy_top.proofs.Histories.{calls_find, calls_history, calls_safe, calls_tell}
-use Rattle.file_calls.specs.Turns.{AreOnFiles, CallsOnFilesAreSafe, HaveBooks}
+use Rattle.file_calls.specs.Turns.{AreOnFiles, CallsOnFilesAreSafe, EmptyFilesAreBlank, HaveBooks}
 
 -- where the keeper left at the beginning only what is found, and told no book
 module _ (words : List (List ℕ)) (held : Option Held) (holds : Book → Type 0) (found old : Option Book → Type 0) (only : LeavesNothingNew found old) where
@@ -53,8 +53,8 @@ module _ {K : Type 0} (holds : K → Book → Type 0) (leaves : K → Option Boo
   turns_on found may only (turn ∷ more) (begins, (is, rest)) =
       (λ left was. only begins.0 begins.1 left ((begins.2 left).0 was), (is, turns_on (Left holds leaves turn is) (HasOnly (Left holds leaves turn is)) (λ image has. has) more rest))
 
-  pub calls_on : (turns : List (Turn K)) → AreOnFiles holds leaves IsEmptyFile turns → AreTurns holds leaves IsNew turns
-  calls_on = turns_on IsNew IsEmptyFile empty_found
+  pub calls_on : (start : Book) (turns : List (Turn K)) → AreOnFiles holds leaves (HasOnly (IsNew start)) turns → AreTurns holds leaves (IsNew start) turns
+  calls_on start = turns_on (IsNew start) (HasOnly (IsNew start)) (λ image has. has)
 
   -- what is found at each entry is what the keeper leaves there
   books_on : (tells : K → Type 0) (found : Option Book → Type 0) (may : Image → Type 0) (only : (image : Image) → may image → HasOnly found image) (turns : List (Turn K)) (on : AreOnFiles holds leaves may turns)
@@ -65,17 +65,20 @@ module _ {K : Type 0} (holds : K → Book → Type 0) (leaves : K → Option Boo
       (λ left has. all.0.good left ((begins.2 left).1 has), books_on tells (Left holds leaves turn is) (HasOnly (Left holds leaves turn is)) (λ image has. has) more rest all.1)
 
 pub safe_on : {K : Type 0} (tells : K → Type 0) (holds : K → Book → Type 0) (leaves : K → Option Book → Type 0) → ((k : K) → tells k → LeavesSome (leaves k)) → CallsOnFilesAreSafe tells holds leaves
-safe_on tells holds leaves survives turns on =
-    let are : AreTurns holds leaves IsNew turns = turns_on holds leaves IsNew IsEmptyFile empty_found turns on in
-    let restarts : AllFindBooks tells holds leaves IsNew turns are = calls_find tells holds leaves survives turns are in
+safe_on tells holds leaves survives start turns is on =
+    let are : AreTurns holds leaves (IsNew start) turns = turns_on holds leaves (IsNew start) (HasOnly (IsNew start)) (λ image has. has) turns on in
+    let restarts : AllFindBooks tells holds leaves (IsNew start) turns are = calls_find tells holds leaves survives start turns is are in
     record {
       are = are;
-      history = calls_history holds leaves turns are;
-      safe = calls_safe holds leaves turns are;
-      texts = calls_tell holds leaves turns are;
+      history = calls_history holds leaves start turns are;
+      safe = calls_safe holds leaves start turns is are;
+      texts = calls_tell holds leaves start turns is are;
       restarts = restarts;
-      books = books_on holds leaves tells IsNew IsEmptyFile empty_found turns on restarts;
+      books = books_on holds leaves tells (IsNew start) (HasOnly (IsNew start)) (λ image has. has) turns on restarts;
     }
+
+pub blank_on : EmptyFilesAreBlank
+blank_on = empty_found
 
 -- the causes of a call whose keeper had counted this many faults before
 pub cause_on : (files files' keeper keeper' count sink sink' : ℕ) (outcome : Outcome) → keeper ≡ count → HasCause files files' keeper keeper' sink sink' outcome → HasCause files files' count keeper' sink sink' outcome

@@ -6,7 +6,7 @@ use Rattle.mcy_keeper.specs.Books.{blank}
 use Rattle.campaign_run.specs.Rows.{IsBlankOrGood}
 use Rattle.campaign_run.specs.Crashes.{LeavesBooks}
 use Rattle.keeper_file.specs.Contents.{Found, HasOnly, IsEmptyFile}
-use Rattle.mcy_top.specs.Lives.{AreSafe, IsHistory}
+use Rattle.mcy_top.specs.Lives.{AreSafe, IsHistory, IsStart}
 use Rattle.mcy_top.specs.Histories.{AllFindBooks, AllTellTrue, AreTurns, entry_of, IsNew, IsTurn, Left, lives_of, Turn}
 
 module _ {K : Type 0} (holds : K → Book → Type 0) (leaves : K → Option Book → Type 0) where
@@ -25,19 +25,23 @@ module _ {K : Type 0} (holds : K → Book → Type 0) (leaves : K → Option Boo
   HaveBooks may [] are = ⊤
   HaveBooks may (turn ∷ more) are = LeavesBooks (Found are.0.0) IsBlankOrGood × HaveBooks (HasOnly (Left holds leaves turn are.1.0)) more are.1.1
 
-  -- Calls on files that begin with an empty file are a list of calls that begins with the empty book,
+  -- Calls on files of which the first has only this book, are a list of calls that begins with it,
   abbrev pub CallsOnFilesAreCalls : Type 0
-  CallsOnFilesAreCalls = (turns : List (Turn K)) → AreOnFiles IsEmptyFile turns → AreTurns holds leaves IsNew turns
+  CallsOnFilesAreCalls = (start : Book) (turns : List (Turn K)) → AreOnFiles (HasOnly (IsNew start)) turns → AreTurns holds leaves (IsNew start) turns
 
   -- What the laws of lists of calls say of them.
-  pub record IsSafeOnFiles (tells : K → Type 0) (turns : List (Turn K)) (on : AreOnFiles IsEmptyFile turns) : Type 0 where
-    pub are : AreTurns holds leaves IsNew turns
-    pub history : IsHistory blank (lives_of holds leaves IsNew turns are)
-    pub safe : AreSafe (lives_of holds leaves IsNew turns are)
-    pub texts : AllTellTrue holds leaves IsNew turns are
-    pub restarts : AllFindBooks tells holds leaves IsNew turns are
-    pub books : HaveBooks IsEmptyFile turns on
+  pub record IsSafeOnFiles (tells : K → Type 0) (start : Book) (turns : List (Turn K)) (on : AreOnFiles (HasOnly (IsNew start)) turns) : Type 0 where
+    pub are : AreTurns holds leaves (IsNew start) turns
+    pub history : IsHistory start (lives_of holds leaves (IsNew start) turns are)
+    pub safe : AreSafe (lives_of holds leaves (IsNew start) turns are)
+    pub texts : AllTellTrue holds leaves (IsNew start) turns are
+    pub restarts : AllFindBooks tells holds leaves (IsNew start) turns are
+    pub books : HaveBooks (HasOnly (IsNew start)) turns on
 
--- so they are one history of safe lives.
+-- so they are one history of safe lives, where the book is one that lives may begin with.
 abbrev pub CallsOnFilesAreSafe : {K : Type 0} → (K → Type 0) → (K → Book → Type 0) → (K → Option Book → Type 0) → Type 0
-CallsOnFilesAreSafe {K} tells holds leaves = (turns : List (Turn K)) (on : AreOnFiles holds leaves IsEmptyFile turns) → IsSafeOnFiles holds leaves tells turns on
+CallsOnFilesAreSafe {K} tells holds leaves = (start : Book) (turns : List (Turn K)) → IsStart start → (on : AreOnFiles holds leaves (HasOnly (IsNew start)) turns) → IsSafeOnFiles holds leaves tells start turns on
+
+-- An empty file has only the empty book.
+abbrev pub EmptyFilesAreBlank : Type 0
+EmptyFilesAreBlank = (image : Image) → IsEmptyFile image → HasOnly (IsNew blank) image

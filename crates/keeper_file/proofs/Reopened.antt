@@ -63,6 +63,6 @@ nothing_in_empty image empty = inl (inl (ap length empty))
 pub empty_found : (image : Image) → IsEmptyFile image → (left : Option Book) → Found image left → left ≡ Some blank
 empty_found image empty left (inl (trees, found, stands)) = elim found.reads [
   | inl held ↦ absurd (let some = held.3.found.present in let none : length image.db ≡ 0 = ap length empty in omega (arith, some, none))
-  | inr nothing ↦ stands_as trees left blank stands (inr (empty_is_sound trees nothing.1.1, refl))
+  | inr nothing ↦ stands_as trees left blank stands (inr (inr (empty_is_sound trees nothing.1.1, refl)))
 ]
 empty_found image empty left (inr (is, none)) = absurd (none (λ _. []) (found_nothing image (λ _. []) (nothing_in_empty image empty) (λ tree low. refl, refl)))

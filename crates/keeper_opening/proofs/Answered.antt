@@ -1,5 +1,5 @@
 -- What the answer of an opening says of the connection after it.
-use Rattle.std.proofs.Common.{◌≡◌, ◌∙◌, Option, Some, None, Ok, Err, Result, ap}
+use Rattle.std.proofs.Common.{◌≡◌, ◌∙◌, Option, None, Ok, Err, Result, ap}
 use Rattle.std.specs.Prelude.{is_some}
 use Rattle.sqlite.specs.Held.{Held}
 use Rattle.std.specs.Option.{option_or}

@@ -49,7 +49,7 @@ module _ {S O : Type 0} (g : Ghosts S) where
 
   -- a write that has failed leaves of the place what it leaves of its keeper
   pub either_after : (found : O → Trees → Type 0) (p q : Place S O) (k k' : SqlKeeper S) → p ≡ Opened k → q ≡ Opened k' → {T : Type 0} (r r' : Result T KeepError) → r' ≡ r → (after : Book → Book)
-      → (Tells g k'.connection → IsErrOf r Fault → (was : Book) → Holds g k.connection k.settled was → LeavesEither (Leaves g k'.connection) was (after was))
+      → (Tells g k'.connection → IsErrOf r Fault → (was : Book) → Holds g k.connection k.settled k.table was → LeavesEither (Leaves g k'.connection) was (after was))
       → PlaceTells g q → IsErrOf r' Fault → (was : Book) → PlaceHolds g p was → LeavesEither (PlaceLeaves g found q) was (after was)
   either_after found p q k k' old new r r' same after either tells fails was holds =
       subst (λ (x : Place S O). LeavesEither (PlaceLeaves g found x) was (after was)) (sym new)

@@ -81,7 +81,7 @@ module _ {S O : Type 0} (g : Ghosts S) where
 
   abbrev pub PlaceHolds : Place S O → Book → Type 0
   PlaceHolds (Closed opener) book = ⊥
-  PlaceHolds (Opened it) book = Holds g it.connection it.settled book
+  PlaceHolds (Opened it) book = Holds g it.connection it.settled it.table book
 
   -- before the first load what the opener may find
   abbrev pub PlaceLeaves : (O → Trees → Type 0) → Place S O → Option Book → Type 0
@@ -105,11 +105,11 @@ module _ {S O : Type 0} (g : Ghosts S) where
 
   pub place_one : (p : Place S O) (a b : Book) → PlaceHolds p a → PlaceHolds p b → a ≡ b
   place_one (Closed opener) a b p q = absurd p
-  place_one (Opened it) a b p q = holds_one g it.connection it.settled a b p q
+  place_one (Opened it) a b p q = holds_one g it.connection it.settled it.table a b p q
 
   pub place_told : (p : Place S O) (b : Book) → PlaceHolds p b → PlaceTells p
   place_told (Closed opener) b p = tt
-  place_told (Opened it) b p = holds_tells g it.connection it.settled b p
+  place_told (Opened it) b p = holds_tells g it.connection it.settled it.table b p
 
   pub place_survives : ((s : S) → IsClean (g.view s) → ∥ ((trees : Trees) × g.recovers s trees) ∥₁) → (found : O → Trees → Type 0) (p : Place S O) → PlaceTells p → LeavesSome (PlaceLeaves found p)
   place_survives survives found (Closed opener) tells none =

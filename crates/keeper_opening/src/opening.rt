@@ -15,7 +15,7 @@ ghost use Rattle.keeper_opening.specs.Places.{connection_in, fault_of, is_settle
 
 use keeper_sqlite::SqlKeeper;
 use mcy_base::BytesList;
-use mcy_keeper::{Book, Entry, KeepError, Keeper};
+use mcy_keeper::{Book, BoundList, Entry, KeepError, Keeper};
 use sqlite::{Alter, Connection};
 use std::alloc::{AllocError, Global};
 
@@ -205,6 +205,14 @@ impl<S: Alter + Drop, O: Opener<S>> Keeper for OpeningKeeper<S, O> {
     fn begin(&mut self, meta: &BytesList, mutations: &BytesList) -> Result<(), KeepError> {
         let written = match &mut self.place {
             Place::Opened(keeper) => keeper.begin(meta, mutations),
+            Place::Closed(_) => unreachable!(),
+        };
+        self.note_write(written)
+    }
+
+    fn upgrade(&mut self, bounds: &BoundList) -> Result<(), KeepError> {
+        let written = match &mut self.place {
+            Place::Opened(keeper) => keeper.upgrade(bounds),
             Place::Closed(_) => unreachable!(),
         };
         self.note_write(written)

@@ -1,11 +1,10 @@
 -- What an INSERT of one item adds.
-use Rattle.std.proofs.Common.{◌≡◌, ◌≢◌, arith, zero, suc, ◌+◌, ◌<◌, take, length, length-take, get_or, append_assoc, IsTrue, inl, ℕ, pos, List, [], ◌∷◌, ◌++◌, true, None, Ok, Err, Option, Result, OnOk, refl, sym, ap, subst, ◌∙◌, codes, IsPermutation}
+use Rattle.std.proofs.Common.{◌≡◌, ◌≢◌, ◌⊎◌, ◌≤◌, arith, ◌+◌, ◌<◌, take, length, length-take, get_or, append_assoc, IsTrue, inl, ℕ, pos, List, [], ◌∷◌, ◌++◌, true, None, Ok, Err, Option, Result, OnOk, refl, sym, ap, subst, ◌∙◌, codes, IsPermutation}
 use Rattle.std.proofs.lemmas.List.Sorted.{IsPermutation-refl, IsPermutation-trans, IsPermutation-cons, IsPermutation-middle}
 use Rattle.sqlite.specs.declared.types.Value.TheVariants.{Null, Int, Blob}
 use Rattle.sqlite.specs.Order.{Row}
 use Rattle.sqlite.specs.Tree.{Trees, put_row}
 use Rattle.sqlite.specs.Table.{Table}
-use Rattle.sqlite_schema.specs.declared.schema.Index.{Index}
 use Rattle.sqlite.specs.Kind.TheVariants.{Blob as Bytes_kind}
 use Rattle.sqlite.specs.Cast.{cast, cast_row}
 use Rattle.sqlite.specs.Rowids.TheVariants.{Chosen}
@@ -23,11 +22,11 @@ use Rattle.sqlite.specs.Effect.{IsDatabase}
 use Rattle.sqlite.specs.Listing.{understood}
 use Rattle.sqlite.specs.declared.error.Error.{Error}
 use Rattle.sqlite.proofs.Callers.{one_step, runs_as, statement_of}
-use Rattle.keeper_sqlite.specs.Tables.{Constraints, book_schema, rowid_table, meta_columns, mutation_columns, IsBookSchema}
+use Rattle.keeper_sqlite.specs.Tables.{BookTables, book_schema, rowid_table, meta_columns, mutation_columns, second_tree, IsBookSchema}
 use Rattle.keeper_sqlite.specs.Rows.{item_row, item_rows, shown_item}
-use Rattle.keeper_sqlite.specs.Writing.{Wrote, WritesInside, BeginsRows}
+use Rattle.keeper_sqlite.specs.Writing.{IsOfBook, Wrote, WritesInside, BeginsRows}
 use Rattle.keeper_sqlite.proofs.Texts.{item_terms, insert_meta_text, insert_meta_is, insert_meta_plain, insert_mutation_text, insert_mutation_is, insert_mutation_plain}
-use Rattle.keeper_sqlite.proofs.Inserts.{cast_null, cast_int, put_permutes, not_both, went, same_value}
+use Rattle.keeper_sqlite.proofs.Inserts.{elsewhere, rows_at, tree_in, tree_high, of_book, cast_null, cast_int, put_permutes, not_both, went, same_value}
 
 -- ---- an item more
 
@@ -35,25 +34,19 @@ use Rattle.keeper_sqlite.proofs.Inserts.{cast_null, cast_int, put_permutes, not_
 pub record AddsItem (tree : ℕ) (old new : Database) (number : ℕ) (body : List ℕ) : Type 0 where
   pub schema : new.schema ≡ old.schema
   pub own : IsPermutation (item_row number body ∷ old.trees tree) (new.trees tree)
-  pub others : (t : ℕ) → t ≢ tree → t < 3 → new.trees t ≡ old.trees t
-
-elsewhere : (f g : Trees) (tree x : ℕ) → x ≢ tree → x < 3 → (0 ≢ tree → f 0 ≡ g 0) → (1 ≢ tree → f 1 ≡ g 1) → (2 ≢ tree → f 2 ≡ g 2) → f x ≡ g x
-elsewhere f g tree zero other low p q r = p other
-elsewhere f g tree (suc zero) other low p q r = q other
-elsewhere f g tree (suc (suc zero)) other low p q r = r other
-elsewhere f g tree (suc (suc (suc x))) other low p q r = absurd (omega arith)
+  pub others : (t : ℕ) → t ≢ tree → IsOfBook old.schema t → new.trees t ≡ old.trees t
 
 same_blob : (b : List ℕ) → cast Bytes_kind (Blob b) ≡ Blob b
 same_blob b = refl
 
-module _ (meta mutations journal : Constraints) (indexes : List Index) where
-  abbrev meta_table : Table
-  meta_table = rowid_table (codes "meta") 0 meta_columns meta
+module _ (t : BookTables) where
+  abbrev pub meta_table : Table
+  meta_table = rowid_table (codes "meta") 0 meta_columns t.meta
 
-  cast_meta : (n : ℕ) (b : List ℕ) → cast_row meta_table (Int (pos n) ∷ Null ∷ Blob b ∷ []) ≡ item_row n b
+  pub cast_meta : (n : ℕ) (b : List ℕ) → cast_row meta_table (Int (pos n) ∷ Null ∷ Blob b ∷ []) ≡ item_row n b
   cast_meta n b = λ i. cast_int (pos n) i ∷ cast_null i ∷ Blob b ∷ []
 
-  pub adds_meta : (limit : Option ℕ) (mode : Mode) (text : List ℕ) (old after : Database) (tally : Tally) (n : ℕ) (b : List ℕ) → old.schema ≡ book_schema meta mutations journal indexes
+  pub adds_meta : (limit : Option ℕ) (mode : Mode) (text : List ℕ) (old after : Database) (tally : Tally) (n : ℕ) (b : List ℕ) → old.schema ≡ book_schema t
       → Does limit mode (shown_item n b) old text None (Insert 0 (Values item_terms 3)) (Ok (tally, after)) → AddsItem 0 old after n b
   adds_meta limit mode text old after tally n b has h =
       let db = old.trees in
@@ -64,7 +57,7 @@ module _ (meta mutations journal : Constraints) (indexes : List Index) where
       let counted = went written.2 in
       let trees : done.0.trees ≡ written.0 = ap (λ (it : Written). it.trees) (same_value counted.2) ∙ same_value counted.1 in
       let next : after.trees ≡ written.0 = ap (λ (d : Database). d.trees) now ∙ trees in
-      let applied = one_step (book_schema meta mutations journal indexes) _ db written.0 (edit_of db meta_table [] Chosen 0 given.0) refl written.1 in
+      let applied = one_step (book_schema t) _ db written.0 (edit_of db meta_table [] Chosen 0 given.0) refl written.1 in
       let news : (edit_of db meta_table [] Chosen 0 given.0).news ≡ item_row n b ∷ [] =
       ap (λ all. (edit_of db meta_table [] Chosen 0 all).news) given.1.1 ∙ ap (λ r. with_rowid Chosen (db 0) r ∷ []) (cast_meta n b) in
       let fresh : are_fresh (db 0) (item_row n b ∷ []) ≡ true = subst (λ x. are_fresh (db 0) x ≡ true) news applied.fresh in
@@ -72,13 +65,13 @@ module _ (meta mutations journal : Constraints) (indexes : List Index) where
       record {
         schema = ap (λ (d : Database). d.schema) now ∙ sym has;
         own = subst (λ (l : List Row). IsPermutation (item_row n b ∷ db 0) l) (sym (ap (λ (x : Trees). x 0) next ∙ rows)) (put_permutes (item_row n b) (db 0) (not_both _ fresh));
-        others = λ x other low. ap (λ (y : Trees). y x) next ∙ elsewhere written.0 db _ x other low applied.tables.0 applied.tables.1.0 applied.tables.1.1.0;
+        others = λ x other low. ap (λ (y : Trees). y x) next ∙ elsewhere written.0 db _ 4 x other (subst (λ n. (x < 3) ⊎ (x ≡ n)) (ap second_tree has) low) applied.tables.0 applied.tables.1.0 applied.tables.1.1.0 applied.tables.1.1.1.0;
       }
 
 meta_row : (old new : State) (n : ℕ) (body : List ℕ) (count : ℕ) (b : IsBookSchema old.now.schema) → Executes insert_meta_text (shown_item n body) old new (Ok count) → AddsItem 0 old.now new.now n body × IsDatabase new.now
 meta_row old new n body count b h =
-    let w = runs_as insert_meta_text (shown_item n body) old new _ b.is _ (insert_meta_is b.meta b.mutations b.journal b.indexes) (insert_meta_plain b.meta b.mutations b.journal b.indexes) count h in (
-      adds_meta b.meta b.mutations b.journal b.indexes old.step_limit (mode_of old) (statement_of insert_meta_text (understood (book_schema b.meta b.mutations b.journal b.indexes) insert_meta_text)) old.now new.now w.tally n body b.is w.changed,
+    let w = runs_as insert_meta_text (shown_item n body) old new _ b.is _ (insert_meta_is b.of) (insert_meta_plain b.of) count h in (
+      adds_meta b.of old.step_limit (mode_of old) (statement_of insert_meta_text (understood (book_schema b.of) insert_meta_text)) old.now new.now w.tally n body b.is w.changed,
       w.sound,
     )
 
@@ -88,14 +81,14 @@ wrote_meta old new n body (Ok count) h b =
     let it = meta_row old new n body count b h.0 in
     record { schema = it.0.schema; own = it.0.own; others = it.0.others; sound = λ _. it.1; committed = h.1.committed_is; mode = h.1.mode }
 
-module _ (meta mutations journal : Constraints) (indexes : List Index) where
+module _ (t : BookTables) where
   abbrev mutation_table : Table
-  mutation_table = rowid_table (codes "mutations") 1 mutation_columns mutations
+  mutation_table = rowid_table (codes "mutations") 1 mutation_columns t.mutations
 
   cast_mutation : (n : ℕ) (b : List ℕ) → cast_row mutation_table (Int (pos n) ∷ Null ∷ Blob b ∷ []) ≡ item_row n b
   cast_mutation n b = λ i. cast_int (pos n) i ∷ cast_null i ∷ Blob b ∷ []
 
-  pub adds_mutation : (limit : Option ℕ) (mode : Mode) (text : List ℕ) (old after : Database) (tally : Tally) (n : ℕ) (b : List ℕ) → old.schema ≡ book_schema meta mutations journal indexes
+  pub adds_mutation : (limit : Option ℕ) (mode : Mode) (text : List ℕ) (old after : Database) (tally : Tally) (n : ℕ) (b : List ℕ) → old.schema ≡ book_schema t
       → Does limit mode (shown_item n b) old text None (Insert 1 (Values item_terms 3)) (Ok (tally, after)) → AddsItem 1 old after n b
   adds_mutation limit mode text old after tally n b has h =
       let db = old.trees in
@@ -106,7 +99,7 @@ module _ (meta mutations journal : Constraints) (indexes : List Index) where
       let counted = went written.2 in
       let trees : done.0.trees ≡ written.0 = ap (λ (it : Written). it.trees) (same_value counted.2) ∙ same_value counted.1 in
       let next : after.trees ≡ written.0 = ap (λ (d : Database). d.trees) now ∙ trees in
-      let applied = one_step (book_schema meta mutations journal indexes) _ db written.0 (edit_of db mutation_table [] Chosen 0 given.0) refl written.1 in
+      let applied = one_step (book_schema t) _ db written.0 (edit_of db mutation_table [] Chosen 0 given.0) refl written.1 in
       let news : (edit_of db mutation_table [] Chosen 0 given.0).news ≡ item_row n b ∷ [] =
       ap (λ all. (edit_of db mutation_table [] Chosen 0 all).news) given.1.1 ∙ ap (λ r. with_rowid Chosen (db 1) r ∷ []) (cast_mutation n b) in
       let fresh : are_fresh (db 1) (item_row n b ∷ []) ≡ true = subst (λ x. are_fresh (db 1) x ≡ true) news applied.fresh in
@@ -114,13 +107,13 @@ module _ (meta mutations journal : Constraints) (indexes : List Index) where
       record {
         schema = ap (λ (d : Database). d.schema) now ∙ sym has;
         own = subst (λ (l : List Row). IsPermutation (item_row n b ∷ db 1) l) (sym (ap (λ (x : Trees). x 1) next ∙ rows)) (put_permutes (item_row n b) (db 1) (not_both _ fresh));
-        others = λ x other low. ap (λ (y : Trees). y x) next ∙ elsewhere written.0 db _ x other low applied.tables.0 applied.tables.1.0 applied.tables.1.1.0;
+        others = λ x other low. ap (λ (y : Trees). y x) next ∙ elsewhere written.0 db _ 4 x other (subst (λ n. (x < 3) ⊎ (x ≡ n)) (ap second_tree has) low) applied.tables.0 applied.tables.1.0 applied.tables.1.1.0 applied.tables.1.1.1.0;
       }
 
 mutation_row : (old new : State) (n : ℕ) (body : List ℕ) (count : ℕ) (b : IsBookSchema old.now.schema) → Executes insert_mutation_text (shown_item n body) old new (Ok count) → AddsItem 1 old.now new.now n body × IsDatabase new.now
 mutation_row old new n body count b h =
-    let w = runs_as insert_mutation_text (shown_item n body) old new _ b.is _ (insert_mutation_is b.meta b.mutations b.journal b.indexes) (insert_mutation_plain b.meta b.mutations b.journal b.indexes) count h in (
-      adds_mutation b.meta b.mutations b.journal b.indexes old.step_limit (mode_of old) (statement_of insert_mutation_text (understood (book_schema b.meta b.mutations b.journal b.indexes) insert_mutation_text)) old.now new.now w.tally n body b.is w.changed,
+    let w = runs_as insert_mutation_text (shown_item n body) old new _ b.is _ (insert_mutation_is b.of) (insert_mutation_plain b.of) count h in (
+      adds_mutation b.of old.step_limit (mode_of old) (statement_of insert_mutation_text (understood (book_schema b.of) insert_mutation_text)) old.now new.now w.tally n body b.is w.changed,
       w.sound,
     )
 
@@ -152,7 +145,7 @@ wrote_more tree rows row a b c p q = record {
   schema = q.schema ∙ p.schema;
   own = subst (λ l. IsPermutation l (c.now.trees tree)) (sym (append_assoc rows (row ∷ []) (a.now.trees tree)))
       (IsPermutation-trans _ _ _ (IsPermutation-middle rows row (a.now.trees tree)) (IsPermutation-trans _ _ _ (IsPermutation-cons row _ _ p.own) q.own));
-  others = λ t other low. q.others t other low ∙ p.others t other low;
+  others = λ t other low. q.others t other (subst (λ s. IsOfBook s t) (sym p.schema) low) ∙ p.others t other low;
   sound = λ h. q.sound (p.sound h);
   committed = q.committed ∙ p.committed;
   mode = q.mode;
@@ -172,18 +165,22 @@ wrote_next tree i items body a b c inside is p q =
     ap (item_rows 0) more ∙ rows_push 0 (take i items) body ∙ ap (λ k. item_rows 0 (take i items) ++ item_row k body ∷ []) number in
     subst (λ l. Wrote tree l a c) (sym rows) (wrote_more tree (item_rows 0 (take i items)) (item_row i body) a b c p q)
 
--- both tables are written
-pub both_wrote : (start a b : State) (meta mutations : List (List ℕ)) → Wrote 0 (item_rows 0 meta) start a → Wrote 1 (item_rows 0 mutations) a b → BeginsRows start.now b.now meta mutations
-both_wrote start a b meta mutations p q =
+-- both tables are written, and the journals are as they were
+pub both_wrote : (start a b : State) (meta mutations : List (List ℕ)) → IsBookSchema start.now.schema → Wrote 0 (item_rows 0 meta) start a → Wrote 1 (item_rows 0 mutations) a b → BeginsRows start.now b.now meta mutations
+both_wrote start a b meta mutations tables p q =
     let far : 0 ≢ 1 = omega arith in
     let near : 1 ≢ 0 = omega arith in
-    let last : 2 ≢ 0 = omega arith in
-    let other : 2 ≢ 1 = omega arith in
+    let after : IsBookSchema b.now.schema = subst IsBookSchema (sym (q.schema ∙ p.schema)) tables in
     record {
       schema = q.schema ∙ p.schema;
-      meta_rows = subst (IsPermutation (item_rows 0 meta ++ start.now.trees 0)) (sym (q.others 0 far (omega arith))) p.own;
-      mutation_rows = subst (λ l. IsPermutation (item_rows 0 mutations ++ l) (b.now.trees 1)) (p.others 1 near (omega arith)) q.own;
-      journal_rows = q.others 2 other (omega arith) ∙ p.others 2 last (omega arith);
+      meta_rows = subst (IsPermutation (item_rows 0 meta ++ start.now.trees 0)) (sym (q.others 0 far (inl (omega arith)))) p.own;
+      mutation_rows = subst (λ l. IsPermutation (item_rows 0 mutations ++ l) (b.now.trees 1)) (p.others 1 near (inl (omega arith))) q.own;
+      journal_rows = λ table.
+          let at = tree_in start.now.schema table in
+          let high : 2 ≤ at = tree_high start.now.schema table tables in
+          let in_a : IsOfBook a.now.schema at = subst (λ s. IsOfBook s at) (sym p.schema) (of_book start.now.schema table) in
+          rows_at b.now.schema b.now.trees table after ∙ ap (λ s. b.now.trees (tree_in s table)) (q.schema ∙ p.schema) ∙ q.others at (λ e. omega (arith, high, e)) in_a ∙ p.others at (λ e. omega (arith, high, e)) (of_book start.now.schema table)
+          ∙ sym (rows_at start.now.schema start.now.trees table tables);
       sound = λ h. q.sound (p.sound h);
     }
 
@@ -193,4 +190,4 @@ pub lists_wrote : {T U E : Type 0} (x : T) (y : U) (start a b : State) (meta mut
 lists_wrote x y start a b meta mutations p q clean inside schema =
     let early : HasCleanDisk a = omega (arith, q.crash.clean) in
     let one = p.wrote early inside schema in
-    both_wrote start a b meta mutations one (q.wrote clean one.mode (subst IsBookSchema (sym one.schema) schema))
+    both_wrote start a b meta mutations schema one (q.wrote clean one.mode (subst IsBookSchema (sym one.schema) schema))

@@ -1,10 +1,10 @@
--- What the statements that make the tables leave.
-use Rattle.std.proofs.Common.{◌≡◌, List, [], ◌∷◌, refl, sym, ap, subst, ◌∙◌, ℕ, None, false, Ok, Err, Result, OnOk, IsPermutation}
+-- What the statements that make the tables of an empty book leave.
+use Rattle.std.proofs.Common.{◌≡◌, List, [], refl, sym, ap, subst, ◌∙◌, ℕ, None, false, Ok, Err, Result, OnOk, IsPermutation}
 use Rattle.std.proofs.lemmas.List.Sorted.{IsPermutation-refl}
+use Rattle.sqlite.specs.Order.{Row}
 use Rattle.sqlite.specs.Table.{Table}
 use Rattle.sqlite.specs.Schema.{Schema}
 use Rattle.sqlite.specs.Tree.{Trees}
-use Rattle.sqlite.specs.Command.TheVariants.{CreateTable}
 use Rattle.sqlite_resolve.specs.declared.error.CompileError.{CompileError}
 use Rattle.sqlite.specs.declared.error.Error.{Error}
 use Rattle.sqlite.specs.Compile.{table_defined_by}
@@ -13,13 +13,14 @@ use Rattle.sqlite.specs.Does.{Tally, lacks_sequence}
 use Rattle.sqlite.specs.Listing.{understood}
 use Rattle.sqlite.specs.Effect.{Database}
 use Rattle.sqlite.specs.State.{State, Writes, ExecutesInside}
+use Rattle.sqlite_schema.specs.declared.command.Command.TheVariants.{CreateTable as MakeTable}
 use Rattle.sqlite.proofs.Callers.{IsPlain, command_of, statement_of, runs_as}
 use Rattle.sqlite_tied.specs.Compute.{everything}
 use Rattle.keeper_sqlite.specs.declared.statements.TheConstants.{CREATE_META, CREATE_MUTATIONS, CREATE_JOURNAL}
-use Rattle.keeper_sqlite.specs.Tables.{no_schema, IsBookSchema}
-use Rattle.keeper_sqlite.specs.Format.{format, of_items, of_journal, pair_index}
+use Rattle.keeper_sqlite.specs.Tables.{first_schema, no_schema, IsBookSchema, IsFirstSchema}
+use Rattle.keeper_sqlite.specs.Format.{first_tables, format, tables}
 use Rattle.keeper_sqlite.specs.Rows.{HoldsBook}
-use Rattle.keeper_sqlite.specs.Creating.{no_table, defined, meta_table, mutations_table, journal_table, schema_of_meta, schema_of_items, schema_of_book, MakesTable}
+use Rattle.keeper_sqlite.specs.Creating.{no_table, defined, meta_table, mutations_table, journal_table, second_table, schema_of_meta, schema_of_items, schema_of_first, schema_of_book, MakesTable}
 use Rattle.keeper_sqlite.specs.Making.{HasCreated}
 use Rattle.keeper_sqlite.proofs.Inserts.{went, same_value}
 use Rattle.mcy_keeper.specs.Books.{blank}
@@ -28,7 +29,7 @@ defined_ok : (r : Result Table CompileError) (t : Table) → r ≡ Ok t → t �
 defined_ok r t e = sym (ap defined e)
 
 pub record Reads (schema : Schema) (text : List ℕ) : Type 0 where
-  pub command : command_of (understood schema text) ≡ CreateTable
+  pub command : command_of (understood schema text) ≡ MakeTable
   pub statement : statement_of text (understood schema text) ≡ text
   pub plain : IsPlain (understood schema text)
 
@@ -46,26 +47,35 @@ reads_journal = record { command = refl; statement = refl; plain = (refl, refl) 
 
 -- the statements define the tables of the format
 format_is : schema_of_book ≡ format
-unfolding everything schema_of_meta schema_of_items schema_of_book meta_table mutations_table journal_table no_table
+unfolding everything schema_of_meta schema_of_items schema_of_first schema_of_book meta_table mutations_table journal_table second_table no_table
 format_is = refl
 
 book_is : IsBookSchema format
-book_is = record { meta = of_items; mutations = of_items; journal = of_journal; indexes = pair_index ∷ []; is = refl }
+book_is = record { of = tables; is = refl }
 
-no_counters : (lacks_sequence schema_of_meta ≡ false) × (lacks_sequence schema_of_items ≡ false) × (lacks_sequence schema_of_book ≡ false)
-unfolding everything schema_of_meta schema_of_items schema_of_book meta_table mutations_table journal_table no_table
+no_counters : (lacks_sequence schema_of_meta ≡ false) × (lacks_sequence schema_of_items ≡ false) × (lacks_sequence schema_of_first ≡ false)
+unfolding everything schema_of_meta schema_of_items schema_of_first meta_table mutations_table journal_table no_table
 no_counters = (refl, refl, refl)
 
-next_trees : (next_tree schema_of_meta ≡ 1) × (next_tree schema_of_items ≡ 2)
-unfolding everything schema_of_meta schema_of_items meta_table mutations_table no_table
-next_trees = (refl, refl)
+-- the three are those of a database that knows the first format alone
+first_is : schema_of_first ≡ first_schema first_tables
+unfolding everything schema_of_meta schema_of_items schema_of_first meta_table mutations_table journal_table no_table
+first_is = refl
 
--- what one CREATE TABLE leaves
-creates : (old new : State) (schema : Schema) (text : List ℕ) (table : Table) (r : Result ℕ Error) → old.now.schema ≡ schema → Reads schema text → table ≡ defined (table_defined_by text) → lacks_sequence (created schema table) ≡ false
+pub first_alone : IsFirstSchema schema_of_first
+first_alone = record { of = first_tables; is = first_is }
+
+next_trees : (next_tree schema_of_meta ≡ 1) × (next_tree schema_of_items ≡ 2) × (next_tree schema_of_first ≡ 4)
+unfolding everything schema_of_meta schema_of_items schema_of_first meta_table mutations_table journal_table no_table
+next_trees = (refl, refl, refl)
+
+-- ---- what one CREATE TABLE leaves
+
+pub creates : (old new : State) (schema : Schema) (text : List ℕ) (table : Table) (r : Result ℕ Error) → old.now.schema ≡ schema → Reads schema text → table ≡ defined (table_defined_by text) → lacks_sequence (created schema table) ≡ false
     → ExecutesInside 0 text [] old new r → OnOk r (MakesTable schema table old new)
 creates old new schema text table (Err e) has reads is plain h = tt
 creates old new schema text table (Ok count) has reads is plain h =
-    let w = subst (λ t. Writes old new None CreateTable t [] count) reads.statement (runs_as text [] old new schema has CreateTable reads.command reads.plain count h.0) in
+    let w = subst (λ t. Writes old new None MakeTable t [] count) reads.statement (runs_as text [] old new schema has MakeTable reads.command reads.plain count h.0) in
     let all = went w.changed in
     let first = went all.1 in
     let it = first.1 in
@@ -92,7 +102,7 @@ unfolding mutations_table schema_of_items
 creates_mutations old new r has h = creates old new schema_of_meta CREATE_MUTATIONS.now mutations_table r has reads_mutations refl no_counters.1 h
 
 pub creates_journal : (old new : State) (r : Result ℕ Error) → old.now.schema ≡ schema_of_items → ExecutesInside 0 CREATE_JOURNAL.now [] old new r → OnOk r (MakesTable schema_of_items journal_table old new)
-unfolding journal_table schema_of_book
+unfolding journal_table schema_of_first
 creates_journal old new r has h = creates old new schema_of_items CREATE_JOURNAL.now journal_table r has reads_journal refl no_counters.2 h
 
 -- each schema is the one before with its table
@@ -104,7 +114,11 @@ pub after_items : created schema_of_meta mutations_table ≡ schema_of_items
 unfolding schema_of_items
 after_items = refl
 
-after_book : created schema_of_items journal_table ≡ schema_of_book
+pub after_first : created schema_of_items journal_table ≡ schema_of_first
+unfolding schema_of_first
+after_first = refl
+
+after_book : created schema_of_first second_table ≡ schema_of_book
 unfolding schema_of_book
 after_book = refl
 
@@ -116,26 +130,37 @@ both_kept : (old new : Trees) → KeepsRows schema_of_items.tables old new → (
 unfolding everything schema_of_meta schema_of_items meta_table mutations_table no_table
 both_kept old new kept = (kept.0, kept.1.0)
 
-blank_rows : (trees : Trees) → trees 0 ≡ [] → trees 1 ≡ [] → trees 2 ≡ [] → HoldsBook trees blank
-blank_rows trees a b c = record {
-  meta = subst (IsPermutation []) (sym a) (IsPermutation-refl []);
-  mutations = subst (IsPermutation []) (sym b) (IsPermutation-refl []);
-  journal = record { rising = tt; same = subst (IsPermutation []) (sym c) (IsPermutation-refl []) };
+three_kept : (old new : Trees) → KeepsRows schema_of_first.tables old new → (new 0 ≡ old 0) × (new 1 ≡ old 1) × (new 2 ≡ old 2)
+unfolding everything schema_of_meta schema_of_items schema_of_first meta_table mutations_table journal_table no_table
+three_kept old new kept = (kept.0, kept.1.0, kept.1.1.0)
+
+bare : (rows : List Row) → rows ≡ [] → IsPermutation [] rows
+bare rows none = subst (IsPermutation []) (sym none) (IsPermutation-refl [])
+
+blank_rows : (trees : Trees) → trees 0 ≡ [] → trees 1 ≡ [] → trees 2 ≡ [] → trees 4 ≡ [] → HoldsBook format trees blank
+blank_rows trees a b c d = record {
+  meta = bare (trees 0) a;
+  mutations = bare (trees 1) b;
+  journal = record { rising = tt; fit = tt; same = bare (trees 4) d };
+  other = c;
 }
 
--- what the three leave
-pub made : (s a b c : State) → MakesTable no_schema meta_table s a → MakesTable schema_of_meta mutations_table a b → MakesTable schema_of_items journal_table b c → HasCreated s c
-made s a b c x y z =
+-- what the four leave
+pub made : (s a b c d : State) → MakesTable no_schema meta_table s a → MakesTable schema_of_meta mutations_table a b → MakesTable schema_of_items journal_table b c → MakesTable schema_of_first second_table c d → HasCreated s d
+made s a b c d x y z w =
+    let last = three_kept c.now.trees d.now.trees w.others in
     let kept = both_kept b.now.trees c.now.trees z.others in
     let second : b.now.trees 1 ≡ [] = subst (λ t. b.now.trees t ≡ []) next_trees.0 y.empty in
     let third : c.now.trees 2 ≡ [] = subst (λ t. c.now.trees t ≡ []) next_trees.1 z.empty in
+    let fourth : d.now.trees 4 ≡ [] = subst (λ t. d.now.trees t ≡ []) next_trees.2 w.empty in
+    let schema : d.now.schema ≡ format = w.schema_is ∙ after_book ∙ format_is in
     record {
       was_open = x.was_open;
-      tables = z.schema_is ∙ after_book ∙ format_is;
+      tables = schema;
       shows = record {
-        sound = z.sound;
-        tables = subst IsBookSchema (sym (z.schema_is ∙ after_book ∙ format_is)) book_is;
-        rows = blank_rows c.now.trees (kept.0 ∙ first_kept a.now.trees b.now.trees y.others ∙ x.empty) (kept.1 ∙ second) third;
+        sound = w.sound;
+        tables = subst IsBookSchema (sym schema) book_is;
+        rows = subst (λ s. HoldsBook s d.now.trees blank) (sym schema) (blank_rows d.now.trees (last.0 ∙ kept.0 ∙ first_kept a.now.trees b.now.trees y.others ∙ x.empty) (last.1 ∙ kept.1 ∙ second) (last.2 ∙ third) fourth);
       };
-      committed = z.committed ∙ y.committed ∙ x.committed;
+      committed = w.committed ∙ z.committed ∙ y.committed ∙ x.committed;
     }

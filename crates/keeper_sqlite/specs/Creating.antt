@@ -7,10 +7,10 @@ use Rattle.sqlite.specs.Compile.{table_defined_by}
 use Rattle.sqlite.specs.Change.{created, next_tree, KeepsRows}
 use Rattle.sqlite.specs.Effect.{IsDatabase}
 use Rattle.sqlite.specs.State.{State}
-use Rattle.keeper_sqlite.specs.declared.statements.TheConstants.{CREATE_META, CREATE_MUTATIONS, CREATE_JOURNAL}
+use Rattle.keeper_sqlite.specs.declared.statements.TheConstants.{CREATE_META, CREATE_MUTATIONS, CREATE_JOURNAL, CREATE_SECOND}
 use Rattle.keeper_sqlite.specs.Tables.{rowid_table, no_schema}
 
--- it stands for a text that defines no table, as none of the three does
+-- it stands for a text that defines no table, as none of the four does
 unfoldable pub no_table : Table
 no_table = rowid_table [] 0 [] (record { primary = []; uniques = []; orders = []; checks = [] })
 
@@ -27,15 +27,21 @@ mutations_table = defined (table_defined_by CREATE_MUTATIONS.now)
 unfoldable pub journal_table : Table
 journal_table = defined (table_defined_by CREATE_JOURNAL.now)
 
--- the schema with the first table, the first two, and all three
+unfoldable pub second_table : Table
+second_table = defined (table_defined_by CREATE_SECOND.now)
+
+-- the schema with the first table, the first two, the first three, and all four
 unfoldable pub schema_of_meta : Schema
 schema_of_meta = created no_schema meta_table
 
 unfoldable pub schema_of_items : Schema
 schema_of_items = created schema_of_meta mutations_table
 
+unfoldable pub schema_of_first : Schema
+schema_of_first = created schema_of_items journal_table
+
 unfoldable pub schema_of_book : Schema
-schema_of_book = created schema_of_items journal_table
+schema_of_book = created schema_of_first second_table
 
 -- A statement of a transaction has added this table to this schema. It has no row, and the other tables have theirs.
 pub record MakesTable (schema : Schema) (table : Table) (old new : State) : Type 0 where

@@ -1,4 +1,5 @@
--- The format of the database: the three tables with all their constraints, as `sqlite` understands the statements that make them.
+-- The format of the database: the four tables with all their constraints, as `sqlite` understands the statements that make them, and the
+-- three of a database that was made before there was a second format.
 use Rattle.std.specs.Prelude.{ℕ, pos, true, [], ◌∷◌, codes}
 use Rattle.sqlite.specs.Collation.TheVariants.{Binary}
 use Rattle.sqlite.specs.declared.types.Value.TheVariants.{Int}
@@ -7,7 +8,7 @@ use Rattle.sqlite.specs.Term.{Term, col, lit, op2}
 use Rattle.sqlite_sql.specs.declared.ops.BinaryOp.TheVariants.{And, Compare}
 use Rattle.sqlite_sql.specs.declared.ops.CompareOp.TheVariants.{Ge, Le}
 use Rattle.sqlite_schema.specs.declared.schema.Index.{Index}
-use Rattle.keeper_sqlite.specs.Tables.{Constraints, book_schema}
+use Rattle.keeper_sqlite.specs.Tables.{Constraints, FirstTables, BookTables, first_schema, book_schema}
 
 -- CHECK(c BETWEEN 0 AND 4294967295), where c has this place in the row: 0 is the key, and the columns have the places from 1 on
 abbrev pub is_u32 : ℕ → Term
@@ -30,6 +31,29 @@ of_journal = record {
 abbrev pub pair_index : Index
 pair_index = record { name = codes "sqlite_autoindex_journal_1"; tree = 3; table = 2; columns = 2 ∷ 3 ∷ []; order = record { digits = 0 }; is_unique = true }
 
--- the three tables, and nothing else
+-- of `journal2`: each number is a u32, and UNIQUE(mutation, test, bound)
+abbrev pub of_second : Constraints
+of_second = record {
+  primary = 0 ∷ [];
+  uniques = (2 ∷ 3 ∷ 7 ∷ []) ∷ [];
+  orders = record { digits = 0 } ∷ [];
+  checks = is_u32 0 ∷ is_u32 2 ∷ is_u32 3 ∷ is_u32 4 ∷ is_u32 5 ∷ is_u32 6 ∷ is_u32 7 ∷ [];
+}
+
+-- the index that SQLite makes for its UNIQUE
+abbrev pub bound_index : Index
+bound_index = record { name = codes "sqlite_autoindex_journal2_1"; tree = 5; table = 4; columns = 2 ∷ 3 ∷ 7 ∷ []; order = record { digits = 0 }; is_unique = true }
+
+-- the three tables that the first format has, and nothing else
+abbrev pub first_tables : FirstTables
+first_tables = record { meta = of_items; mutations = of_items; journal = of_journal; index = pair_index }
+
+abbrev pub first_format : Schema
+first_format = first_schema first_tables
+
+-- the four tables, and nothing else
+abbrev pub tables : BookTables
+tables = record { meta = of_items; mutations = of_items; journal = of_journal; second = of_second; indexes = pair_index ∷ bound_index ∷ [] }
+
 abbrev pub format : Schema
-format = book_schema of_items of_items of_journal (pair_index ∷ [])
+format = book_schema tables

@@ -3,6 +3,7 @@ pub mod Format
 pub mod Rows
 pub mod Changes
 pub mod Writing
+pub mod Upgrading
 pub mod Stands
 pub mod Creating
 pub mod Making

@@ -11,7 +11,9 @@ use Rattle.sqlite.specs.Steps.{FailsToCommit}
 use Rattle.mcy_keeper.specs.declared.book.Entry.{Entry}
 use Rattle.keeper_sqlite.specs.declared.refusal.Refusal.{Refusal}
 use Rattle.keeper_sqlite.specs.declared.refusal.Refusal.TheVariants.{Memory, Database}
-use Rattle.keeper_sqlite.specs.declared.statements.TheConstants.{INSERT_ENTRY, PROBE}
+use Rattle.keeper_sqlite.specs.declared.statements.TheConstants.{INSERT_ENTRY, INSERT_BOUNDED, PROBE}
+use Rattle.keeper_sqlite.specs.declared.read.JournalTable.{JournalTable}
+use Rattle.keeper_sqlite.specs.declared.read.JournalTable.TheVariants.{First, Second}
 use Rattle.keeper_sqlite.specs.Rows.{shown_entry}
 
 abbrev pub refusal_of : Error → Refusal
@@ -49,9 +51,14 @@ FailsBy Cause (Some old) (Some new) = Cause old new
 
 -- Why an entry is not added, but for want of memory: there is no connection, or a transaction is open, or the INSERT was
 -- refused, or after it the probe.
-module _ {S : Type 0} (g : Ghosts S) where
-  abbrev pub IsNotAdded : Held S → Held S → Entry → Type 0
-  IsNotAdded old new entry = IsTrue (state g old).in_transaction ⊎ ((between : Held S) × (IsRefused INSERT_ENTRY.now (shown_entry entry) (state g old) (state g between) ⊎ IsNotProbed (state g between) (state g new)))
+abbrev pub insert_into : JournalTable → List ℕ
+insert_into First = INSERT_ENTRY.now
+insert_into Second = INSERT_BOUNDED.now
 
-  abbrev pub IsNotAppended : Option (Held S) → Option (Held S) → Entry → Type 0
-  IsNotAppended old new entry = FailsBy (λ from to. IsNotAdded from to entry) old new
+module _ {S : Type 0} (g : Ghosts S) where
+  abbrev pub IsNotAdded : JournalTable → Held S → Held S → Entry → Type 0
+  IsNotAdded table old new entry =
+      IsTrue (state g old).in_transaction ⊎ ((between : Held S) × (IsRefused (insert_into table) (shown_entry table entry) (state g old) (state g between) ⊎ IsNotProbed (state g between) (state g new)))
+
+  abbrev pub IsNotAppended : JournalTable → Option (Held S) → Option (Held S) → Entry → Type 0
+  IsNotAppended table old new entry = FailsBy (λ from to. IsNotAdded table from to entry) old new

@@ -8,18 +8,29 @@ use Rattle.sqlite.specs.State.{State, HasCleanDisk}
 use Rattle.sqlite.specs.Held.{Held, state}
 use Rattle.mcy_keeper.specs.declared.book.Book.{Book}
 use Rattle.mcy_keeper.specs.Books.{blank}
-use Rattle.keeper_sqlite.specs.Tables.{IsBookSchema, no_schema}
-use Rattle.keeper_sqlite.specs.Rows.{HoldsBook}
+use Rattle.keeper_sqlite.specs.declared.read.JournalTable.{JournalTable}
+use Rattle.keeper_sqlite.specs.Tables.{IsBookSchema, IsFirstSchema, no_schema}
+use Rattle.keeper_sqlite.specs.Rows.{HoldsBook, table_of}
 
--- a database with the tables of a book, whose rows are those of this book
-pub record IsBookOf (schema : Schema) (trees : Trees) (book : Book) : Type 0 where
+-- a database with such tables, whose rows are those of this book
+pub record IsBookIn (Tables : Schema → Type 0) (schema : Schema) (trees : Trees) (book : Book) : Type 0 where
   pub sound : IsDatabase (record { schema = schema; trees = trees })
-  pub tables : IsBookSchema schema
-  pub rows : HoldsBook trees book
+  pub tables : Tables schema
+  pub rows : HoldsBook schema trees book
 
--- The trees are a database of this book. A database with no table stands for the empty book.
+-- with the four tables of a book
+abbrev pub IsBookOf : Schema → Trees → Book → Type 0
+IsBookOf = IsBookIn IsBookSchema
+
+-- with the three of a database that knows the first format alone
+abbrev pub IsFirstBookOf : Schema → Trees → Book → Type 0
+IsFirstBookOf = IsBookIn IsFirstSchema
+
+-- The trees are a database of this book, with the four tables or the three. A database with no table stands for the empty book.
 abbrev pub StandsFor : Trees → Book → Type 0
-StandsFor trees book = ((schema : Schema) × IsBookOf schema trees book) ⊎ (IsDatabase (record { schema = no_schema; trees = trees }) × (book ≡ blank))
+StandsFor trees book =
+    ((schema : Schema) × IsBookOf schema trees book)
+    ⊎ (((schema : Schema) × IsFirstBookOf schema trees book) ⊎ (IsDatabase (record { schema = no_schema; trees = trees }) × (book ≡ blank)))
 
 -- the trees stand for this book, or for none
 abbrev pub StandsAs : Trees → Option Book → Type 0
@@ -40,10 +51,10 @@ module _ {S : Type 0} (g : Ghosts S) where
   Tells None = ⊥
   Tells (Some c) = HasCleanDisk (state g c)
 
-  -- while it is settled, the book that the connection shows and has committed
-  abbrev pub Holds : Option (Held S) → Bool → Book → Type 0
-  Holds None settled book = ⊥
-  Holds (Some c) settled book = IsTrue settled × HasCleanDisk (state g c) × IsTold (state g c) book
+  -- while it is settled, the book that the connection shows and has committed, whose rows are in the journal that the keeper writes to
+  abbrev pub Holds : Option (Held S) → Bool → JournalTable → Book → Type 0
+  Holds None settled table book = ⊥
+  Holds (Some c) settled table book = IsTrue settled × HasCleanDisk (state g c) × IsTold (state g c) book × (table_of book ≡ table)
 
   -- some trees that the store may leave stand for this book, or for none
   abbrev pub Leaves : Option (Held S) → Option Book → Type 0

@@ -1,4 +1,5 @@
--- The three tables of a book, as `sqlite` understands their CREATE TABLE statements: `meta`, `mutations` and `journal`.
+-- The tables of a book, as `sqlite` understands their CREATE TABLE statements: `meta`, `mutations`, and `journal` and `journal2`, of
+-- which the first has the rows of a book of the first format, and the second those of any other.
 use Rattle.std.specs.Prelude.{◌≡◌, true, false, [], ◌∷◌, Some, codes, List, ℕ}
 use Rattle.sqlite.specs.Collation.TheVariants.{Binary}
 use Rattle.sqlite.specs.declared.types.Value.TheVariants.{Null}
@@ -56,21 +57,63 @@ abbrev pub journal_columns : List Column
 journal_columns =
     key_column (codes "seq") ∷ number_column (codes "mutation") ∷ number_column (codes "test") ∷ number_column (codes "word") ∷ number_column (codes "mark") ∷ number_column (codes "tags") ∷ []
 
--- the three tables, of which nothing else is told than these columns, and the indexes that their keys make
-abbrev pub book_schema : Constraints → Constraints → Constraints → List Index → Schema
-book_schema meta mutations journal indexes = record {
-  tables = rowid_table (codes "meta") 0 meta_columns meta ∷ rowid_table (codes "mutations") 1 mutation_columns mutations ∷ rowid_table (codes "journal") 2 journal_columns journal ∷ [];
-  indexes = indexes;
-  views = [];
-}
+-- those of `journal`, and the bound
+abbrev pub second_columns : List Column
+second_columns =
+    key_column (codes "seq") ∷ number_column (codes "mutation") ∷ number_column (codes "test") ∷ number_column (codes "word") ∷ number_column (codes "mark") ∷ number_column (codes "tags")
+    ∷ number_column (codes "bound") ∷ []
 
--- the schema is that of a book, whatever its constraints are
-pub record IsBookSchema (schema : Schema) : Type 0 where
+-- What of the three tables of an older database is not told by their columns: their constraints, and the index that the UNIQUE of
+-- `journal` makes. It has the tree 3, so that the next table has the tree 4.
+pub record FirstTables : Type 0 where
   pub meta : Constraints
   pub mutations : Constraints
   pub journal : Constraints
+  pub index : Index
+
+-- what of the four tables is not told by their columns: their constraints, and the indexes that their keys make
+pub record BookTables : Type 0 where
+  pub meta : Constraints
+  pub mutations : Constraints
+  pub journal : Constraints
+  pub second : Constraints
   pub indexes : List Index
-  pub is : schema ≡ book_schema meta mutations journal indexes
+
+-- the three tables of a database that knows the first format alone
+abbrev pub first_schema : FirstTables → Schema
+first_schema t = record {
+  tables = rowid_table (codes "meta") 0 meta_columns t.meta ∷ rowid_table (codes "mutations") 1 mutation_columns t.mutations ∷ rowid_table (codes "journal") 2 journal_columns t.journal ∷ [];
+  indexes = record t.index { tree = 3 } ∷ [];
+  views = [];
+}
+
+-- the four tables
+abbrev pub book_schema : BookTables → Schema
+book_schema t = record {
+  tables =
+      rowid_table (codes "meta") 0 meta_columns t.meta ∷ rowid_table (codes "mutations") 1 mutation_columns t.mutations ∷ rowid_table (codes "journal") 2 journal_columns t.journal
+      ∷ rowid_table (codes "journal2") 4 second_columns t.second ∷ [];
+  indexes = t.indexes;
+  views = [];
+}
+
+-- the schema is that of a book in the first format alone, whatever its constraints are
+pub record IsFirstSchema (schema : Schema) : Type 0 where
+  pub of : FirstTables
+  pub is : schema ≡ first_schema of
+
+-- the schema is that of a book, whatever its constraints are
+pub record IsBookSchema (schema : Schema) : Type 0 where
+  pub of : BookTables
+  pub is : schema ≡ book_schema of
+
+-- the tree of the fourth table
+abbrev pub tree_of_fourth : List Table → ℕ
+tree_of_fourth (a ∷ b ∷ c ∷ d ∷ more) = d.tree
+tree_of_fourth _ = 0
+
+abbrev pub second_tree : Schema → ℕ
+second_tree schema = tree_of_fourth schema.tables
 
 -- no table at all
 abbrev pub no_schema : Schema

@@ -1,17 +1,23 @@
 -- What the statements of a transaction write.
-use Rattle.std.specs.Prelude.{◌≡◌, ◌≢◌, ℕ, ◌<◌, List, ◌++◌, false, IsTrue, IsPermutation, Result, OnOk}
+use Rattle.std.specs.Prelude.{◌≡◌, ◌≢◌, ◌⊎◌, ℕ, ◌<◌, List, ◌++◌, false, IsTrue, IsPermutation, Result, OnOk}
 use Rattle.sqlite.specs.Order.{Row}
 use Rattle.sqlite.specs.Tree.{Trees}
 use Rattle.sqlite.specs.Effect.{Database, IsDatabase}
 use Rattle.sqlite.specs.State.{State, HasCleanDisk, KeepsCommit, Survives}
-use Rattle.keeper_sqlite.specs.Tables.{IsBookSchema}
-use Rattle.keeper_sqlite.specs.Rows.{item_rows}
+use Rattle.sqlite.specs.Schema.{Schema}
+use Rattle.keeper_sqlite.specs.declared.read.JournalTable.{JournalTable}
+use Rattle.keeper_sqlite.specs.Tables.{IsBookSchema, second_tree}
+use Rattle.keeper_sqlite.specs.Rows.{item_rows, rows_in}
+
+-- the tree is that of a table of the book
+abbrev pub IsOfBook : Schema → ℕ → Type 0
+IsOfBook schema t = (t < 3) ⊎ (t ≡ second_tree schema)
 
 -- the table has these rows more, and nothing else is changed
 pub record Wrote (tree : ℕ) (rows : List Row) (old new : State) : Type 0 where
   pub schema : new.now.schema ≡ old.now.schema
   pub own : IsPermutation (rows ++ old.now.trees tree) (new.now.trees tree)
-  pub others : (t : ℕ) → t ≢ tree → t < 3 → new.now.trees t ≡ old.now.trees t
+  pub others : (t : ℕ) → t ≢ tree → IsOfBook old.now.schema t → new.now.trees t ≡ old.now.trees t
   pub sound : IsDatabase old.now → IsDatabase new.now
   pub committed : new.committed ≡ old.committed
   pub mode : IsTrue new.in_transaction
@@ -28,7 +34,7 @@ pub record BeginsRows (old new : Database) (meta mutations : List (List ℕ)) : 
   pub schema : new.schema ≡ old.schema
   pub meta_rows : IsPermutation (item_rows 0 meta ++ old.trees 0) (new.trees 0)
   pub mutation_rows : IsPermutation (item_rows 0 mutations ++ old.trees 1) (new.trees 1)
-  pub journal_rows : new.trees 2 ≡ old.trees 2
+  pub journal_rows : (table : JournalTable) → rows_in new.schema new.trees table ≡ rows_in old.schema old.trees table
   pub sound : IsDatabase old → IsDatabase new
 
 -- the book has begun, and is committed

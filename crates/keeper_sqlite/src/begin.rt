@@ -5,7 +5,8 @@ ghost use Rattle.sqlite.specs.State.{HasCleanDisk, Survives};
 ghost use Rattle.mcy_keeper.specs.declared.book.Book.{Book as Pages};
 ghost use Rattle.mcy_keeper.specs.Books.{IsBlank, begun, Keeps, LeavesEither, LeavesNothingNew};
 ghost use Rattle.keeper_sqlite.specs.Tables.{IsBookSchema};
-ghost use Rattle.keeper_sqlite.specs.Rows.{item_rows, tree_of};
+ghost use Rattle.keeper_sqlite.specs.declared.read.JournalTable.{JournalTable};
+ghost use Rattle.keeper_sqlite.specs.Rows.{item_rows, table_of, tree_of};
 ghost use Rattle.keeper_sqlite.specs.Changes.{IsKept, IsKeptIfOpen};
 ghost use Rattle.keeper_sqlite.specs.Writing.{HasBegunBook, MayBegin, WritesInside};
 ghost use Rattle.keeper_sqlite.specs.Stands.{Tells, Holds, Leaves};
@@ -85,9 +86,9 @@ pub(crate) fn begin_through<S: Alter>(
 ) -> Result<(), Refusal>
     ensures connected { is_some connection.new ≡ is_some connection.old }
     ensures tells { Tells S.Store connection.new → Tells S.Store connection.old }
-    ensures done { Tells S.Store connection.new → OnOk result ((was : Pages) → Holds S.Store connection.old true was → IsBlank was → Keeps (Holds S.Store connection.new true) (Leaves S.Store connection.new) (begun meta.now mutations.now)) }
-    ensures either { Tells S.Store connection.new → OnErr result ((was : Pages) → Holds S.Store connection.old true was → IsBlank was → LeavesEither (Leaves S.Store connection.new) was (begun meta.now mutations.now)) }
-    ensures same { Tells S.Store connection.new → IsErrOf result Refusal.Memory → (was : Pages) → Holds S.Store connection.old true was → Holds S.Store connection.new true was }
+    ensures done { Tells S.Store connection.new → OnOk result ((table : JournalTable) (was : Pages) → Holds S.Store connection.old true table was → IsBlank was → Keeps (Holds S.Store connection.new true (table_of (begun meta.now mutations.now))) (Leaves S.Store connection.new) (begun meta.now mutations.now)) }
+    ensures either { Tells S.Store connection.new → OnErr result ((table : JournalTable) (was : Pages) → Holds S.Store connection.old true table was → IsBlank was → LeavesEither (Leaves S.Store connection.new) was (begun meta.now mutations.now)) }
+    ensures same { Tells S.Store connection.new → IsErrOf result Refusal.Memory → (table : JournalTable) (was : Pages) → Holds S.Store connection.old true table was → Holds S.Store connection.new true table was }
     ensures refused { Tells S.Store connection.new → IsErrOf result Refusal.Memory → LeavesNothingNew (Leaves S.Store connection.old) (Leaves S.Store connection.new) }
     ensures fault { Tells S.Store connection.new → IsErrOf result Refusal.Database → FailsToBegin S.Store connection.old connection.new meta.now mutations.now }
 {

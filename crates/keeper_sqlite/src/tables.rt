@@ -1,13 +1,15 @@
 //! Whether a schema is that of a book.
 //!
 //! Each table has its columns, in their order, with their names and types, and no other table or view
-//! stands beside the three. Constraints are not compared: they may refuse a row, and never change what a
-//! row says. So each schema of a book is taken, whatever its constraints are.
+//! stands beside them: the four of a book, or the three of a database that knows the first format alone, with the
+//! one index that the UNIQUE of its journal makes. Constraints are not compared: they may refuse a row, and never
+//! change what a row says. So each schema of a book is taken, whatever its constraints are.
 ghost use Rattle.std.specs.Prelude.{◌≡◌, Some, false, true, [], ◌∷◌, codes, IsTrue};
 ghost use Rattle.sqlite.specs.declared.types.Value.TheVariants.{Null};
-ghost use Rattle.keeper_sqlite.specs.Tables.{key_column, number_column, blob_column, meta_columns, mutation_columns, journal_columns, rowid_table, constraints, IsTable, IsBookSchema, no_schema};
+ghost use Rattle.sqlite_schema.specs.declared.schema.Index.{Index as Of};
+ghost use Rattle.keeper_sqlite.specs.Tables.{key_column, number_column, blob_column, meta_columns, mutation_columns, journal_columns, second_columns, rowid_table, constraints, IsTable, IsBookSchema, IsFirstSchema, no_schema};
 
-use sqlite_schema::schema::{Column, Kind, Schema, Stamps, Table};
+use sqlite_schema::schema::{Column, Index, Kind, Schema, Stamps, Table};
 use sqlite_value::keys::Collation;
 use sqlite_value::value::Value;
 
@@ -103,6 +105,16 @@ fn are_journal_columns(columns: &[Column]) -> bool
     is_number(tags, b"tags")
 }
 
+fn are_second_columns(columns: &[Column]) -> bool
+    ensures is { IsTrue result → columns.now ≡ second_columns }
+    ensures taken { columns.now ≡ second_columns → IsTrue result }
+{
+    match columns {
+        [entry @ .., bound] => are_journal_columns(entry) && is_number(bound, b"bound"),
+        [] => false,
+    }
+}
+
 fn is_meta(table: &Table) -> bool
     ensures is { IsTrue result → table.now ≡ rowid_table (codes "meta") 0 meta_columns (constraints table.now) }
     ensures taken { table.now ≡ rowid_table (codes "meta") 0 meta_columns (constraints table.now) → IsTrue result }
@@ -124,10 +136,42 @@ fn is_journal(table: &Table) -> bool
     is_table(table, b"journal", 2) && are_journal_columns(table.columns.as_slice())
 }
 
+fn is_second(table: &Table) -> bool
+    ensures is { IsTrue result → table.now ≡ rowid_table (codes "journal2") 4 second_columns (constraints table.now) }
+    ensures taken { table.now ≡ rowid_table (codes "journal2") 4 second_columns (constraints table.now) → IsTrue result }
+{
+    is_table(table, b"journal2", 4) && are_second_columns(table.columns.as_slice())
+}
+
+/// The index that the UNIQUE of `journal` makes, and no other.
+fn is_own_index(indexes: &[Index]) -> bool
+    ensures is { IsTrue result → (i : Of) × (indexes.now ≡ record i { tree = 3 } ∷ []) }
+    ensures taken { (i : Of) → indexes.now ≡ record i { tree = 3 } ∷ [] → IsTrue result }
+{
+    match indexes {
+        [index] => index.tree == 3,
+        _ => false,
+    }
+}
+
 /// Whether the tables are those of a book.
 pub fn is_book_schema(schema: &Schema) -> bool
     ensures is { IsTrue result → IsBookSchema schema.now }
     ensures taken { IsBookSchema schema.now → IsTrue result }
+{
+    let [meta, mutations, journal, second] = schema.tables.as_slice() else {
+        return false;
+    };
+    if !is_meta(meta) || !is_mutations(mutations) || !is_journal(journal) {
+        return false;
+    }
+    is_second(second) && schema.views.is_empty()
+}
+
+/// Whether the tables are those of a database that knows the first format alone.
+pub fn is_first_schema(schema: &Schema) -> bool
+    ensures is { IsTrue result → IsFirstSchema schema.now }
+    ensures taken { IsFirstSchema schema.now → IsTrue result }
 {
     let [meta, mutations, journal] = schema.tables.as_slice() else {
         return false;
@@ -135,7 +179,7 @@ pub fn is_book_schema(schema: &Schema) -> bool
     if !is_meta(meta) || !is_mutations(mutations) || !is_journal(journal) {
         return false;
     }
-    schema.views.is_empty()
+    is_own_index(schema.indexes.as_slice()) && schema.views.is_empty()
 }
 
 /// Whether there is no table, no index and no view.

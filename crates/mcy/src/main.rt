@@ -1,15 +1,15 @@
 //! `mcy`: one call over the real files, standard output and the database of the current folder.
 //!
 //! The words, the files, the sink and the database are made here and nowhere else. What the call does is
-//! `call_on_file`'s. Where standard error is a terminal, a `Meter` tells there how far the campaign is, and main what to do next
-//! where a call was refused for what the database holds.
+//! `call_on_file`'s. Where standard error is a terminal, a `Meter` tells there how far the campaign is and which tests may be asked
+//! again, and main what to do next where a call was refused for what the database holds.
 #![tactic(auto)]
 
 use file_calls::call_on_file;
 use keeper_file::{Database, close_keeper};
 use keeper_opening::DatabaseFault;
 use mcy_outside::{RealFiles, RealSink, Sink};
-use mcy_terminal::{Meter, stop_of, words_of};
+use mcy_terminal::{Meter, asked_of, words_of};
 use mcy_top::{Outcome, exit_status, fault_line};
 use sqlite::{Start, Unknown};
 use std::io::{self, IsTerminal};
@@ -52,14 +52,19 @@ struct Ended {
 /// the call is so for every content.
 fn call_here<S: Start>(rt: HostRuntime, words: &[String], start: S) -> Ended {
     let alloc = rt.alloc();
-    let meter = Meter::new(rt, rt.stderr().is_terminal(), stop_of(alloc, words));
+    let asked = asked_of(alloc, words);
+    let meter = Meter::new(rt, alloc, rt.stderr().is_terminal(), asked);
     let mut out = RealSink::new(rt.stdout());
     let mut files = RealFiles::new(alloc, rt);
     let database = Database::new(rt, DATABASE, start);
     let (outcome, keeper, mut meter) = call_on_file(
         alloc, database, words, &mut files, meter, &mut out,
     );
-    meter.end();
+    match &outcome {
+        // The line was cleared after the last row; what stands now is the text.
+        Outcome::Done | Outcome::Unfinished(_) => meter.tell_unknown(),
+        _ => meter.end(),
+    }
     let fault = keeper.fault();
     // A log that was not copied stays beside the file, and the next call finds its rows.
     let _closed = close_keeper(keeper);

@@ -1,1 +1,2 @@
 mod FailedWrites
+mod Bounds

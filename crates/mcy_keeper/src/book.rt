@@ -1,11 +1,14 @@
 //! The book of a campaign: what is kept over stops and crashes.
 //!
 //! `meta` says what the campaign is about, `mutations` which mutations were selected, and `journal`
-//! what was found, row by row. A book of which all three are empty is one that has not begun. Nothing
-//! is ever taken out of a book: it begins once, and its journal grows at the end.
+//! what was found, row by row. A book of which all three are empty is one that has not begun. No entry
+//! is ever taken out of a book: it begins once, and its journal grows at the end. A book is of one of two
+//! formats, whose number is item 0 of `meta`; in the first no row has a bound. Its upgrade to the second
+//! alone changes rows, and in them the bound alone.
 ghost use Rattle.std.specs.Prelude.{◌≡◌, ◌↔◌, IsTrue, IfOk};
-ghost use Rattle.mcy_keeper.specs.Books.{IsBlank, begun, blank};
+ghost use Rattle.mcy_keeper.specs.Books.{IsBlank, IsFirst, IsSecond, begun, blank, upgraded};
 
+use crate::formats::{FIRST, SECOND, begins_with, in_second, with_bounds};
 use mcy_base::{BytesList, Items};
 use std::alloc::{AllocError, Global};
 
@@ -25,10 +28,15 @@ pub struct Entry {
     pub mark: u32,
     /// The tags that the script gave, tag i in bit i; 0 unless `mark` is 1.
     pub tags: u32,
+    /// The limit under which the word was found; 0 for a simulation, and in the first format.
+    pub bound: u32,
 }
 
 /// The rows of a journal, oldest first.
 pub type Journal = Items<Entry>;
+
+/// Bounds, the one in each place for the row in that place.
+pub type BoundList = Items<u32>;
 
 /// What a campaign keeps.
 #[derive(Drop)]
@@ -74,6 +82,31 @@ impl Book {
             meta: meta.copy(alloc)?,
             mutations: mutations.copy(alloc)?,
             journal: Journal::from_vec(Vec::new(alloc)),
+        })
+    }
+
+    /// Whether the book is of the first format.
+    pub fn is_first(&self) -> bool
+        ensures { IsTrue result ↔ IsFirst self.now }
+    {
+        begins_with(FIRST, self.meta.as_slice())
+    }
+
+    /// Whether the book is of the second format.
+    pub fn is_second(&self) -> bool
+        ensures { IsTrue result ↔ IsSecond self.now }
+    {
+        begins_with(SECOND, self.meta.as_slice())
+    }
+
+    /// The book in the second format, with these bounds.
+    pub(crate) fn upgraded(&self, alloc: Global, bounds: &BoundList) -> Result<Book, AllocError>
+        ensures { IfOk result (λ b. b ≡ upgraded bounds.now self.now) }
+    {
+        Ok(Book {
+            meta: in_second(alloc, self.meta.as_slice())?,
+            mutations: self.mutations.copy(alloc)?,
+            journal: with_bounds(alloc, bounds.as_slice(), self.journal.as_slice())?,
         })
     }
 

@@ -5,7 +5,7 @@ ghost use Rattle.std.specs.Prelude.{◌≡◌, Some, false};
 ghost use Rattle.std.proofs.Common.{refl, sym, ◌∙◌};
 ghost use Rattle.mcy_keeper.specs.Books.{blank};
 
-use crate::book::{Book, Entry};
+use crate::book::{Book, BoundList, Entry};
 use crate::keeper::{KeepError, Keeper};
 use mcy_base::BytesList;
 use std::alloc::Global;
@@ -72,6 +72,11 @@ impl Keeper for CleanKeeper {
 
     fn begin(&mut self, meta: &BytesList, mutations: &BytesList) -> Result<(), KeepError> {
         self.book = Book::begun(self.alloc, meta, mutations)?;
+        Ok(())
+    }
+
+    fn upgrade(&mut self, bounds: &BoundList) -> Result<(), KeepError> {
+        self.book = self.book.upgraded(self.alloc, bounds)?;
         Ok(())
     }
 

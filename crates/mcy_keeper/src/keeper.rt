@@ -6,15 +6,16 @@
 //! book alone, after one that failed the book from before or the one from after, whole, and never None.
 //! It leaves something always. Where it does not tell, only `is_settled` and `faults` speak.
 //!
-//! A keeper is settled from a load that ended well until a `begin` or an `append` fails; these two
-//! calls ask for a settled keeper. `faults` never falls, and rises in each call that answers `Fault`.
-ghost use Rattle.std.specs.Prelude.{◌≡◌, ◌≢◌, ℕ, Bool, false, [], Option, Some, IsTrue, IfOk, OnOk, OnErr, IsErrOf};
+//! A keeper is settled from a load that ended well until a `begin`, an `append` or an `upgrade` fails; these
+//! three calls ask for a settled keeper. `faults` never falls, and rises in each call that answers `Fault`.
+//! No call takes an entry away. `upgrade` alone changes rows, and in them the bound alone.
+ghost use Rattle.std.specs.Prelude.{◌≡◌, ◌≢◌, ℕ, Bool, false, [], length, Option, Some, IsTrue, IfOk, OnOk, OnErr, IsErrOf};
 ghost use Rattle.mcy_base.specs.Causes.{IsCaused};
 ghost use Rattle.mcy_keeper.specs.declared.book.Book.{Book as Pages};
 ghost use Rattle.mcy_keeper.specs.declared.keeper.KeepError.TheVariants.{Memory};
-ghost use Rattle.mcy_keeper.specs.Books.{begun, with_entry, IsBlank, IsNext, Keeps, LeavesEither, LeavesNothingNew, LeavesSome, TellsNone, TellsStill};
+ghost use Rattle.mcy_keeper.specs.Books.{begun, upgraded, with_entry, IsBlank, IsFirst, IsNext, Keeps, LeavesEither, LeavesNothingNew, LeavesSome, TellsNone, TellsStill};
 
-use crate::book::{Book, Entry};
+use crate::book::{Book, BoundList, Entry};
 use mcy_base::BytesList;
 use std::alloc::AllocError;
 
@@ -80,11 +81,30 @@ pub trait Keeper {
         ensures stays { IsErrOf result KeepError.Memory → IsTrue (is_settled self.new) }
         ensures cause { IsCaused (faults self.old) (faults self.new) (IsErrOf result KeepError.Fault) };
 
-    /// Adds an entry at the journal's end. It is in the place as a whole or not at all. Where the write
-    /// fails the answer is `Fault`, and only a load can tell which.
+    /// Moves a book of the first format to the second, in which each row has the bound in its place. It is
+    /// in the place as a whole or not at all. Where the write fails the answer is `Fault`, and only a load
+    /// can tell which.
+    fn upgrade(&mut self, bounds: &BoundList) -> Result<(), KeepError>
+        requires settled { IsTrue (is_settled self.old) }
+        requires first { (was : Pages) → holds self.old was → IsFirst was }
+        requires bounds { (was : Pages) → holds self.old was → length bounds.now ≡ length was.journal }
+        ensures tells { tells self.new → tells self.old }
+        ensures done { tells self.new → OnOk result ((was : Pages) → holds self.old was → Keeps (holds self.new) (leaves self.new) (upgraded bounds.now was)) }
+        ensures either { tells self.new → IsErrOf result KeepError.Fault → (was : Pages) → holds self.old was → LeavesEither (leaves self.new) was (upgraded bounds.now was) }
+        ensures untold { IsErrOf result KeepError.Fault → TellsNone (holds self.new) }
+        ensures same { tells self.new → IsErrOf result KeepError.Memory → TellsStill (holds self.old) (holds self.new) }
+        ensures refused { tells self.new → IsErrOf result KeepError.Memory → LeavesNothingNew (leaves self.old) (leaves self.new) }
+        ensures settles { OnOk result (IsTrue (is_settled self.new)) }
+        ensures unsettled { IsErrOf result KeepError.Fault → is_settled self.new ≡ false }
+        ensures stays { IsErrOf result KeepError.Memory → IsTrue (is_settled self.new) }
+        ensures cause { IsCaused (faults self.old) (faults self.new) (IsErrOf result KeepError.Fault) };
+
+    /// Adds an entry at the journal's end, without a bound in a book of the first format. It is in the place
+    /// as a whole or not at all. Where the write fails the answer is `Fault`, and only a load can tell which.
     fn append(&mut self, entry: &Entry) -> Result<(), KeepError>
         requires settled { IsTrue (is_settled self.old) }
         requires next { (was : Pages) → holds self.old was → IsNext was entry.now }
+        requires format { (was : Pages) → holds self.old was → IsFirst was → entry.now.bound ≡ 0 }
         ensures tells { tells self.new → tells self.old }
         ensures done { tells self.new → OnOk result ((was : Pages) → holds self.old was → Keeps (holds self.new) (leaves self.new) (with_entry was entry.now)) }
         ensures either { tells self.new → IsErrOf result KeepError.Fault → (was : Pages) → holds self.old was → LeavesEither (leaves self.new) was (with_entry was entry.now) }

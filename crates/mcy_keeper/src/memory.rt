@@ -8,10 +8,10 @@
 ghost use Rattle.std.specs.Prelude.{◌≡◌, Some, true, false, IsTrue};
 ghost use Rattle.std.proofs.Common.{refl, sym, ◌∙◌};
 ghost use Rattle.mcy_base.specs.Causes.{one_more};
-ghost use Rattle.mcy_keeper.specs.Books.{begun, blank, with_entry};
+ghost use Rattle.mcy_keeper.specs.Books.{begun, blank, upgraded, with_entry};
 ghost use Rattle.mcy_keeper.specs.MemoryKeeper.{Loads, Writes, called, failure};
 
-use crate::book::{Book, Entry};
+use crate::book::{Book, BoundList, Entry};
 use crate::keeper::{KeepError, Keeper};
 use mcy_base::{BytesList, at_call, call_after};
 use std::alloc::Global;
@@ -20,8 +20,8 @@ use std::marker::Model;
 /// A keeper in memory whose calls fail by a list.
 ///
 /// It counts all its calls other than `settled`, from 0. A call that the list numbers answers `Fault`, and
-/// no other call does; where its flag is true, a `begin` or an `append` leaves the new book all the same.
-/// Where there is no memory for that new book, the call answers `Memory` and leaves the old one.
+/// no other call does; where its flag is true, a `begin`, an `append` or an `upgrade` leaves the new book all
+/// the same. Where there is no memory for that new book, the call answers `Memory` and leaves the old one.
 #[derive(Drop)]
 pub struct MemoryKeeper {
     alloc: Global,
@@ -139,6 +139,24 @@ impl Keeper for MemoryKeeper {
             Some(whole) => {
                 if whole {
                     self.book = Book::begun(self.alloc, meta, mutations)?;
+                }
+                self.fail_write();
+                Err(KeepError::Fault)
+            }
+        }
+    }
+
+    fn upgrade(&mut self, bounds: &BoundList) -> Result<(), KeepError>
+        ensures { Writes self.old self.new (upgraded bounds.now self.old.book) result }
+    {
+        match self.count_call() {
+            None => {
+                self.book = self.book.upgraded(self.alloc, bounds)?;
+                Ok(())
+            }
+            Some(whole) => {
+                if whole {
+                    self.book = self.book.upgraded(self.alloc, bounds)?;
                 }
                 self.fail_write();
                 Err(KeepError::Fault)

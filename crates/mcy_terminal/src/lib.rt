@@ -1,8 +1,9 @@
 //! What `mcy` takes from its words and tells on a terminal beside the call itself: no promise of the call rests on it.
 #![tactic(auto)]
 
+mod marks;
 mod meter;
 mod words;
 
-pub use meter::Meter;
-pub use words::{stop_of, words_of};
+pub use meter::{Asked, Meter};
+pub use words::{asked_of, words_of};

@@ -1,10 +1,13 @@
 //! How far a running campaign is, told on standard error where that is a terminal, at most ten times a second.
 //!
 //! It is one line, which is written over itself and cleared after the last row, before the call writes its text. The cursor waits below
-//! it, so that a call which is cut off leaves a whole line. Nothing else depends on it: it is told of the rows that were added, reads
-//! the clock, and passes over what goes wrong with either.
+//! it, so that a call which is cut off leaves a whole line. Behind the text a line tells of the tests that are UNKNOWN, and which retry
+//! asks them again. Nothing else depends on it: it is told of the rows that were added, reads the clock, and passes over what goes wrong
+//! with either, or want of memory.
+use crate::marks::Marks;
 use mcy_base::BytesList;
 use mcy_keeper::{Book, Entry};
+use std::alloc::Global;
 use std::io;
 use std::rt::Clock;
 use std::time::{Duration, Instant};
@@ -34,17 +37,29 @@ impl Pace {
     }
 }
 
+/// What the words of a call say that a meter of it takes account of.
+#[derive(Clone, Copy)]
+pub struct Asked {
+    /// Whether the call tells the state of the campaign.
+    pub is_of_status: bool,
+    /// After how many tests it stops, if it was told so.
+    pub stop_after: Option<u32>,
+    /// Below which limit it asks tests again; 0 without one.
+    pub retry: u32,
+}
+
 /// How far a campaign is.
 #[derive(Drop)]
 pub struct Meter<R> {
     rt: R,
+    alloc: Global,
     /// Whether standard error is a terminal.
     is_shown: bool,
-    /// After how many tests the call stops, if it was told so.
-    stop_after: Option<u32>,
+    asked: Asked,
     mutations: u64,
-    /// How many mutations are finished, and how many tests ended in this call.
-    finished: u64,
+    /// What the rows say; none where nothing is to be told.
+    marks: Option<Marks>,
+    /// How many tests ended in this call.
     tests: u32,
     /// Nothing, where nothing is to be told.
     pace: Option<Pace>,
@@ -56,44 +71,63 @@ fn millis(time: Duration) -> u64 {
 }
 
 impl<R: Eprint + Clock> Meter<R> {
-    /// A meter of a call that stops after so many tests, if it was told so; it is shown where standard error is a terminal.
-    pub fn new(rt: R, is_shown: bool, stop_after: Option<u32>) -> Meter<R> {
+    /// A meter of a call with these words; it is shown where standard error is a terminal.
+    pub fn new(rt: R, alloc: Global, is_shown: bool, asked: Asked) -> Meter<R> {
         Meter {
             rt,
+            alloc,
             is_shown,
-            stop_after,
+            asked,
             mutations: 0,
-            finished: 0,
+            marks: None,
             tests: 0,
             pace: None,
         }
     }
 
-    /// Begins with so many mutations, of which so many are finished.
-    fn begin(&mut self, mutations: usize, finished: usize) {
-        self.mutations = mutations as u64;
-        self.finished = finished as u64;
+    /// Begins with so many mutations and these rows.
+    fn begin(&mut self, mutations: usize, rows: &[Entry]) {
         if !self.is_shown {
             return;
+        }
+        let Ok(mut marks) = Marks::new(self.alloc, mutations, self.asked.retry) else {
+            return;
+        };
+        for row in rows {
+            marks.add(row);
         }
         if let Ok(now) = Instant::now(&self.rt) {
             self.pace = Some(Pace {
                 begun: now,
-                finished: self.finished,
+                finished: marks.finished(),
                 written: None,
             });
+        }
+        self.mutations = mutations as u64;
+        self.marks = Some(marks);
+    }
+
+    /// How many mutations are finished.
+    fn finished(&self) -> u64 {
+        match &self.marks {
+            Some(marks) => marks.finished(),
+            None => 0,
         }
     }
 
     /// Whether no row is added after the last one.
     fn has_all(&self) -> bool {
-        self.finished >= self.mutations || self.stop_after == Some(self.tests)
+        let has_marks = match &self.marks {
+            Some(marks) => marks.has_all(),
+            None => true,
+        };
+        has_marks || self.asked.stop_after == Some(self.tests)
     }
 
     /// How many seconds are left at most, as far as the mutations that were finished in this call tell it.
     fn seconds_left(&self, pace: Pace, spent: u64) -> Option<u64> {
-        let left = self.mutations.saturating_sub(self.finished);
-        let done = self.finished.saturating_sub(pace.finished);
+        let left = self.mutations.saturating_sub(self.finished());
+        let done = self.finished().saturating_sub(pace.finished);
         let millis = left.saturating_mul(spent).checked_div(done)?;
         Some(millis / 1000 + 1)
     }
@@ -104,7 +138,7 @@ impl<R: Eprint + Clock> Meter<R> {
         let spent = millis(now.duration_since(pace.begun));
         let tests = (self.tests as u64).saturating_mul(1000).checked_div(spent);
         let speed = tests.unwrap_or(0);
-        let (finished, mutations) = (self.finished, self.mutations);
+        let (finished, mutations) = (self.finished(), self.mutations);
         let back = if pace.written.is_some() { BACK } else { "" };
         match self.seconds_left(pace, spent) {
             Some(seconds) => eprint!(self.rt;
@@ -141,23 +175,42 @@ impl<R: Eprint + Clock> Meter<R> {
             let _written = eprint!(self.rt; "{BACK}\r\x1b[K");
         }
     }
+
+    /// Tells how many tests are UNKNOWN, where there are some and this call tells their state, and which retry asks them again. In a
+    /// book of the first format no row tells of a bound.
+    pub fn tell_unknown(&self) {
+        let Some(marks) = &self.marks else {
+            return;
+        };
+        let count = marks.unknown();
+        if count == 0 || !self.asked.is_of_status {
+            return;
+        }
+        let _written = match marks.next_limit() {
+            None => Ok(()),
+            Some(_) if !marks.has_bound() => eprint!(self.rt;
+                "mcy: {count} UNKNOWN: run --retry N asks again, with N above the project's conflicts\n"
+            ),
+            Some(limit) => eprint!(self.rt;
+                "mcy: {count} UNKNOWN: run --retry {limit} asks again\n"
+            ),
+        };
+    }
 }
 
 impl<R: Eprint + Clock> Watcher for Meter<R> {
     fn loaded(&mut self, book: &Book) {
-        let rows = book.journal.as_slice().iter();
-        let finished = rows.filter(|row| row.mark != 0).count();
-        self.begin(book.mutations.as_slice().len(), finished);
+        self.begin(book.mutations.as_slice().len(), book.journal.as_slice());
     }
 
     fn begun(&mut self, mutations: &BytesList) {
-        self.begin(mutations.as_slice().len(), 0);
+        self.begin(mutations.as_slice().len(), &[]);
     }
 
     fn added(&mut self, entry: &Entry) {
         self.tests = self.tests.saturating_add(1);
-        if entry.mark != 0 {
-            self.finished = self.finished.saturating_add(1);
+        if let Some(marks) = &mut self.marks {
+            marks.add(entry);
         }
         if self.has_all() {
             self.end();

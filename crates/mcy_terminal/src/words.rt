@@ -1,4 +1,5 @@
 //! The words after the program's name.
+use crate::meter::Asked;
 use command_words::{Command, read_words};
 use std::alloc::{AllocError, Global};
 use std::env::{self, Env};
@@ -13,10 +14,16 @@ pub fn words_of<R: Env + Alloc<A = Global>>(rt: &R) -> io::Result<Vec<String>> {
     Ok(words)
 }
 
-/// After how many tests a call with these words stops, if they say so.
-pub fn stop_of(alloc: Global, words: &[String]) -> Option<u32> {
-    match read_words(alloc, words) {
-        Ok(Some(Command::Run { stop_after })) => stop_after,
-        _ => None,
+/// What a call with these words tells, when it stops and what it asks again.
+pub fn asked_of(alloc: Global, words: &[String]) -> Asked {
+    let (is_of_status, stop_after, retry) = match read_words(alloc, words) {
+        Ok(Some(Command::Run { stop_after, retry })) => (true, stop_after, retry.unwrap_or(0)),
+        Ok(Some(Command::Status)) => (true, None, 0),
+        _ => (false, None, 0),
+    };
+    Asked {
+        is_of_status,
+        stop_after,
+        retry,
     }
 }

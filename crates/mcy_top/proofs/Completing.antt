@@ -5,7 +5,7 @@ use Rattle.mcy_keeper.specs.Books.{IsBlank}
 use Rattle.mcy_outside.specs.Files.{Held}
 use Rattle.result_book.specs.declared.check.BookError.{BookError}
 use Rattle.result_book.specs.declared.check.BookError.TheVariants.{Stray, Memory as NoMemoryFor}
-use Rattle.result_book.specs.Rows.{IsWellFormed}
+use Rattle.result_book.specs.Rows.{meta_in_second, IsWellFormed}
 use Rattle.command_words.specs.declared.command.Command.{Command}
 use Rattle.command_words.specs.declared.command.Command.TheVariants.{Init, Run, List as Listing, Status, Source}
 use Rattle.campaign_plan.specs.declared.prepared.Prepared.{Prepared}
@@ -33,12 +33,12 @@ blank_meta book empty = ap (λ (b : Book). b.meta) empty
 
 -- a campaign's book is begun
 form_meta : (c : Prepared) (book : Book) → IsPlan c → IsWellFormed c.campaign book → book.meta ≢ []
-form_meta c book plan form none = let is : meta_of plan.config plan.files ≡ [] = sym (plan_meta c plan) ∙ sym form.meta ∙ none in cc
+form_meta c book plan form none = let is : meta_of plan.config plan.files ≡ [] = sym (plan_meta c plan) ∙ sym form.meta ∙ ap meta_in_second none in cc
 
 -- what a command takes is blank, or is the campaign's book
 taken_as : (command : Command) (c : Prepared) (book : Book) → Takes command c book → IsBlank book ⊎ IsWellFormed c.campaign book
 taken_as Init c book takes = inl takes
-taken_as (Run stop) c book takes = takes
+taken_as (Run stop retry) c book takes = takes
 taken_as Listing c book takes = inr takes
 taken_as Status c book takes = inr takes
 taken_as Source c book takes = inr takes
@@ -49,7 +49,7 @@ blank_not_bad c book (Stray mutations rows) empty bad = bad.1 empty
 blank_not_bad c book NoMemoryFor empty bad = bad
 blank_not_bad c book error empty bad = bad.0 (blank_meta book empty)
 
-form_not_bad : (c : Prepared) (book : Book) (error : BookError) → IsPlan c → IsWellFormed c.campaign book → ¬ IsBookBad c book error
+pub form_not_bad : (c : Prepared) (book : Book) (error : BookError) → IsPlan c → IsWellFormed c.campaign book → ¬ IsBookBad c book error
 form_not_bad c book (Stray mutations rows) plan form bad = form_meta c book plan form bad.0
 form_not_bad c book NoMemoryFor plan form bad = bad
 form_not_bad c book error plan form bad = bad.1 form
@@ -65,7 +65,7 @@ bad_not c book error plan (inr form) bad = form_not_bad c book error plan form b
 
 none_not : (command : Command) (c : Prepared) (book : Book) → IsPlan c → Takes command c book → ¬ RefusesBook command c book RefusedNone
 none_not Init c book plan takes refuses = refuses.1
-none_not (Run stop) c book plan takes refuses = refuses.1
+none_not (Run stop retry) c book plan takes refuses = refuses.1
 none_not Listing c book plan form refuses = form_meta c book plan form (blank_meta book refuses.0)
 none_not Status c book plan form refuses = form_meta c book plan form (blank_meta book refuses.0)
 none_not Source c book plan form refuses = form_meta c book plan form (blank_meta book refuses.0)

@@ -1,62 +1,79 @@
--- How many mutations are finished.
-use Rattle.std.proofs.Common.{◌≡◌, arith, ℕ, zero, suc, ◌+◌, ◌<◌, ◌≤◌, Bool, true, false, cond, count_by, List, [], ◌∷◌, map, refl, sym, ◌∙◌, ap, subst}
-use Rattle.std.proofs.lemmas.List.Sums.{count_by-le-length, sum_by-cons}
+-- How many mutations want a test.
+use Rattle.std.proofs.Common.{◌≡◌, arith, ℕ, zero, suc, ◌+◌, ◌<◌, ◌≤◌, true, false, List, Option, None, Some, refl, ap, subst}
+use Rattle.std.specs.Prelude.{is_some}
 use Rattle.mcy_keeper.specs.declared.book.Entry.{Entry}
-use Rattle.result_book.specs.declared.campaign.Campaign.{Campaign}
-use Rattle.tag_script.specs.declared.answer.Ask.{Ask}
-use Rattle.result_book.specs.Scripts.{Answer, ask, is_ended}
-use Rattle.result_book.specs.Rows.{answers_of, ask_on, groups, groups_from}
-use Rattle.result_book.proofs.Grouping.{length-groups_from}
+use Rattle.result_book.specs.declared.goal.Goal.{Goal}
+use Rattle.result_book.specs.declared.goal.Want.{Want}
+use Rattle.result_book.specs.Goals.{wanted}
+use Rattle.campaign_plan.specs.declared.prepared.Prepared.{Prepared}
+use Rattle.campaign_outcomes.specs.declared.outcome.Outcome.TheVariants.{Done}
+use Rattle.mcy_top.specs.Endings.{run_outcome}
+use Rattle.mcy_top.specs.Life.{wanting, wanting_from}
 
--- the script has ended on these answers
-abbrev pub has_ended : Campaign → List Answer → Bool
-has_ended c answers = is_ended (ask c answers)
-
-abbrev tally : Bool → ℕ
-tally b = cond b 1 0
-
--- a count, with one element more in front
-count-cons : {X : Type 0} (p : X → Bool) (x : X) (xs : List X) → count_by p (x ∷ xs) ≡ tally (p x) + count_by p xs
-count-cons p x xs = sum_by-cons (λ y. cond (p y) 1 0) x xs
-
--- where all have ended, all are counted
-pub counted_all : (c : Campaign) (m n : ℕ) (rows : List Entry) → ((k : ℕ) → k < n → is_ended (ask_on c (m + k) rows) ≡ true) → count_by (has_ended c) (groups_from m n rows) ≡ n
-counted_all c m zero rows each = refl
-counted_all c m (suc n) rows each =
+-- where none wants a test, none is counted
+pub counted_none : (c : Prepared) (goal : Goal) (rows : List Entry) (m n : ℕ) → ((k : ℕ) → k < n → wanted c.campaign rows (m + k) goal ≡ None) → wanting_from c goal rows m n ≡ 0
+counted_none c goal rows m zero each = refl
+counted_none c goal rows m (suc n) each =
     let here : m + 0 ≡ m = omega arith in
-    let first : has_ended c (answers_of m rows) ≡ true = subst (λ (j : ℕ). is_ended (ask_on c j rows) ≡ true) here (each 0 (omega arith)) in
-    let rest : count_by (has_ended c) (groups_from (m + 1) n rows) ≡ n = counted_all c (m + 1) n rows (λ k below. let place : m + suc k ≡ (m + 1) + k = omega arith in subst (λ (j : ℕ). is_ended (ask_on c j rows) ≡ true) place (each (suc k) (omega (arith, below)))) in
-    let one : tally (has_ended c (answers_of m rows)) ≡ tally true = ap tally first in
-    omega (arith, count-cons (has_ended c) (answers_of m rows) (groups_from (m + 1) n rows), rest, one)
+    let first : wanted c.campaign rows m goal ≡ None = subst (λ (j : ℕ). wanted c.campaign rows j goal ≡ None) here (each 0 (omega arith)) in
+    let rest : wanting_from c goal rows (m + 1) n ≡ 0 = counted_none c goal rows (m + 1) n (λ k below. let place : m + suc k ≡ (m + 1) + k = omega arith in subst (λ (j : ℕ). wanted c.campaign rows j goal ≡ None) place (each (suc k) (omega (arith, below)))) in
+    rw first (omega (arith, rest))
 
 -- the first of them, and the others
-split_count : (c : Campaign) (m n : ℕ) (rows : List Entry) (b : Bool) → has_ended c (answers_of m rows) ≡ b → count_by (has_ended c) (groups_from m (suc n) rows) ≡ suc n → (b ≡ true) × (count_by (has_ended c) (groups_from (m + 1) n rows) ≡ n)
-split_count c m n rows true is all =
-    let one : tally (has_ended c (answers_of m rows)) ≡ tally true = ap tally is in
-    (refl, omega (arith, count-cons (has_ended c) (answers_of m rows) (groups_from (m + 1) n rows), all, one))
-split_count c m n rows false is all =
-    let none : tally (has_ended c (answers_of m rows)) ≡ tally false = ap tally is in
-    absurd (omega (arith, count-cons (has_ended c) (answers_of m rows) (groups_from (m + 1) n rows), all, none, count_by-le-length (has_ended c) (groups_from (m + 1) n rows), length-groups_from (m + 1) n rows))
+split_none : (c : Prepared) (goal : Goal) (rows : List Entry) (m n : ℕ) (o : Option Want) → wanted c.campaign rows m goal ≡ o → wanting_from c goal rows m (suc n) ≡ 0 → (o ≡ None) × (wanting_from c goal rows (m + 1) n ≡ 0)
+split_none c goal rows m n None is none = let rest : 0 + wanting_from c goal rows (m + 1) n ≡ 0 = rw is at none in (refl, omega (arith, rest))
+split_none c goal rows m n (Some want) is none = let one : 1 + wanting_from c goal rows (m + 1) n ≡ 0 = rw is at none in absurd (omega (arith, one))
 
--- where all are counted, all have ended
-pub all_counted : (c : Campaign) (m n k : ℕ) (rows : List Entry) → count_by (has_ended c) (groups_from m n rows) ≡ n → k < n → is_ended (ask_on c (m + k) rows) ≡ true
-all_counted c m zero k rows all below = absurd (omega (arith, below))
-all_counted c m (suc n) zero rows all below =
+-- where none is counted, none wants a test
+pub none_counted : (c : Prepared) (goal : Goal) (rows : List Entry) (m n k : ℕ) → wanting_from c goal rows m n ≡ 0 → k < n → wanted c.campaign rows (m + k) goal ≡ None
+none_counted c goal rows m zero k none below = absurd (omega (arith, below))
+none_counted c goal rows m (suc n) zero none below =
     let here : m ≡ m + 0 = omega arith in
-    subst (λ (j : ℕ). is_ended (ask_on c j rows) ≡ true) here (split_count c m n rows (has_ended c (answers_of m rows)) refl all).0
-all_counted c m (suc n) (suc k) rows all below =
+    subst (λ (j : ℕ). wanted c.campaign rows j goal ≡ None) here (split_none c goal rows m n (wanted c.campaign rows m goal) refl none).0
+none_counted c goal rows m (suc n) (suc k) none below =
     let place : (m + 1) + k ≡ m + suc k = omega arith in
-    subst (λ (j : ℕ). is_ended (ask_on c j rows) ≡ true) place (all_counted c (m + 1) n k rows (split_count c m n rows (has_ended c (answers_of m rows)) refl all).1 (omega (arith, below)))
+    subst (λ (j : ℕ). wanted c.campaign rows j goal ≡ None) place (none_counted c goal rows (m + 1) n k (split_none c goal rows m n (wanted c.campaign rows m goal) refl none).1 (omega (arith, below)))
+
+-- where none is counted the run is done
+pub outcome_none : (c : Prepared) (goal : Goal) (rows : List Entry) → wanting c goal rows ≡ 0 → Done ≡ run_outcome c goal rows
+outcome_none c goal rows none = rw none refl
 
 -- no more are counted than there are
-pub counted_few : (c : Campaign) (n : ℕ) (rows : List Entry) → count_by (has_ended c) (groups_from 0 n rows) ≤ n
-counted_few c n rows = omega (arith, count_by-le-length (has_ended c) (groups_from 0 n rows), length-groups_from 0 n rows)
+pub counted_few : (c : Prepared) (goal : Goal) (rows : List Entry) (m n : ℕ) → wanting_from c goal rows m n ≤ n
+counted_few c goal rows m zero = omega arith
+counted_few c goal rows m (suc n) = go (counted_few c goal rows (m + 1) n) (wanted c.campaign rows m goal) refl
+  where
+    go : wanting_from c goal rows (m + 1) n ≤ n → (o : Option Want) → wanted c.campaign rows m goal ≡ o → wanting_from c goal rows m (suc n) ≤ suc n
+    go few None is = rw is (omega (arith, few))
+    go few (Some want) is = rw is (omega (arith, few))
 
--- a count of what a map gives
-count-map : {X Y : Type 0} (p : Y → Bool) (f : X → Y) (xs : List X) → count_by p (map f xs) ≡ count_by (λ x. p (f x)) xs
-count-map p f [] = refl
-count-map p f (x ∷ xs) = count-cons p (f x) (map f xs) ∙ ap (λ (n : ℕ). tally (p (f x)) + n) (count-map p f xs) ∙ sym (count-cons (λ y. p (f y)) x xs)
+none_before : (count more : ℕ) → count ≡ more → count ≡ 0 + more
+none_before count more is = omega (arith, is)
 
--- what a state counts
-pub finished_is : (c : Campaign) (rows : List Entry) (asks : List Ask) → asks ≡ map (ask c) (groups c rows) → count_by is_ended asks ≡ count_by (has_ended c) (groups c rows)
-finished_is c rows asks are = ap (λ (l : List Ask). count_by is_ended l) are ∙ count-map is_ended (ask c) (groups c rows)
+-- one mutation more at the end
+pub count_push : (c : Prepared) (goal : Goal) (rows : List Entry) (m n : ℕ) → wanting_from c goal rows m (suc n) ≡ wanting_from c goal rows m n + wanting_from c goal rows (m + n) 1
+count_push c goal rows m zero =
+    let here : m ≡ m + 0 = omega arith in
+    none_before (wanting_from c goal rows m 1) (wanting_from c goal rows (m + 0) 1) (ap (λ (j : ℕ). wanting_from c goal rows j 1) here)
+count_push c goal rows m (suc n) =
+    let place : (m + 1) + n ≡ m + suc n = omega arith in
+    let rest = count_push c goal rows (m + 1) n in
+    let there : wanting_from c goal rows ((m + 1) + n) 1 ≡ wanting_from c goal rows (m + suc n) 1 = ap (λ (j : ℕ). wanting_from c goal rows j 1) place in
+    omega (arith, rest, there)
+
+-- one mutation more, which wants a test or none
+count_next : (c : Prepared) (goal : Goal) (rows : List Entry) (m count more : ℕ) → count ≡ wanting_from c goal rows 0 m → wanting_from c goal rows m 1 ≡ more → count + more ≡ wanting_from c goal rows 0 (m + 1)
+count_next c goal rows m count more so_far is =
+    let place : 0 + m ≡ m = omega arith in
+    let there : wanting_from c goal rows (0 + m) 1 ≡ wanting_from c goal rows m 1 = ap (λ (j : ℕ). wanting_from c goal rows j 1) place in
+    let next : suc m ≡ m + 1 = omega arith in
+    let all : count + more ≡ wanting_from c goal rows 0 (suc m) = omega (arith, so_far, is, there, count_push c goal rows 0 m) in
+    subst (λ (n : ℕ). count + more ≡ wanting_from c goal rows 0 n) next all
+
+pub count_some : (c : Prepared) (goal : Goal) (rows : List Entry) (m count : ℕ) (o : Option Want) → count ≡ wanting_from c goal rows 0 m → wanted c.campaign rows m goal ≡ o → is_some o ≡ true → count + 1 ≡ wanting_from c goal rows 0 (m + 1)
+count_some c goal rows m count None so_far is some = absurd (let never : false ≡ true = some in cc)
+count_some c goal rows m count (Some want) so_far is some = count_next c goal rows m count 1 so_far (rw is refl)
+
+pub count_none : (c : Prepared) (goal : Goal) (rows : List Entry) (m count : ℕ) (o : Option Want) → count ≡ wanting_from c goal rows 0 m → wanted c.campaign rows m goal ≡ o → is_some o ≡ false → count ≡ wanting_from c goal rows 0 (m + 1)
+count_none c goal rows m count (Some want) so_far is none = absurd (let never : true ≡ false = none in cc)
+count_none c goal rows m count None so_far is none = omega (arith, count_next c goal rows m count 0 so_far (rw is refl))

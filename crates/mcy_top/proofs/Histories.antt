@@ -1,7 +1,8 @@
 -- Lists of calls over one keeper.
 use Rattle.std.proofs.Common.{◌≡◌, inl, inr, ℕ, zero, suc, List, [], ◌∷◌, take, refl, sym, subst, Option, Some, IsSomeAnd}
 use Rattle.mcy_keeper.specs.declared.book.Book.{Book}
-use Rattle.mcy_keeper.specs.Books.{blank, IsBlank, LeavesSome}
+use Rattle.mcy_keeper.specs.Books.{LeavesSome}
+use Rattle.result_book.specs.Rows.{history}
 use Rattle.campaign_plan.specs.declared.prepared.Prepared.{Prepared}
 use Rattle.campaign_outcomes.specs.declared.outcome.Outcome.TheVariants.{Done}
 use Rattle.campaign_plan.specs.Campaigns.{IsPlan}
@@ -10,11 +11,11 @@ use Rattle.campaign_run.specs.Rows.{AreRight, IsBlankOrGood}
 use Rattle.campaign_run.specs.Crashes.{LeavesBooks}
 use Rattle.mcy_top.specs.Texts.{text_of}
 use Rattle.mcy_top.specs.Life.{Answers, Wrote}
-use Rattle.mcy_top.specs.Lives.{AreSafe, IsHistory}
+use Rattle.mcy_top.specs.Lives.{AreSafe, IsHistory, IsStart}
 use Rattle.mcy_top.specs.Histories.{AllFindBooks, AllTellTrue, AreTurns, Call, Cut, CutEarly, Ended, entry_of, IsNew, IsTurn, last_of, Left, lives_of, Loads, TellsFinal, TellsTrue, Turn}
 use Rattle.campaign_run.proofs.Crashes.{weaker_books}
 use Rattle.mcy_top.proofs.Finishing.{final_is}
-use Rattle.mcy_top.proofs.Living.{course_good, lives_safe, near_good}
+use Rattle.mcy_top.proofs.Living.{course_good, lives_safe, near_good, start_good}
 use Rattle.mcy_top.proofs.Once.{right_of}
 
 -- the changes up to a cut lead to the book at that moment
@@ -56,16 +57,16 @@ goes_on holds leaves P some has found within (Cut call count ∷ more) (old, (li
       ),
     )
 
-new_blank : LeavesBooks IsNew IsBlank
-new_blank left is = subst (λ (o : Option Book). IsSomeAnd o IsBlank) (sym is) refl
+new_start : (start : Book) → LeavesBooks (IsNew start) (λ book. book ≡ start)
+new_start start left is = subst (λ (o : Option Book). IsSomeAnd o (λ book. book ≡ start)) (sym is) refl
 
-pub calls_history : {K : Type 0} (holds : K → Book → Type 0) (leaves : K → Option Book → Type 0) (turns : List (Turn K)) (are : AreTurns holds leaves IsNew turns) → IsHistory blank (lives_of holds leaves IsNew turns are)
-calls_history holds leaves turns are =
-    let begin = goes_on holds leaves IsBlank blank refl IsNew new_blank turns are in
-    subst (λ (book : Book). IsHistory book (lives_of holds leaves IsNew turns are)) begin.1 begin.2
+pub calls_history : {K : Type 0} (holds : K → Book → Type 0) (leaves : K → Option Book → Type 0) (start : Book) (turns : List (Turn K)) (are : AreTurns holds leaves (IsNew start) turns) → IsHistory start (lives_of holds leaves (IsNew start) turns are)
+calls_history holds leaves start turns are =
+    let begin = goes_on holds leaves (λ book. book ≡ start) start refl (IsNew start) (new_start start) turns are in
+    subst (λ (book : Book). IsHistory book (lives_of holds leaves (IsNew start) turns are)) begin.1 begin.2
 
-pub calls_safe : {K : Type 0} (holds : K → Book → Type 0) (leaves : K → Option Book → Type 0) (turns : List (Turn K)) (are : AreTurns holds leaves IsNew turns) → AreSafe (lives_of holds leaves IsNew turns are)
-calls_safe holds leaves turns are = lives_safe (lives_of holds leaves IsNew turns are) (calls_history holds leaves turns are)
+pub calls_safe : {K : Type 0} (holds : K → Book → Type 0) (leaves : K → Option Book → Type 0) (start : Book) (turns : List (Turn K)) → IsStart start → (are : AreTurns holds leaves (IsNew start) turns) → AreSafe (lives_of holds leaves (IsNew start) turns are)
+calls_safe holds leaves start turns is are = lives_safe start (lives_of holds leaves (IsNew start) turns are) is (calls_history holds leaves start turns are)
 
 -- Texts.
 
@@ -76,14 +77,15 @@ tells_final : {K : Type 0} (holds : K → Book → Type 0) (leaves : K → Optio
     → call.outcome ≡ Done → TellsFinal call.written_before call.written_after life.command life.prepared life.work.sure
 tells_final holds leaves call life was done =
     let answer : Answers life.command life.prepared life.loaded life.work.sure Done = subst (Answers life.command life.prepared life.loaded life.work.sure) done life.work.answer in
-    let right : AreRight life.prepared life.work.sure.journal = right_of life.prepared life.work.sure (plan_of holds leaves call life) answer.1 (end_good holds leaves call life was) in
+    let right : AreRight life.prepared (history life.prepared.campaign life.work.sure).journal = right_of life.prepared life.work.sure (plan_of holds leaves call life) answer.1 (end_good holds leaves call life was) in
     let text : List ℕ = text_of life.command life.prepared life.work.sure in
     record {
+      wants_none = λ runs. (answer.2 runs).wants_none;
       finished = λ runs. (answer.2 runs).finished;
       told = λ finished. record {
         text = text;
         wrote = subst (Wrote call.written_before call.written_after text) done life.work.text;
-        final = final_is life.command life.prepared life.work.sure answer.1 right finished;
+        final = final_is life.command life.prepared life.work.sure (plan_of holds leaves call life) right finished;
       };
     }
 
@@ -125,11 +127,11 @@ all_tell holds leaves found good (turn ∷ more) (old, (is, rest)) =
     let here : LeavesBooks (leaves (entry_of turn)) IsBlankOrGood = λ left was. good left (old left was) in
     (turn_tells holds leaves turn is here, all_tell holds leaves (Left holds leaves turn is) (left_good holds leaves turn is here) more rest)
 
-new_good : LeavesBooks IsNew IsBlankOrGood
-new_good = weaker_books IsNew IsBlank IsBlankOrGood (λ book is. inl is) new_blank
+new_good : (start : Book) → IsStart start → LeavesBooks (IsNew start) IsBlankOrGood
+new_good start is = weaker_books (IsNew start) (λ book. book ≡ start) IsBlankOrGood (λ book same. subst IsBlankOrGood (sym same) (start_good start is)) (new_start start)
 
-pub calls_tell : {K : Type 0} (holds : K → Book → Type 0) (leaves : K → Option Book → Type 0) (turns : List (Turn K)) (are : AreTurns holds leaves IsNew turns) → AllTellTrue holds leaves IsNew turns are
-calls_tell holds leaves turns are = all_tell holds leaves IsNew new_good turns are
+pub calls_tell : {K : Type 0} (holds : K → Book → Type 0) (leaves : K → Option Book → Type 0) (start : Book) (turns : List (Turn K)) → IsStart start → (are : AreTurns holds leaves (IsNew start) turns) → AllTellTrue holds leaves (IsNew start) turns are
+calls_tell holds leaves start turns is are = all_tell holds leaves (IsNew start) (new_good start is) turns are
 
-pub calls_find : {K : Type 0} (tells : K → Type 0) (holds : K → Book → Type 0) (leaves : K → Option Book → Type 0) → ((k : K) → tells k → LeavesSome (leaves k)) → (turns : List (Turn K)) (are : AreTurns holds leaves IsNew turns) → AllFindBooks tells holds leaves IsNew turns are
-calls_find tells holds leaves survives turns are = all_find tells holds leaves survives IsNew new_good turns are
+pub calls_find : {K : Type 0} (tells : K → Type 0) (holds : K → Book → Type 0) (leaves : K → Option Book → Type 0) → ((k : K) → tells k → LeavesSome (leaves k)) → (start : Book) (turns : List (Turn K)) → IsStart start → (are : AreTurns holds leaves (IsNew start) turns) → AllFindBooks tells holds leaves (IsNew start) turns are
+calls_find tells holds leaves survives start turns is are = all_find tells holds leaves survives (IsNew start) (new_good start is) turns are

@@ -2,7 +2,10 @@ pub mod Counting
 pub mod Pairs
 pub mod PlanLaws
 pub mod Simulating
+pub mod Prefixes
 pub mod Advancing
+pub mod Gaining
+pub mod Aiming
 pub mod Finishing
 pub mod Working
 pub mod Answered
@@ -11,4 +14,5 @@ pub mod OneFault
 pub mod Once
 pub mod Exacting
 pub mod Living
+pub mod Upgrading
 pub mod Histories

@@ -1,71 +1,48 @@
 -- Lists of lives.
-use Rattle.std.proofs.Common.{◌≡◌, inl, inr, arith, ℕ, ◌+◌, ◌≤◌, List, [], ◌∷◌, ◌++◌, length, refl, sym, ap, subst, ◌∙◌, append_assoc, length-append, Option, Some}
+use Rattle.std.proofs.Common.{◌≡◌, inl, inr, arith, ℕ, ◌+◌, ◌≤◌, Bool, List, [], ◌∷◌, ◌++◌, length, map, refl, sym, ap, subst, ◌∙◌, Option, Some}
 use Rattle.std.specs.List.{All, AllPairs}
 use Rattle.std.proofs.lemmas.List.Elements.{All-cons, All-nil, All-weaker}
 use Rattle.std.proofs.lemmas.List.Kept.{AllPairs-cons}
 use Rattle.mcy_keeper.specs.declared.book.Entry.{Entry}
 use Rattle.mcy_keeper.specs.declared.book.Book.{Book}
-use Rattle.mcy_keeper.specs.Books.{blank}
+use Rattle.std.proofs.lemmas.List.{map-append}
+use Rattle.mcy_keeper.specs.Books.{begins_with, first_number, is_first, with_entry}
 use Rattle.mcy_outside.specs.Files.{Held}
 use Rattle.campaign_plan.specs.declared.prepared.Prepared.{Prepared}
 use Rattle.campaign_outcomes.specs.declared.outcome.Outcome.{Outcome}
 use Rattle.campaign_plan.specs.Campaigns.{IsPlan}
 use Rattle.campaign_run.specs.Changes.{Course, IsChange, IsNear}
-use Rattle.result_book.specs.Rows.{AreRows}
+use Rattle.result_book.specs.declared.campaign.Campaign.{Campaign}
+use Rattle.result_book.specs.Rows.{history, meta_in_second, second_row, AreRowsIn}
+use Rattle.result_book.proofs.Formats.{history_rows, seconds}
+use Rattle.result_book.proofs.Growing.{rows_first}
 use Rattle.campaign_run.specs.Rows.{AreRight, GoesOn, IsBlankOrGood, IsGood, IsPrefix, IsWithinOne}
 use Rattle.campaign_run.specs.Crashes.{LeavesBooks}
 use Rattle.mcy_top.specs.Life.{Life}
-use Rattle.mcy_top.specs.Lives.{books_of, AreSafe, HasFinalTexts, HasPairsOnce, IsHistory, Lived}
+use Rattle.mcy_top.specs.Lives.{books_of, AreSafe, HasFinalTexts, IsHistory, IsStart, Lived, RunsOnce}
 use Rattle.mcy_top.specs.Calls.{IsCovered, IsLived, IsSureBook}
 use Rattle.campaign_run.proofs.Crashes.{weaker_books}
-use Rattle.campaign_run.proofs.Growing.{form_more, right_more}
-use Rattle.mcy_top.proofs.Advancing.{good_of, opened_form, within_itself}
+use Rattle.mcy_top.proofs.Advancing.{good_history, good_more, good_rows, history_first, opened_form, upgrade_is}
 use Rattle.mcy_top.proofs.Finishing.{final_is}
 use Rattle.mcy_top.proofs.Once.{right_of}
-use Rattle.mcy_top.proofs.Pairs.{pairs_once}
-
--- First parts.
-
-prefix_itself : (book : Book) → IsPrefix book book
-prefix_itself book = (within_itself book).prefix
-
-first_nil : (xs ys : List Entry) → xs ++ ys ≡ [] → xs ≡ []
-first_nil [] ys is = refl
-first_nil (x ∷ xs) ys is = cc
-
-prefix_trans : (a b c : Book) → IsPrefix a b → IsPrefix b c → IsPrefix a c
-prefix_trans a b c (inl empty) after = inl empty
-prefix_trans a b c (inr on) (inl empty) =
-    let meta : a.meta ≡ [] = sym on.meta ∙ ap (λ (x : Book). x.meta) empty in
-    let mutations : a.mutations ≡ [] = sym on.mutations ∙ ap (λ (x : Book). x.mutations) empty in
-    let rows : a.journal ≡ [] = first_nil a.journal on.more (sym on.rows ∙ ap (λ (x : Book). x.journal) empty) in
-    inl (λ i. record { meta = meta i; mutations = mutations i; journal = rows i })
-prefix_trans a b c (inr on) (inr further) = inr (record {
-  meta = further.meta ∙ on.meta;
-  mutations = further.mutations ∙ on.mutations;
-  more = on.more ++ further.more;
-  rows = further.rows ∙ ap (λ (l : List Entry). l ++ further.more) on.rows ∙ append_assoc a.journal on.more further.more;
-})
-
-prefix_few : (a b : Book) → IsPrefix a b → length a.journal ≤ length b.journal
-prefix_few a b (inl empty) = let none : length a.journal ≡ 0 = ap (λ (x : Book). length x.journal) empty in omega arith
-prefix_few a b (inr on) =
-    let rows : length b.journal ≡ length a.journal + length on.more = ap length on.rows ∙ length-append a.journal on.more in omega arith
+use Rattle.mcy_top.proofs.Pairs.{runs_once}
+use Rattle.mcy_top.proofs.Prefixes.{on_itself, prefix_few, prefix_itself, prefix_on, prefix_trans}
 
 -- One change, and many.
 
-change_prefix : (c : Prepared) (book next : Book) → IsChange c book next → IsPrefix book next
-change_prefix c book next (inl begin) = inl begin.0
-change_prefix c book next (inr (form, (e, row, is))) = subst (λ (b : Book). IsPrefix book b) (sym is) (inr (record { meta = refl; mutations = refl; more = e ∷ []; rows = refl }))
+change_prefix : (c : Prepared) (book next : Book) → IsPlan c → IsChange c book next → IsPrefix book next
+change_prefix c book next plan (inl begin) = inl begin.0
+change_prefix c book next plan (inr (inl added)) = subst (λ (b : Book). IsPrefix book b) (sym added.is) (prefix_on book (with_entry book added.row) (record { meta = refl; mutations = refl; more = added.row ∷ []; rows = refl }))
+change_prefix c book next plan (inr (inr up)) = inr (record { one = next; two = next; stands = inr (upgrade_is c book next plan up); other_stands = inl refl; goes_on = on_itself next })
 
 change_good : (c : Prepared) (book next : Book) → IsPlan c → IsChange c book next → IsBlankOrGood book → IsBlankOrGood next
-change_good c book next plan (inl begin) was = inr (subst IsGood (sym begin.1) (good_of c _ plan (opened_form c) tt))
-change_good c book next plan (inr (form, (e, row, is))) was =
-    inr (subst IsGood (sym is) (good_of c _ plan (form_more c book e form row) (right_more c book.journal e (right_of c book plan form was) row.word_right)))
+change_good c book next plan (inl begin) was = inr (subst IsGood (sym begin.1) (good_rows c [] plan (opened_form c plan) tt))
+change_good c book next plan (inr (inl added)) was = inr (subst IsGood (sym added.is) (good_more c book added.row plan added.form added.may (right_of c book plan added.form was)))
+change_good c book next plan (inr (inr up)) was = inr (subst IsGood (sym (up.is ∙ sym (history_first c book up.first))) (good_history c book plan up.form (right_of c book plan up.form was)))
 
-near_prefix : (c : Prepared) (sure next : Book) → IsNear c sure next → IsPrefix sure next
-near_prefix c sure next (inl same) = subst (λ (b : Book). IsPrefix sure b) (sym same) (prefix_itself sure)
-near_prefix c sure next (inr change) = change_prefix c sure next change
+pub near_prefix : (c : Prepared) (sure next : Book) → IsPlan c → IsNear c sure next → IsPrefix sure next
+near_prefix c sure next plan (inl same) = subst (λ (b : Book). IsPrefix sure b) (sym same) (prefix_itself sure)
+near_prefix c sure next plan (inr change) = change_prefix c sure next plan change
 
 pub near_good : (c : Prepared) (sure next : Book) → IsPlan c → IsNear c sure next → IsBlankOrGood sure → IsBlankOrGood next
 near_good c sure next plan (inl same) was = subst IsBlankOrGood (sym same) was
@@ -90,37 +67,37 @@ all_good start (l ∷ more) was (same, life, (next, near, history)) =
     books_good l.prepared l.start l.changes l.sure (books_of more) life.plan life.course begin (all_good next more (near_good l.prepared l.sure next life.plan near end) history)
 
 -- a book that is a first part of the start is one of all that follow
-books_after : (book : Book) (c : Prepared) (start : Book) (changes : List Book) (end : Book) (later : List Book) → Course c start changes end → IsPrefix book start → (IsPrefix book end → All (IsPrefix book) later) → All (IsPrefix book) ((start ∷ changes ++ end ∷ []) ++ later)
-books_after book c start [] end later course before rest =
+books_after : (book : Book) (c : Prepared) (start : Book) (changes : List Book) (end : Book) (later : List Book) → IsPlan c → Course c start changes end → IsPrefix book start → (IsPrefix book end → All (IsPrefix book) later) → All (IsPrefix book) ((start ∷ changes ++ end ∷ []) ++ later)
+books_after book c start [] end later plan course before rest =
     let last : IsPrefix book end = subst (λ (b : Book). IsPrefix book b) (sym course) before in
     All-cons (IsPrefix book) start (end ∷ later) before (All-cons (IsPrefix book) end later last (rest last))
-books_after book c start (next ∷ more) end later course before rest =
-    All-cons (IsPrefix book) start ((next ∷ more ++ end ∷ []) ++ later) before (books_after book c next more end later course.1 (prefix_trans book start next before (change_prefix c start next course.0)) rest)
+books_after book c start (next ∷ more) end later plan course before rest =
+    All-cons (IsPrefix book) start ((next ∷ more ++ end ∷ []) ++ later) before (books_after book c next more end later plan course.1 (prefix_trans book start next before (change_prefix c start next plan course.0)) rest)
 
 all_after : (book start : Book) (lives : List Lived) → IsPrefix book start → IsHistory start lives → All (IsPrefix book) (books_of lives)
 all_after book start [] before history = All-nil (IsPrefix book)
 all_after book start (l ∷ more) before (same, life, (next, near, history)) =
-    books_after book l.prepared l.start l.changes l.sure (books_of more) life.course (subst (λ (b : Book). IsPrefix book b) (sym same) before)
-    (λ end. all_after book next more (prefix_trans book l.sure next end (near_prefix l.prepared l.sure next near)) history)
+    books_after book l.prepared l.start l.changes l.sure (books_of more) life.plan life.course (subst (λ (b : Book). IsPrefix book b) (sym same) before)
+    (λ end. all_after book next more (prefix_trans book l.sure next end (near_prefix l.prepared l.sure next life.plan near)) history)
 
-books_kept : (c : Prepared) (start : Book) (changes : List Book) (end : Book) (later : List Book) → Course c start changes end → ((book : Book) → IsPrefix book end → All (IsPrefix book) later) → AllPairs IsPrefix later → AllPairs IsPrefix ((start ∷ changes ++ end ∷ []) ++ later)
-books_kept c start [] end later course rest kept =
+books_kept : (c : Prepared) (start : Book) (changes : List Book) (end : Book) (later : List Book) → IsPlan c → Course c start changes end → ((book : Book) → IsPrefix book end → All (IsPrefix book) later) → AllPairs IsPrefix later → AllPairs IsPrefix ((start ∷ changes ++ end ∷ []) ++ later)
+books_kept c start [] end later plan course rest kept =
     let last : IsPrefix start end = subst (λ (b : Book). IsPrefix start b) (sym course) (prefix_itself start) in
     AllPairs-cons IsPrefix start (end ∷ later) (All-cons (IsPrefix start) end later last (rest start last)) (AllPairs-cons IsPrefix end later (rest end (prefix_itself end)) kept)
-books_kept c start (next ∷ more) end later course rest kept =
-    AllPairs-cons IsPrefix start ((next ∷ more ++ end ∷ []) ++ later) (books_after start c next more end later course.1 (change_prefix c start next course.0) (rest start)) (books_kept c next more end later course.1 rest kept)
+books_kept c start (next ∷ more) end later plan course rest kept =
+    AllPairs-cons IsPrefix start ((next ∷ more ++ end ∷ []) ++ later) (books_after start c next more end later plan course.1 (change_prefix c start next plan course.0) (rest start)) (books_kept c next more end later plan course.1 rest kept)
 
 all_kept : (start : Book) (lives : List Lived) → IsHistory start lives → AllPairs IsPrefix (books_of lives)
 all_kept start [] history = λ i j d lt within. absurd (omega (arith, within))
 all_kept start (l ∷ more) (same, life, (next, near, history)) =
-    books_kept l.prepared l.start l.changes l.sure (books_of more) life.course
-    (λ book end. all_after book next more (prefix_trans book l.sure next end (near_prefix l.prepared l.sure next near)) history) (all_kept next more history)
+    books_kept l.prepared l.start l.changes l.sure (books_of more) life.plan life.course
+    (λ book end. all_after book next more (prefix_trans book l.sure next end (near_prefix l.prepared l.sure next life.plan near)) history) (all_kept next more history)
 
--- No pair stands twice.
+-- No pair is run again, save given-up ones under greater limits.
 
-book_pairs_once : (book : Book) → IsBlankOrGood book → HasPairsOnce book
-book_pairs_once book (inl empty) = subst HasPairsOnce (sym empty) (λ i j d lt within. absurd (omega (arith, within)))
-book_pairs_once book (inr good) = pairs_once good.prepared.campaign [] book.journal good.form.rows
+book_runs_once : (book : Book) → IsBlankOrGood book → RunsOnce book
+book_runs_once book (inl empty) = subst RunsOnce (sym empty) (λ i j d lt within. absurd (omega (arith, within)))
+book_runs_once book (inr good) = runs_once (is_first book) good.prepared.campaign book.journal good.form.rows
 
 -- A finished book's texts.
 
@@ -128,40 +105,57 @@ all_final : (start : Book) (lives : List Lived) → IsBlankOrGood start → IsHi
 all_final start [] was history = All-nil (λ l. HasFinalTexts l.prepared l.sure)
 all_final start (l ∷ more) was (same, life, (next, near, history)) =
     let end : IsBlankOrGood l.sure = course_good l.prepared l.start l.changes l.sure life.plan life.course (subst IsBlankOrGood (sym same) was) in
-    All-cons (λ l. HasFinalTexts l.prepared l.sure) l more (λ command form finished. final_is command l.prepared l.sure form (right_of l.prepared l.sure life.plan form end) finished)
+    All-cons (λ l. HasFinalTexts l.prepared l.sure) l more (λ command form finished. final_is command l.prepared l.sure life.plan (right_of l.prepared l.sure life.plan form end) finished)
     (all_final next more (near_good l.prepared l.sure next life.plan near end) history)
 
-pub lives_safe : (lives : List Lived) → IsHistory blank lives → AreSafe lives
-lives_safe lives history =
-    let good : All IsBlankOrGood (books_of lives) = all_good blank lives (inl refl) history in
+-- lives may begin with this book
+pub start_good : (start : Book) → IsStart start → IsBlankOrGood start
+start_good start (inl empty) = inl empty
+start_good start (inr good) = inr good.0
+
+pub lives_safe : (start : Book) (lives : List Lived) → IsStart start → IsHistory start lives → AreSafe lives
+lives_safe start lives is history =
+    let good : All IsBlankOrGood (books_of lives) = all_good start lives (start_good start is) history in
     record {
       good = good;
-      once = All-weaker IsBlankOrGood HasPairsOnce book_pairs_once (books_of lives) good;
-      kept = all_kept blank lives history;
-      final = all_final blank lives (inl refl) history;
+      once = All-weaker IsBlankOrGood RunsOnce book_runs_once (books_of lives) good;
+      kept = all_kept start lives history;
+      final = all_final start lives (start_good start is) history;
     }
 
 -- A first part of a good book is good.
-
-rows_first : (c : Prepared) (earlier rows more : List Entry) → AreRows c.campaign earlier (rows ++ more) → AreRows c.campaign earlier rows
-rows_first c earlier [] more all = tt
-rows_first c earlier (row ∷ rows) more all = (all.0, rows_first c (earlier ++ row ∷ []) rows more all.1)
 
 right_first : (c : Prepared) (rows more : List Entry) → AreRight c (rows ++ more) → AreRight c rows
 right_first c [] more all = tt
 right_first c (row ∷ rows) more all = (all.0, right_first c rows more all.1)
 
+-- it is of the same format
+part_first : (book part : Book) → GoesOn part book → is_first book ≡ is_first part
+part_first book part on = ap (λ (meta : List (List ℕ)). begins_with first_number meta) on.meta
+
+-- the rows of its history are first ones of the other's
+part_rows : (c : Campaign) (book part : Book) → (on : GoesOn part book) → (history c book).journal ≡ (history c part).journal ++ map (second_row (is_first part) c) on.more
+part_rows c book part on =
+    history_rows c book
+    ∙ ap (λ (first : Bool). seconds first c book.journal) (part_first book part on)
+    ∙ ap (seconds (is_first part) c) on.rows
+    ∙ map-append (second_row (is_first part) c) part.journal on.more
+    ∙ ap (λ (rows : List Entry). rows ++ map (second_row (is_first part) c) on.more) (sym (history_rows c part))
+
 pub part_good : (book part : Book) → IsGood book → GoesOn part book → IsGood part
-part_good book part good on = record {
-  prepared = good.prepared;
-  plan = good.plan;
-  form = record {
-    meta = sym on.meta ∙ good.form.meta;
-    mutations = sym on.mutations ∙ good.form.mutations;
-    rows = rows_first good.prepared [] part.journal on.more (subst (λ (rows : List Entry). AreRows good.prepared.campaign [] rows) on.rows good.form.rows);
-  };
-  words_right = right_first good.prepared part.journal on.more (subst (AreRight good.prepared) on.rows good.words_right);
-}
+part_good book part good on =
+    let c : Campaign = good.prepared.campaign in
+    let rows : AreRowsIn (is_first book) c [] (part.journal ++ on.more) = subst (AreRowsIn (is_first book) c []) on.rows good.form.rows in
+    record {
+      prepared = good.prepared;
+      plan = good.plan;
+      form = record {
+        meta = ap meta_in_second (sym on.meta) ∙ good.form.meta;
+        mutations = sym on.mutations ∙ good.form.mutations;
+        rows = rows_first (is_first part) c [] part.journal on.more (subst (λ (first : Bool). AreRowsIn first c [] (part.journal ++ on.more)) (part_first book part on) rows);
+      };
+      words_right = right_first good.prepared (history c part).journal (map (second_row (is_first part) c) on.more) (subst (AreRight good.prepared) (part_rows c book part on) good.words_right);
+    }
 
 -- What a call is sure of.
 

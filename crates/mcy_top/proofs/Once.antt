@@ -7,11 +7,13 @@ use Rattle.mutation_sites.specs.declared.site.Site.{Site}
 use Rattle.campaign_plan.specs.declared.prepared.Prepared.{Prepared}
 use Rattle.tag_script.specs.declared.answer.Ask.{Ask}
 use Rattle.tag_script.specs.declared.answer.Ask.TheVariants.{Need}
-use Rattle.result_book.specs.Scripts.{Answer, ask, is_ended}
+use Rattle.result_book.specs.declared.answer.Answer.{Answer}
+use Rattle.result_book.specs.Scripts.{ask, is_ended}
 use Rattle.campaign_plan.specs.Campaigns.{IsPlan}
 use Rattle.campaign_plan.specs.Laws.{IsSame, SameTests}
 use Rattle.campaign_plan.proofs.OneCampaign.{plan_once}
-use Rattle.result_book.specs.Rows.{IsWellFormed}
+use Rattle.result_book.specs.declared.campaign.Campaign.{Campaign}
+use Rattle.result_book.specs.Rows.{history, IsWellFormed}
 use Rattle.campaign_run.specs.Rows.{AreRight, IsBlankOrGood, IsGivenUpAt, IsRightWord, IsSaid, IsTrueWord, IsTrueWordAt}
 use Rattle.command_words.specs.declared.command.Command.{Command}
 use Rattle.mcy_top.specs.Texts.{answers_text, text_of}
@@ -26,25 +28,25 @@ use Rattle.mcy_top.proofs.Finishing.{final_is}
 -- The campaign.
 
 -- a word that a test may have is one that a test may have which is the same but for parts of its bench
-test_alike : (d : Prepared) (trials : List Trial) (t : ℕ) (site : Option Site) (x y : Option Trial) (word : ℕ) → SameTests x y → (IsTrueWordAt (record d { trials = trials }) t site x word ⊎ IsGivenUpAt (record d { trials = trials }) site x word) → (IsTrueWordAt d t site y word ⊎ IsGivenUpAt d site y word)
-test_alike d trials t None x y word alike (inl h) = absurd h
-test_alike d trials t None x y word alike (inr h) = absurd h
-test_alike d trials t (Some site) None y word alike (inl h) = absurd h
-test_alike d trials t (Some site) None y word alike (inr h) = absurd h
-test_alike d trials t (Some site) (Some Equality) (Some Equality) word alike h = h
-test_alike d trials t (Some site) (Some (Simulation a p f)) (Some (Simulation b q g)) word alike (inl h) = inl (record { other = h.other; plan = h.plan; same = h.same; bench = h.bench; pass = h.pass; fail = h.fail; at = h.at; said = h.said })
-test_alike d trials t (Some site) (Some (Simulation a p f)) (Some (Simulation b q g)) word alike (inr h) = absurd h
-test_alike d trials t (Some site) (Some Equality) (Some (Simulation b q g)) word alike h = absurd alike
-test_alike d trials t (Some site) (Some (Simulation a p f)) (Some Equality) word alike h = absurd alike
-test_alike d trials t (Some site) (Some Equality) None word alike h = absurd alike
-test_alike d trials t (Some site) (Some (Simulation a p f)) None word alike h = absurd alike
+test_alike : (d : Prepared) (trials : List Trial) (t : ℕ) (site : Option Site) (x y : Option Trial) (bound word : ℕ) → SameTests x y → (IsTrueWordAt (record d { trials = trials }) t site x word ⊎ IsGivenUpAt (record d { trials = trials }) site x bound word) → (IsTrueWordAt d t site y word ⊎ IsGivenUpAt d site y bound word)
+test_alike d trials t None x y bound word alike (inl h) = absurd h
+test_alike d trials t None x y bound word alike (inr h) = absurd h
+test_alike d trials t (Some site) None y bound word alike (inl h) = absurd h
+test_alike d trials t (Some site) None y bound word alike (inr h) = absurd h
+test_alike d trials t (Some site) (Some Equality) (Some Equality) bound word alike h = h
+test_alike d trials t (Some site) (Some (Simulation a p f)) (Some (Simulation b q g)) bound word alike (inl h) = inl (record { other = h.other; plan = h.plan; same = h.same; bench = h.bench; pass = h.pass; fail = h.fail; at = h.at; said = h.said })
+test_alike d trials t (Some site) (Some (Simulation a p f)) (Some (Simulation b q g)) bound word alike (inr h) = absurd h
+test_alike d trials t (Some site) (Some Equality) (Some (Simulation b q g)) bound word alike h = absurd alike
+test_alike d trials t (Some site) (Some (Simulation a p f)) (Some Equality) bound word alike h = absurd alike
+test_alike d trials t (Some site) (Some Equality) None bound word alike h = absurd alike
+test_alike d trials t (Some site) (Some (Simulation a p f)) None bound word alike h = absurd alike
 
-word_alike : (d : Prepared) (m t word : ℕ) (trials : List Trial) → SameTests (slice_get trials t) (slice_get d.trials t) → IsRightWord (record d { trials = trials }) m t word → IsRightWord d m t word
-word_alike d m t word trials alike right = test_alike d trials t (slice_get d.sites m) (slice_get trials t) (slice_get d.trials t) word alike right
+word_alike : (d : Prepared) (m t bound word : ℕ) (trials : List Trial) → SameTests (slice_get trials t) (slice_get d.trials t) → IsRightWord (record d { trials = trials }) m t bound word → IsRightWord d m t bound word
+word_alike d m t bound word trials alike right = test_alike d trials t (slice_get d.sites m) (slice_get trials t) (slice_get d.trials t) bound word alike right
 
 -- and their words are the same
 same_words : (c d : Prepared) → IsSame c d → SayTheSame c d
-same_words c d same m t word right = word_alike d m t word c.trials (same.1 t) (subst (λ (x : Prepared). IsRightWord x m t word) same.0 right)
+same_words c d same m t bound word right = word_alike d m t bound word c.trials (same.1 t) (subst (λ (x : Prepared). IsRightWord x m t bound word) same.0 right)
 
 pub campaigns_once : (c d : Prepared) → IsPlan c → IsPlan d → c.campaign.meta ≡ d.campaign.meta → (c ≡ record d { trials = c.trials }) × SayTheSame c d
 campaigns_once c d one two meta = let same = plan_once c d one two meta in (same.0, same_words c d same)
@@ -52,12 +54,15 @@ campaigns_once c d one two meta = let same = plan_once c d one two meta in (same
 -- each row is right for the other campaign
 all_right : (c d : Prepared) (rows : List Entry) → SayTheSame c d → AreRight c rows → AreRight d rows
 all_right c d [] same right = tt
-all_right c d (e ∷ more) same right = (same e.mutation e.test e.word right.0, all_right c d more same right.1)
+all_right c d (e ∷ more) same right = (same e.mutation e.test e.bound e.word right.0, all_right c d more same right.1)
 
 -- a good book's words are right for the campaign that it is well-formed for
-pub right_of : (c : Prepared) (book : Book) → IsPlan c → IsWellFormed c.campaign book → IsBlankOrGood book → AreRight c book.journal
-right_of c book plan form (inl empty) = subst (λ (b : Book). AreRight c b.journal) (sym empty) tt
-right_of c book plan form (inr good) = all_right good.prepared c book.journal (campaigns_once good.prepared c good.plan plan (sym good.form.meta ∙ form.meta)).1 good.words_right
+pub right_of : (c : Prepared) (book : Book) → IsPlan c → IsWellFormed c.campaign book → IsBlankOrGood book → AreRight c (history c.campaign book).journal
+right_of c book plan form (inl empty) = subst (λ (b : Book). AreRight c (history c.campaign b).journal) (sym empty) tt
+right_of c book plan form (inr good) =
+    let one = campaigns_once good.prepared c good.plan plan (sym good.form.meta ∙ form.meta) in
+    let same : good.prepared.campaign ≡ c.campaign = ap (λ (p : Prepared). p.campaign) one.0 in
+    subst (λ (a : Campaign). AreRight c (history a book).journal) same (all_right good.prepared c (history good.prepared.campaign book).journal one.1 good.words_right)
 
 -- What it defines.
 
@@ -135,7 +140,7 @@ final_text_once once command c pairs text other h k = final_text_by_pairs once c
 
 -- the text that the campaign defines for a finished book
 ended_text : (command : Command) (c : Prepared) (book : Book) → IsPlan c → IsEnded c book → IsFinalText command c (given_up book.journal) (text_of command c book)
-ended_text command c book plan ended = final_is command c book ended.form (right_of c book plan ended.form (inr ended.good)) ended.finished
+ended_text command c book plan ended = final_is command c book plan (right_of c book plan ended.form (inr ended.good)) ended.finished
 
 pub finished_text_once : BenchesSayOnce → (command : Command) (c : Prepared) (book other : Book) → IsPlan c → IsEnded c book → IsEnded c other → GaveUpSame book other → text_of command c book ≡ text_of command c other
 finished_text_once once command c book other plan ended done same =

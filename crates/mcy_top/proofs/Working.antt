@@ -1,16 +1,16 @@
 -- The work of a command, put together.
-use Rattle.std.proofs.Common.{◌≡◌, ◌≢◌, ◌⊎◌, inl, inr, arith, ℕ, ◌+◌, ◌-◌, ◌≤◌, true, List, [], ◌∷◌, length, refl, sym, ap, subst, ◌∙◌, Option, None, Some, Result, Ok, Err, OnErr, IsErrOf}
+use Rattle.std.proofs.Common.{◌≡◌, ◌≢◌, ◌⊎◌, inl, inr, arith, ℕ, ◌+◌, ◌%◌, ◌≤◌, true, List, [], ◌∷◌, ◌++◌, length, refl, sym, ap, subst, ◌∙◌, Option, None, Some, Result, Ok, Err, OnErr, IsErrOf}
 use Rattle.std.proofs.lemmas.Bool.Decides.{eqb_tells}
 use Rattle.mcy_base.specs.Causes.{Rose}
 use Rattle.mcy_keeper.specs.declared.book.Entry.{Entry}
 use Rattle.mcy_keeper.specs.declared.book.Book.{Book}
 use Rattle.mcy_keeper.specs.declared.keeper.KeepError.{KeepError}
 use Rattle.mcy_keeper.specs.declared.keeper.KeepError.TheVariants.{Fault as KeepFault, Memory as KeepMemory}
-use Rattle.mcy_keeper.specs.Books.{blank, IsBlank, Keeps, LeavesEither, LeavesNothingNew, LeavesOnly, with_entry}
+use Rattle.mcy_keeper.specs.Books.{blank, IsBlank, IsSecond, Keeps, LeavesEither, LeavesNothingNew, LeavesOnly, with_entry}
 use Rattle.result_book.specs.declared.check.BookError.{BookError}
 use Rattle.result_book.specs.declared.check.BookError.TheVariants.{Meta, Mutation, Row, Stray, Memory as NoBookMemory}
-use Rattle.result_book.specs.Scripts.{is_ended}
-use Rattle.result_book.specs.Rows.{ask_on, IsFinished, IsWellFormed}
+use Rattle.result_book.specs.Rows.{groups, history, meta_in_second, IsFinished, IsWellFormed}
+use Rattle.result_book.proofs.Formats.{has_history}
 use Rattle.source_report.specs.Texts.{status_text}
 use Rattle.command_words.specs.declared.command.Command.{Command}
 use Rattle.command_words.specs.declared.command.Command.TheVariants.{Init, Run, List as Listing, Status, Source}
@@ -21,59 +21,66 @@ use Rattle.mcy_top.specs.declared.refusal.BookRefusal.{BookRefusal}
 use Rattle.mcy_top.specs.declared.refusal.BookRefusal.TheVariants.{NoCampaign as RefusedNone, AlreadyBegun as RefusedBegun, BookBad as RefusedBook, Memory as RefusedMemory}
 use Rattle.campaign_outcomes.specs.declared.outcome.Outcome.{Outcome}
 use Rattle.campaign_outcomes.specs.declared.outcome.Outcome.TheVariants.{Done, Unfinished, NoCampaign, AlreadyBegun, BookBad, KeeperFault, WriteFault, Memory}
-use Rattle.mcy_top.specs.Commands.{stop_of, OnlyReads, Runs}
+use Rattle.mcy_top.specs.Commands.{goal_of, run_goal, stop_of, OnlyReads, Runs}
 use Rattle.campaign_plan.specs.Campaigns.{IsPlan}
 use Rattle.campaign_run.specs.Rows.{AreRight, IsBlankOrGood, IsGood, IsNextRow, IsPrefix, IsWithinOne}
 use Rattle.campaign_run.specs.Changes.{Course, IsNear, opened}
-use Rattle.campaign_run.specs.Running.{book_of, Broke, IsWithin, Ran, Reached}
-use Rattle.mcy_top.specs.Texts.{init_text, text_of}
+use Rattle.campaign_run.specs.Running.{book_of, AreWanted, Broke, IsWithin, Ran, Reached, WantsNone}
+use Rattle.result_book.specs.declared.goal.Goal.{Goal}
+use Rattle.result_book.specs.Goals.{is_in, wanted, IsGoal}
+use Rattle.result_book.proofs.Wanting.{unwanted_ended}
+use Rattle.mcy_top.proofs.Gaining.{gains_none, gains_opened, gains_ran}
+use Rattle.mcy_top.proofs.Prefixes.{prefix_on}
+use Rattle.mcy_top.specs.Texts.{answers_text, init_text, text_of}
 use Rattle.mcy_top.specs.Outcomes.{book_outcome}
 use Rattle.mcy_top.specs.BookRefusals.{IsBookBad, RefusesBook}
 use Rattle.mcy_top.specs.Endings.{ended_outcome, failed_outcome, run_outcome, Delivers, Ends}
-use Rattle.mcy_top.specs.Life.{finished_count, Answers, Carried, Grew, Takes, Work, Wrote}
-use Rattle.mcy_top.proofs.Advancing.{good_of, opened_form, within_itself, within_more}
-use Rattle.mcy_top.proofs.Counting.{all_counted, counted_all, counted_few}
+use Rattle.mcy_top.specs.Life.{wanting, Answers, Carried, GainsWanted, Grew, Takes, Work, Wrote}
+use Rattle.mcy_top.proofs.Advancing.{good_more, good_rows, history_second, opened_form, within_itself, within_more}
+use Rattle.mcy_top.proofs.Counting.{counted_none, none_counted}
 use Rattle.campaign_run.proofs.Crashes.{either_books, only_books, weaker_books}
 use Rattle.mcy_top.proofs.Finishing.{final_is}
-use Rattle.campaign_run.proofs.Growing.{form_more, length_more, right_more}
+use Rattle.campaign_run.proofs.Growing.{book_second, length_more}
 use Rattle.mcy_top.proofs.Once.{right_of}
-use Rattle.campaign_plan.proofs.Plans.{plan_meta}
+use Rattle.campaign_plan.proofs.Plans.{plan_fit, plan_meta}
 
 -- a begun book has meta
 pub plan_begun : (c : Prepared) → IsPlan c → c.campaign.meta ≢ []
 plan_begun c plan none = let made = sym none ∙ plan_meta c plan in cc
 
 pub form_meta : (c : Prepared) (book : Book) → IsPlan c → IsWellFormed c.campaign book → book.meta ≢ []
-form_meta c book plan form none = plan_begun c plan (sym form.meta ∙ none)
+form_meta c book plan form none = plan_begun c plan (sym form.meta ∙ ap meta_in_second none)
 
 -- a crash leaves the sure book and nothing else
 grew_exact : (leaves : Option Book → Type 0) (command : Command) (c : Prepared) (loaded sure : Book) (changes : List Book) (outcome : Outcome) → Course c loaded changes sure → LeavesOnly leaves sure → IsPrefix loaded sure
-    → (IsBlankOrGood loaded → IsGood sure ⊎ (IsBlank sure × IsBlank loaded)) → (OnlyReads command → sure ≡ loaded) → (¬ Runs command → sure.journal ≡ loaded.journal) → IsWithin (stop_of command) (length loaded.journal) (length sure.journal) → (Carried outcome → sure.meta ≢ []) → Grew leaves command c loaded sure outcome
-grew_exact leaves command c loaded sure changes outcome course only grown good reads idle within meta = record {
+    → (IsBlankOrGood loaded → IsGood sure ⊎ (IsBlank sure × IsBlank loaded)) → (OnlyReads command → sure ≡ loaded) → (¬ Runs command → sure.journal ≡ loaded.journal) → IsWithin (stop_of command) (length loaded.journal) (length sure.journal) → (Carried outcome → sure.meta ≢ []) → GainsWanted c (goal_of command) loaded sure → (Carried outcome → Runs command → IsSecond sure) → Grew leaves command c loaded sure outcome
+grew_exact leaves command c loaded sure changes outcome course only grown good reads idle within meta wants second = record {
   grown = grown;
   within_one = only_books leaves (IsWithinOne sure) sure only (within_itself sure);
   good = λ was. only_books leaves (λ b. IsGood b ⊎ (IsBlank b × IsBlank loaded)) sure only (good was);
   reads = λ h. subst (λ (b : Book). LeavesOnly leaves b) (reads h) only;
   no_entry = λ h. only_books leaves (λ b. b.journal ≡ loaded.journal) sure only (idle h);
   gained = within;
+  wanted_only = wants;
   stops = only_books leaves (λ b. IsWithin (stop_of command) (length loaded.journal) (length b.journal)) sure only within;
   exact = λ h. only;
   is_begun = meta;
+  second = second;
   changes = changes;
   course = course;
   near = only_books leaves (IsNear c sure) sure only (inl refl);
 }
 
-within_same : (stop : Option ℕ) (n : ℕ) → IsWithin stop n n
+pub within_same : (stop : Option ℕ) (n : ℕ) → IsWithin stop n n
 within_same None n = tt
 within_same (Some stop) n = omega arith
 
 -- the loaded book stays
 pub work_kept : (holds : Book → Type 0) (leaves : Option Book → Type 0) (written written' : Option (List ℕ)) (n : ℕ) (command : Command) (c : Prepared) (loaded : Book) (outcome : Outcome) → Keeps holds leaves loaded
-    → Wrote written written' (text_of command c loaded) outcome → Answers command c loaded loaded outcome → (Carried outcome → loaded.meta ≢ []) → Work leaves written written' n n command c loaded outcome
-work_kept holds leaves written written' n command c loaded outcome kept wrote answer meta = record {
+    → Wrote written written' (text_of command c loaded) outcome → Answers command c loaded loaded outcome → (Carried outcome → loaded.meta ≢ []) → (Carried outcome → Runs command → IsSecond loaded) → Work leaves written written' n n command c loaded outcome
+work_kept holds leaves written written' n command c loaded outcome kept wrote answer meta second = record {
   sure = loaded;
-  book = grew_exact leaves command c loaded loaded [] outcome refl kept.crash (within_itself loaded).prefix stays (λ h. refl) (λ h. refl) (within_same (stop_of command) (length loaded.journal)) meta;
+  book = grew_exact leaves command c loaded loaded [] outcome refl kept.crash (within_itself loaded).prefix stays (λ h. refl) (λ h. refl) (within_same (stop_of command) (length loaded.journal)) meta (gains_none c (goal_of command) loaded) second;
   steps = record { bound = omega arith; equal = λ is. refl; stops = within_same (stop_of command) n; idle = λ h. refl };
   text = wrote;
   answer = answer;
@@ -85,57 +92,56 @@ work_kept holds leaves written written' n command c loaded outcome kept wrote an
 
 -- the loaded book is refused
 pub work_refused : (holds : Book → Type 0) (leaves : Option Book → Type 0) (written : Option (List ℕ)) (n : ℕ) (command : Command) (c : Prepared) (loaded : Book) (refusal : BookRefusal) → Keeps holds leaves loaded → RefusesBook command c loaded refusal → Work leaves written written n n command c loaded (book_outcome refusal)
-work_refused holds leaves written n command c loaded RefusedNone kept why = work_kept holds leaves written written n command c loaded NoCampaign kept refl why (λ h. absurd h)
-work_refused holds leaves written n command c loaded RefusedBegun kept why = work_kept holds leaves written written n command c loaded AlreadyBegun kept refl why (λ h. absurd h)
-work_refused holds leaves written n command c loaded (RefusedBook error) kept why = work_kept holds leaves written written n command c loaded (BookBad error) kept refl why (λ h. absurd h)
-work_refused holds leaves written n command c loaded RefusedMemory kept why = work_kept holds leaves written written n command c loaded Memory kept refl tt (λ h. absurd h)
+work_refused holds leaves written n command c loaded RefusedNone kept why = work_kept holds leaves written written n command c loaded NoCampaign kept refl why (λ h. absurd h) (λ h. absurd h)
+work_refused holds leaves written n command c loaded RefusedBegun kept why = work_kept holds leaves written written n command c loaded AlreadyBegun kept refl why (λ h. absurd h) (λ h. absurd h)
+work_refused holds leaves written n command c loaded (RefusedBook error) kept why = work_kept holds leaves written written n command c loaded (BookBad error) kept refl why (λ h. absurd h) (λ h. absurd h)
+work_refused holds leaves written n command c loaded RefusedMemory kept why = work_kept holds leaves written written n command c loaded Memory kept refl tt (λ h. absurd h) (λ h. absurd h)
 
 -- what holds of a command that only reads the book
 reads_takes : (command : Command) (c : Prepared) (book : Book) → OnlyReads command → IsWellFormed c.campaign book → Takes command c book
 reads_takes Init c book reads form = absurd reads
-reads_takes (Run stop) c book reads form = absurd reads
+reads_takes (Run stop retry) c book reads form = absurd reads
 reads_takes Listing c book reads form = form
 reads_takes Status c book reads form = form
 reads_takes Source c book reads form = form
 
 reads_not_runs : (command : Command) → OnlyReads command → ¬ Runs command
 reads_not_runs Init reads runs = runs
-reads_not_runs (Run stop) reads runs = reads
+reads_not_runs (Run stop retry) reads runs = reads
 reads_not_runs Listing reads runs = runs
 reads_not_runs Status reads runs = runs
 reads_not_runs Source reads runs = runs
 
 pub reads_not_init : (command : Command) → OnlyReads command → command ≢ Init
 reads_not_init Init reads is = reads
-reads_not_init (Run stop) reads is = reads
+reads_not_init (Run stop retry) reads is = reads
 reads_not_init Listing reads is = cc
 reads_not_init Status reads is = cc
 reads_not_init Source reads is = cc
 
--- the text of a command by the rows of the book alone
-pub text_by_rows : (command : Command) (c : Prepared) (book : Book) → text_of command c book ≡ text_of command c (book_of c book.journal)
-text_by_rows Init c book = refl
-text_by_rows (Run stop) c book = refl
-text_by_rows Listing c book = refl
-text_by_rows Status c book = refl
-text_by_rows Source c book = refl
+-- the text of a command by the read tests of the book alone, which are those of its history
+text_by_groups : (command : Command) (c : Prepared) (book other : Book) → groups c.campaign other.journal ≡ groups c.campaign book.journal → text_of command c other ≡ text_of command c book
+text_by_groups command c book other same = ap (answers_text command c) same
+
+pub text_of_history : (command : Command) (c : Prepared) (book : Book) → IsPlan c → IsWellFormed c.campaign book → text_of command c book ≡ text_of command c (book_of c (history c.campaign book).journal)
+text_of_history command c book plan form = sym (text_by_groups command c book (book_of c (history c.campaign book).journal) (has_history c.campaign book (plan_fit c plan) form).groups)
 
 -- what a command tells that only reads the book
 pub work_told : (holds : Book → Type 0) (leaves : Option Book → Type 0) (written written' : Option (List ℕ)) (n : ℕ) (command : Command) (c : Prepared) (loaded : Book) (ending : Ending) → OnlyReads command → IsPlan c → IsWellFormed c.campaign loaded → Keeps holds leaves loaded
     → Delivers written written' (text_of command c loaded) ending → Work leaves written written' n n command c loaded (ended_outcome Done ending)
-work_told holds leaves written written' n command c loaded Written reads plan form kept wrote = work_kept holds leaves written written' n command c loaded Done kept wrote (reads_takes command c loaded reads form, form, λ runs. absurd (reads_not_runs command reads runs)) (λ h. form_meta c loaded plan form)
-work_told holds leaves written written' n command c loaded Refused reads plan form kept wrote = work_kept holds leaves written written' n command c loaded WriteFault kept wrote (reads_takes command c loaded reads form) (λ h. absurd h)
-work_told holds leaves written written' n command c loaded NoMemory reads plan form kept wrote = work_kept holds leaves written written' n command c loaded Memory kept wrote tt (λ h. absurd h)
+work_told holds leaves written written' n command c loaded Written reads plan form kept wrote = work_kept holds leaves written written' n command c loaded Done kept wrote (reads_takes command c loaded reads form, form, λ runs. absurd (reads_not_runs command reads runs)) (λ h. form_meta c loaded plan form) (λ h runs. absurd (reads_not_runs command reads runs))
+work_told holds leaves written written' n command c loaded Refused reads plan form kept wrote = work_kept holds leaves written written' n command c loaded WriteFault kept wrote (reads_takes command c loaded reads form) (λ h. absurd h) (λ h. absurd h)
+work_told holds leaves written written' n command c loaded NoMemory reads plan form kept wrote = work_kept holds leaves written written' n command c loaded Memory kept wrote tt (λ h. absurd h) (λ h. absurd h)
 
 -- the book was begun, and nothing more
 opened_good : (c : Prepared) → IsPlan c → IsGood (opened c)
-opened_good c plan = good_of c (opened c) plan (opened_form c) tt
+opened_good c plan = good_rows c [] plan (opened_form c plan) tt
 
 work_begun : (holds : Book → Type 0) (leaves : Option Book → Type 0) (written written' : Option (List ℕ)) (n : ℕ) (c : Prepared) (outcome : Outcome) → IsPlan c → Keeps holds leaves (opened c)
     → Wrote written written' (init_text c) outcome → Answers Init c blank (opened c) outcome → Work leaves written written' n n Init c blank outcome
 work_begun holds leaves written written' n c outcome plan kept wrote answer = record {
   sure = opened c;
-  book = grew_exact leaves Init c blank (opened c) (opened c ∷ []) outcome (inl (refl, refl), refl) kept.crash (inl refl) (λ was. inl (opened_good c plan)) (λ h. absurd h) (λ h. refl) tt (λ h. plan_begun c plan);
+  book = grew_exact leaves Init c blank (opened c) (opened c ∷ []) outcome (inl (refl, refl), refl) kept.crash (inl refl) (λ was. inl (opened_good c plan)) (λ h. absurd h) (λ h. refl) tt (λ h. plan_begun c plan) (gains_opened c (goal_of Init)) (λ h runs. absurd runs);
   steps = record { bound = omega arith; equal = λ is. refl; stops = tt; idle = λ h. refl };
   text = wrote;
   answer = answer;
@@ -143,7 +149,7 @@ work_begun holds leaves written written' n c outcome plan kept wrote answer = re
 
 pub work_init : (holds : Book → Type 0) (leaves : Option Book → Type 0) (written written' : Option (List ℕ)) (n : ℕ) (c : Prepared) (ending : Ending) → IsPlan c → Keeps holds leaves (opened c)
     → Delivers written written' (init_text c) ending → Work leaves written written' n n Init c blank (ended_outcome Done ending)
-work_init holds leaves written written' n c Written plan kept wrote = work_begun holds leaves written written' n c Done plan kept wrote (refl, opened_form c, λ h. absurd h)
+work_init holds leaves written written' n c Written plan kept wrote = work_begun holds leaves written written' n c Done plan kept wrote (refl, opened_form c plan, λ h. absurd h)
 work_init holds leaves written written' n c Refused plan kept wrote = work_begun holds leaves written written' n c WriteFault plan kept wrote refl
 work_init holds leaves written written' n c NoMemory plan kept wrote = work_begun holds leaves written written' n c Memory plan kept wrote tt
 
@@ -163,9 +169,11 @@ grew_unopened leaves command c outcome plan writes not either = record {
   reads = λ h. absurd (writes h);
   no_entry = λ h. either_books leaves (λ b. b.journal ≡ []) blank (opened c) either refl refl;
   gained = within_same (stop_of command) 0;
+  wanted_only = gains_none c (goal_of command) blank;
   stops = either_books leaves (λ b. IsWithin (stop_of command) 0 (length b.journal)) blank (opened c) either (within_same (stop_of command) 0) (within_same (stop_of command) 0);
   exact = λ h. absurd (not h);
   is_begun = λ h. absurd (not h);
+  second = λ h. absurd (not h);
   changes = [];
   course = refl;
   near = either_books leaves (IsNear c blank) blank (opened c) either (inl refl) (inr (inl (refl, refl)));
@@ -196,18 +204,27 @@ within_steps : (stop : Option ℕ) (start rows before now : ℕ) → now + start
 within_steps None start rows before now steps within = tt
 within_steps (Some stop) start rows before now steps within = omega (arith, steps, within)
 
+-- the words of a book of the second format, and those of its history
+right_start : (c : Prepared) (rows : List Entry) → IsPlan c → IsWellFormed c.campaign (book_of c rows) → IsBlankOrGood (book_of c rows) → AreRight c rows
+right_start c rows plan form was = subst (λ (b : Book). AreRight c b.journal) (history_second c (book_of c rows) (book_second c rows plan)) (right_of c (book_of c rows) plan form was)
+
+right_rows : (c : Prepared) (rows : List Entry) → IsPlan c → AreRight c rows → AreRight c (history c.campaign (book_of c rows)).journal
+right_rows c rows plan all = subst (λ (b : Book). AreRight c b.journal) (sym (history_second c (book_of c rows) (book_second c rows plan))) all
+
 -- a run that want of memory or an error of the keeper ended
-grew_broke : (leaves : Option Book → Type 0) (stop : Option ℕ) (c : Prepared) (start : List Entry) (before now : ℕ) (outcome : Outcome) → IsPlan c → IsWellFormed c.campaign (book_of c start) → (b : Broke leaves c stop start before now) → ¬ Carried outcome → Grew leaves (Run stop) c (book_of c start) (book_of c b.rows) outcome
-grew_broke leaves stop c start before now outcome plan form b not = record {
-  grown = inr b.ran.goes_on;
+grew_broke : (leaves : Option Book → Type 0) (stop retry : Option ℕ) (c : Prepared) (start : List Entry) (before now : ℕ) (outcome : Outcome) → IsPlan c → IsWellFormed c.campaign (book_of c start) → (b : Broke leaves c (run_goal retry) stop start before now) → ¬ Carried outcome → Grew leaves (Run stop retry) c (book_of c start) (book_of c b.rows) outcome
+grew_broke leaves stop retry c start before now outcome plan form b not = record {
+  grown = prefix_on (book_of c start) (book_of c b.rows) b.ran.goes_on;
   within_one = weaker_books leaves Next (IsWithinOne sure) within b.left;
-  good = λ was. weaker_books leaves Next (λ x. IsGood x ⊎ (IsBlank x × IsBlank (book_of c start))) (λ other next. inl (good (b.ran.words_right (right_of c (book_of c start) plan form was)) other next)) b.left;
+  good = λ was. weaker_books leaves Next (λ x. IsGood x ⊎ (IsBlank x × IsBlank (book_of c start))) (λ other next. inl (good (b.ran.words_right (right_start c start plan form was)) other next)) b.left;
   reads = λ h. absurd h;
   no_entry = λ h. absurd (h tt);
   gained = within_less stop (length start) (length b.rows) b.within;
+  wanted_only = gains_ran c (run_goal retry) start b.rows plan b.ran;
   stops = weaker_books leaves Next (λ x. IsWithin stop (length start) (length x.journal)) stops b.left;
   exact = λ h. absurd (not h);
   is_begun = λ h. absurd (not h);
+  second = λ h. absurd (not h);
   changes = b.ran.changes;
   course = b.ran.course;
   near = weaker_books leaves Next (IsNear c sure) near b.left;
@@ -224,9 +241,9 @@ grew_broke leaves stop c start before now outcome plan form b not = record {
     within other (inr (e, next, more)) = subst (λ (x : Book). IsWithinOne sure x) (sym more) (within_more sure e)
 
     good : AreRight c b.rows → (other : Book) → Next other → IsGood other
-    good right other (inl same) = subst IsGood (sym same) (good_of c sure plan b.ran.form right)
+    good right other (inl same) = subst IsGood (sym same) (good_rows c b.rows plan b.ran.form right)
     good right other (inr (e, next, more)) =
-        subst IsGood (sym more) (good_of c (with_entry sure e) plan (form_more c sure e b.ran.form next) (right_more c b.rows e right next.word_right))
+        subst IsGood (sym more) (good_more c sure e plan b.ran.form next (right_rows c b.rows plan right))
 
     stops : (other : Book) → Next other → IsWithin stop (length start) (length other.journal)
     stops other (inl same) = subst (λ (x : Book). IsWithin stop (length start) (length x.journal)) (sym same) (within_less stop (length start) (length b.rows) b.within)
@@ -235,94 +252,100 @@ grew_broke leaves stop c start before now outcome plan form b not = record {
 
     near : (other : Book) → Next other → IsNear c sure other
     near other (inl same) = inl same
-    near other (inr (e, next, more)) = inr (inr (b.ran.form, (e, next, more)))
+    near other (inr (e, next, more)) = inr (inr (inl (record { form = b.ran.form; row = e; may = next; is = more })))
 
-pub work_broke : (leaves : Option Book → Type 0) (written written' : Option (List ℕ)) (before now : ℕ) (stop : Option ℕ) (c : Prepared) (start : List Entry) (e : KeepError) → IsPlan c → IsWellFormed c.campaign (book_of c start)
-    → Broke leaves c stop start before now → written' ≡ written → Work leaves written written' before now (Run stop) c (book_of c start) (failed_outcome e)
-work_broke leaves written written' before now stop c start KeepFault plan form b same = record {
+pub work_broke : (leaves : Option Book → Type 0) (written written' : Option (List ℕ)) (before now : ℕ) (stop retry : Option ℕ) (c : Prepared) (start : List Entry) (e : KeepError) → IsPlan c → IsWellFormed c.campaign (book_of c start)
+    → Broke leaves c (run_goal retry) stop start before now → written' ≡ written → Work leaves written written' before now (Run stop retry) c (book_of c start) (failed_outcome e)
+work_broke leaves written written' before now stop retry c start KeepFault plan form b same = record {
   sure = book_of c b.rows;
-  book = grew_broke leaves stop c start before now KeeperFault plan form b (λ h. h);
+  book = grew_broke leaves stop retry c start before now KeeperFault plan form b (λ h. h);
   steps = record { bound = b.steps; equal = λ is. absurd is; stops = within_steps stop (length start) (length b.rows + 1) before now (omega (arith, b.steps)) b.within; idle = λ h. absurd (h tt) };
   text = same;
   answer = inr form;
 }
-work_broke leaves written written' before now stop c start KeepMemory plan form b same = record {
+work_broke leaves written written' before now stop retry c start KeepMemory plan form b same = record {
   sure = book_of c b.rows;
-  book = grew_broke leaves stop c start before now Memory plan form b (λ h. h);
+  book = grew_broke leaves stop retry c start before now Memory plan form b (λ h. h);
   steps = record { bound = b.steps; equal = λ is. absurd is; stops = within_steps stop (length start) (length b.rows + 1) before now (omega (arith, b.steps)) b.within; idle = λ h. absurd (h tt) };
   text = same;
   answer = tt;
 }
 
 -- the run went on until it was to end
-pub record Went (c : Prepared) (stop : Option ℕ) (start rows : List Entry) : Type 0 where
+pub record Went (c : Prepared) (aim : Goal) (stop : Option ℕ) (start rows : List Entry) : Type 0 where
   pub plan : IsPlan c
   pub form : IsWellFormed c.campaign (book_of c start)
-  pub ran : Ran c start rows
-  pub ends : IsFinished c.campaign (book_of c rows) ⊎ Reached stop start rows
+  pub ran : Ran c aim start rows
+  pub goal : IsGoal aim
+  pub ends : WantsNone c aim rows ⊎ Reached stop start rows
   pub within : IsWithin stop (length start) (length rows)
 
-abbrev pub count : Prepared → List Entry → ℕ
-count c rows = finished_count c (book_of c rows)
+-- how many mutations want a test still
+abbrev pub count : Prepared → Option ℕ → List Entry → ℕ
+count c retry rows = wanting c (run_goal retry) rows
 
-finished_of : (c : Prepared) (rows : List Entry) → length c.campaign.mutations ≡ count c rows → IsFinished c.campaign (book_of c rows)
-finished_of c rows all m below = let place : 0 + m ≡ m = omega arith in subst (λ (j : ℕ). is_ended (ask_on c.campaign j rows) ≡ true) place (all_counted c.campaign 0 (length c.campaign.mutations) m rows (sym all) below)
+-- where none is counted, none wants a test, and the book is finished
+none_of : (c : Prepared) (retry : Option ℕ) (rows : List Entry) → count c retry rows ≡ 0 → WantsNone c (run_goal retry) rows
+none_of c retry rows none m below = let place : 0 + m ≡ m = omega arith in subst (λ (j : ℕ). wanted c.campaign rows j (run_goal retry) ≡ None) place (none_counted c (run_goal retry) rows 0 (length c.campaign.mutations) m none below)
 
-count_of : (c : Prepared) (rows : List Entry) → IsFinished c.campaign (book_of c rows) → count c rows ≡ length c.campaign.mutations
-count_of c rows finished = counted_all c.campaign 0 (length c.campaign.mutations) rows (λ k below. let place : k ≡ 0 + k = omega arith in subst (λ (j : ℕ). is_ended (ask_on c.campaign j rows) ≡ true) place (finished k below))
+count_of : (c : Prepared) (retry : Option ℕ) (rows : List Entry) → WantsNone c (run_goal retry) rows → count c retry rows ≡ 0
+count_of c retry rows none = counted_none c (run_goal retry) rows 0 (length c.campaign.mutations) (λ k below. let place : k ≡ 0 + k = omega arith in subst (λ (j : ℕ). wanted c.campaign rows j (run_goal retry) ≡ None) place (none k below))
 
-whole : (c : Prepared) (stop : Option ℕ) (start rows : List Entry) → Went c stop start rows → IsFinished c.campaign (book_of c rows) → Answers (Run stop) c (book_of c start) (book_of c rows) Done
-whole c stop start rows went finished = (
+-- each mutation is in the goal of a run
+in_all : (retry : Option ℕ) (m : ℕ) → is_in (run_goal retry) m ≡ true
+in_all retry m = let rest : m % 1 ≡ 0 = omega arith in rw rest refl
+
+finished_of : (c : Prepared) (retry : Option ℕ) (rows : List Entry) → IsGoal (run_goal retry) → WantsNone c (run_goal retry) rows → IsFinished c.campaign (book_of c rows)
+finished_of c retry rows goal none m below = unwanted_ended c.campaign rows m (run_goal retry) (in_all retry m) (none m below)
+
+whole : (c : Prepared) (stop retry : Option ℕ) (start rows : List Entry) → Went c (run_goal retry) stop start rows → WantsNone c (run_goal retry) rows → Answers (Run stop retry) c (book_of c start) (book_of c rows) Done
+whole c stop retry start rows went none = (
   inr went.form,
   went.ran.form,
-  λ runs. record {
-    finished = finished;
-    final = λ was. final_is (Run stop) c (book_of c rows) went.ran.form (went.ran.words_right (right_of c (book_of c start) went.plan went.form was)) finished;
-  },
+  λ runs.
+      let finished : IsFinished c.campaign (book_of c rows) = finished_of c retry rows went.goal none in
+      record {
+        wants_none = none;
+        finished = finished;
+        final = λ was. final_is (Run stop retry) c (book_of c rows) went.plan (right_rows c rows went.plan (went.ran.words_right (right_start c start went.plan went.form was))) finished;
+      },
 )
 
-stopped : (c : Prepared) (stop : Option ℕ) (start rows : List Entry) → Went c stop start rows → (length c.campaign.mutations ≢ count c rows) → Reached stop start rows → Answers (Run stop) c (book_of c start) (book_of c rows) (Unfinished (length c.campaign.mutations - count c rows))
-stopped c None start rows went some reached = absurd reached
-stopped c (Some k) start rows went some reached =
-    let few : count c rows ≤ length c.campaign.mutations = counted_few c.campaign (length c.campaign.mutations) rows in (
-      inr went.form,
-      went.ran.form,
-      record {
-        stop = k;
-        asked = refl;
-        gained = reached;
-        left_is = omega (arith, few);
-        some = omega (arith, few, some);
-      },
-    )
+stopped : (c : Prepared) (stop retry : Option ℕ) (start rows : List Entry) → Went c (run_goal retry) stop start rows → (count c retry rows ≢ 0) → Reached stop start rows → Answers (Run stop retry) c (book_of c start) (book_of c rows) (Unfinished (count c retry rows))
+stopped c None retry start rows went some reached = absurd reached
+stopped c (Some k) retry start rows went some reached = (
+  inr went.form,
+  went.ran.form,
+  record { stop = k; asked = refl; gained = reached; left_is = refl; some = omega (arith, some) },
+)
 
-ran_answer : (c : Prepared) (stop : Option ℕ) (start rows : List Entry) → Went c stop start rows → Answers (Run stop) c (book_of c start) (book_of c rows) (run_outcome c rows)
-ran_answer c stop start rows went = elim (eqb_tells (length c.campaign.mutations) (count c rows)) [
-  | inl h ↦ rw h.0 (whole c stop start rows went (finished_of c rows h.1))
-  | inr h ↦ rw h.0 (elim went.ends [ inl finished ↦ absurd (h.1 (sym (count_of c rows finished))) | inr reached ↦ stopped c stop start rows went h.1 reached ])
+ran_answer : (c : Prepared) (stop retry : Option ℕ) (start rows : List Entry) → Went c (run_goal retry) stop start rows → Answers (Run stop retry) c (book_of c start) (book_of c rows) (run_outcome c (run_goal retry) rows)
+ran_answer c stop retry start rows went = elim (eqb_tells (count c retry rows) 0) [
+  | inl h ↦ rw h.0 (whole c stop retry start rows went (none_of c retry rows h.1))
+  | inr h ↦ rw h.0 (elim went.ends [ inl none ↦ absurd (h.1 (count_of c retry rows none)) | inr reached ↦ stopped c stop retry start rows went h.1 reached ])
 ]
 
-ran_wrote : (written written' : Option (List ℕ)) (c : Prepared) (rows : List Entry) → Delivers written written' (status_text c.campaign rows) Written → Wrote written written' (status_text c.campaign rows) (run_outcome c rows)
-ran_wrote written written' c rows wrote = elim (eqb_tells (length c.campaign.mutations) (count c rows)) [ inl h ↦ rw h.0 wrote | inr h ↦ rw h.0 wrote ]
+ran_wrote : (written written' : Option (List ℕ)) (c : Prepared) (retry : Option ℕ) (rows : List Entry) → Delivers written written' (status_text c.campaign rows) Written → Wrote written written' (status_text c.campaign rows) (run_outcome c (run_goal retry) rows)
+ran_wrote written written' c retry rows wrote = elim (eqb_tells (count c retry rows) 0) [ inl h ↦ rw h.0 wrote | inr h ↦ rw h.0 wrote ]
 
-pub work_ran : (holds : Book → Type 0) (leaves : Option Book → Type 0) (written written' : Option (List ℕ)) (before now : ℕ) (stop : Option ℕ) (c : Prepared) (start rows : List Entry) (ending : Ending) → Went c stop start rows → Keeps holds leaves (book_of c rows)
-    → now + length start ≡ before + length rows → Delivers written written' (status_text c.campaign rows) ending → Work leaves written written' before now (Run stop) c (book_of c start) (ended_outcome (run_outcome c rows) ending)
-work_ran holds leaves written written' before now stop c start rows ending went kept steps wrote = record {
+pub work_ran : (holds : Book → Type 0) (leaves : Option Book → Type 0) (written written' : Option (List ℕ)) (before now : ℕ) (stop retry : Option ℕ) (c : Prepared) (start rows : List Entry) (ending : Ending) → Went c (run_goal retry) stop start rows → Keeps holds leaves (book_of c rows)
+    → now + length start ≡ before + length rows → Delivers written written' (status_text c.campaign rows) ending → Work leaves written written' before now (Run stop retry) c (book_of c start) (ended_outcome (run_outcome c (run_goal retry) rows) ending)
+work_ran holds leaves written written' before now stop retry c start rows ending went kept steps wrote = record {
   sure = book_of c rows;
-  book = grew_exact leaves (Run stop) c (book_of c start) (book_of c rows) went.ran.changes (ended_outcome (run_outcome c rows) ending) went.ran.course kept.crash (inr went.ran.goes_on)
-      (λ was. inl (good_of c (book_of c rows) went.plan went.ran.form (went.ran.words_right (right_of c (book_of c start) went.plan went.form was)))) (λ h. absurd h) (λ h. absurd (h tt)) went.within (λ h. plan_begun c went.plan);
+  book = grew_exact leaves (Run stop retry) c (book_of c start) (book_of c rows) went.ran.changes (ended_outcome (run_outcome c (run_goal retry) rows) ending) went.ran.course kept.crash (prefix_on (book_of c start) (book_of c rows) went.ran.goes_on)
+      (λ was. inl (good_rows c rows went.plan went.ran.form (went.ran.words_right (right_start c start went.plan went.form was)))) (λ h. absurd h) (λ h. absurd (h tt)) went.within (λ h. plan_begun c went.plan) (gains_ran c (run_goal retry) start rows went.plan went.ran) (λ h runs. book_second c rows went.plan);
   steps = record { bound = omega (arith, steps); equal = λ is. steps; stops = within_steps stop (length start) (length rows) before now (omega (arith, steps)) went.within; idle = λ h. absurd (h tt) };
   text = text ending wrote;
   answer = answer ending;
 }
   where
-    text : (e : Ending) → Delivers written written' (status_text c.campaign rows) e → Wrote written written' (status_text c.campaign rows) (ended_outcome (run_outcome c rows) e)
-    text Written w = ran_wrote written written' c rows w
+    text : (e : Ending) → Delivers written written' (status_text c.campaign rows) e → Wrote written written' (status_text c.campaign rows) (ended_outcome (run_outcome c (run_goal retry) rows) e)
+    text Written w = ran_wrote written written' c retry rows w
     text Refused w = w
     text NoMemory w = w
 
-    answer : (e : Ending) → Answers (Run stop) c (book_of c start) (book_of c rows) (ended_outcome (run_outcome c rows) e)
-    answer Written = ran_answer c stop start rows went
+    answer : (e : Ending) → Answers (Run stop retry) c (book_of c start) (book_of c rows) (ended_outcome (run_outcome c (run_goal retry) rows) e)
+    answer Written = ran_answer c stop retry start rows went
     answer Refused = inr went.form
     answer NoMemory = tt
 
@@ -330,24 +353,29 @@ work_ran holds leaves written written' before now stop c start rows ending went 
 opened_not_bad : (c : Prepared) (error : BookError) → IsPlan c → ¬ IsBookBad c (opened c) error
 opened_not_bad c (Stray mutations rows) plan bad = plan_begun c plan bad.0
 opened_not_bad c NoBookMemory plan bad = bad
-opened_not_bad c (Meta place old new) plan bad = bad.1 (opened_form c)
-opened_not_bad c (Mutation place old new) plan bad = bad.1 (opened_form c)
-opened_not_bad c (Row e fault) plan bad = bad.1 (opened_form c)
+opened_not_bad c (Meta place old new) plan bad = bad.1 (opened_form c plan)
+opened_not_bad c (Mutation place old new) plan bad = bad.1 (opened_form c plan)
+opened_not_bad c (Row e fault) plan bad = bad.1 (opened_form c plan)
 
-opened_answer : (stop : Option ℕ) (c : Prepared) (sure : Book) (outcome : Outcome) → IsPlan c → Answers (Run stop) c (opened c) sure outcome → Answers (Run stop) c blank sure outcome
-opened_answer stop c sure Done plan (takes, form, whole) = (inl refl, form, λ runs. record { finished = (whole runs).finished; final = λ was. (whole runs).final (inr (opened_good c plan)) })
-opened_answer stop c sure (Unfinished left) plan (takes, form, s) = (inl refl, form, record { stop = s.stop; asked = s.asked; gained = s.gained; left_is = s.left_is; some = s.some })
-opened_answer stop c sure NoCampaign plan answer = absurd answer.1
-opened_answer stop c sure AlreadyBegun plan answer = absurd (let is : Run stop ≡ Init = answer.1 in cc)
-opened_answer stop c sure (BookBad error) plan answer = absurd (opened_not_bad c error plan answer.0)
-opened_answer stop c sure KeeperFault plan answer = inl refl
-opened_answer stop c sure WriteFault plan answer = inl refl
-opened_answer stop c sure Memory plan answer = tt
-opened_answer stop c sure outcome plan answer = absurd answer
+opened_answer : (stop retry : Option ℕ) (c : Prepared) (sure : Book) (outcome : Outcome) → IsPlan c → Answers (Run stop retry) c (opened c) sure outcome → Answers (Run stop retry) c blank sure outcome
+opened_answer stop retry c sure Done plan (takes, form, whole) = (inl refl, form, λ runs. record { wants_none = (whole runs).wants_none; finished = (whole runs).finished; final = λ was. (whole runs).final (inr (opened_good c plan)) })
+opened_answer stop retry c sure (Unfinished left) plan (takes, form, s) = (inl refl, form, record { stop = s.stop; asked = s.asked; gained = s.gained; left_is = s.left_is; some = s.some })
+opened_answer stop retry c sure NoCampaign plan answer = absurd answer.1
+opened_answer stop retry c sure AlreadyBegun plan answer = absurd (let is : Run stop retry ≡ Init = answer.1 in cc)
+opened_answer stop retry c sure (BookBad error) plan answer = absurd (opened_not_bad c error plan answer.0)
+opened_answer stop retry c sure KeeperFault plan answer = inl refl
+opened_answer stop retry c sure WriteFault plan answer = inl refl
+opened_answer stop retry c sure Memory plan answer = tt
+opened_answer stop retry c sure outcome plan answer = absurd answer
 
-pub work_opened : (leaves : Option Book → Type 0) (written written' : Option (List ℕ)) (before now : ℕ) (stop : Option ℕ) (c : Prepared) (outcome : Outcome) → IsPlan c
-    → Work leaves written written' before now (Run stop) c (opened c) outcome → Work leaves written written' before now (Run stop) c blank outcome
-work_opened leaves written written' before now stop c outcome plan w = record {
+-- the rows beyond its history, which is itself
+opened_gains : (c : Prepared) (retry : Option ℕ) (sure : Book) → IsPlan c → GainsWanted c (run_goal retry) (opened c) sure → GainsWanted c (run_goal retry) blank sure
+opened_gains c retry sure plan gains =
+    subst (λ (b : Book). (more : List Entry) → sure.journal ≡ b.journal ++ more → AreWanted c (run_goal retry) b.journal more) (history_second c (opened c) (book_second c [] plan)) gains
+
+pub work_opened : (leaves : Option Book → Type 0) (written written' : Option (List ℕ)) (before now : ℕ) (stop retry : Option ℕ) (c : Prepared) (outcome : Outcome) → IsPlan c
+    → Work leaves written written' before now (Run stop retry) c (opened c) outcome → Work leaves written written' before now (Run stop retry) c blank outcome
+work_opened leaves written written' before now stop retry c outcome plan w = record {
   sure = w.sure;
   book = record {
     grown = inl refl;
@@ -356,16 +384,18 @@ work_opened leaves written written' before now stop c outcome plan w = record {
     reads = λ h. absurd h;
     no_entry = λ h. absurd (h tt);
     gained = w.book.gained;
+    wanted_only = opened_gains c retry w.sure plan w.book.wanted_only;
     stops = w.book.stops;
     exact = w.book.exact;
     is_begun = w.book.is_begun;
+    second = w.book.second;
     changes = opened c ∷ w.book.changes;
     course = (inl (refl, refl), w.book.course);
     near = w.book.near;
   };
   steps = record { bound = w.steps.bound; equal = w.steps.equal; stops = w.steps.stops; idle = λ h. absurd (h tt) };
   text = w.text;
-  answer = opened_answer stop c w.sure outcome plan w.answer;
+  answer = opened_answer stop retry c w.sure outcome plan w.answer;
 }
   where
     good : (other : Book) → IsGood other ⊎ (IsBlank other × IsBlank (opened c)) → IsGood other ⊎ (IsBlank other × IsBlank blank)
@@ -380,12 +410,8 @@ ending_ends written written' k k' s s' text o Written carried wrote rose = absur
 ending_ends written written' k k' s s' text o Refused carried wrote rose = record { quiet = tt; cause = rose refl }
 ending_ends written written' k k' s s' text o NoMemory carried wrote rose = record { quiet = wrote; cause = tt }
 
-pub run_carried : (c : Prepared) (rows : List Entry) → Carried (run_outcome c rows)
-run_carried c rows = elim (eqb_tells (length c.campaign.mutations) (count c rows)) [ inl h ↦ rw h.0 tt | inr h ↦ rw h.0 tt ]
+pub run_carried : (c : Prepared) (retry : Option ℕ) (rows : List Entry) → Carried (run_outcome c (run_goal retry) rows)
+run_carried c retry rows = elim (eqb_tells (count c retry rows) 0) [ inl h ↦ rw h.0 tt | inr h ↦ rw h.0 tt ]
 
--- where no mutation is left the run is done
-pub outcome_done : (c : Prepared) (rows : List Entry) → length c.campaign.mutations ≡ count c rows → Done ≡ run_outcome c rows
-outcome_done c rows all = elim (eqb_tells (length c.campaign.mutations) (count c rows)) [ inl h ↦ rw h.0 refl | inr h ↦ absurd (h.1 all) ]
-
-pub run_not_init : (stop : Option ℕ) → Run stop ≢ Init
-run_not_init stop is = cc
+pub run_not_init : (stop retry : Option ℕ) → Run stop retry ≢ Init
+run_not_init stop retry is = cc

@@ -17,7 +17,7 @@ use Rattle.mcy_top.specs.Commands.{OnlyReads}
 abbrev pub told : ℕ → ℕ
 told n = if nat_le n 4294967295 then n else 4294967295
 
--- The book has no meta, but mutations or rows; or it is begun, and is not the campaign's.
+-- The book has no meta, but mutations or rows; or it is begun, and is not the campaign's in either format.
 abbrev pub IsBookBad : Prepared → Book → BookError → Type 0
 IsBookBad c book (Stray mutations rows) = (book.meta ≡ []) × (¬ IsBlank book) × (mutations ≡ told (length book.mutations)) × (rows ≡ told (length book.journal))
 IsBookBad c book NoMemory = ⊥

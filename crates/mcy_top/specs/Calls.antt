@@ -11,7 +11,7 @@ use Rattle.campaign_run.specs.Changes.{IsNear}
 use Rattle.mcy_top.specs.Life.{Early, Life}
 use Rattle.mcy_top.specs.Lives.{IsLife}
 
--- the longest book that is a first part of every book that a crash may leave
+-- the longest book that is a first part of every book that a crash may leave, as they stand or upgraded
 pub record IsSureBook (leaves : Option Book → Type 0) (book : Book) : Type 0 where
   pub prefix : (other : Book) → leaves (Some other) → IsPrefix book other
   pub longest : (shorter : Book) → ((other : Book) → leaves (Some other) → IsPrefix shorter other) → IsPrefix shorter book

@@ -1,12 +1,13 @@
 -- What a campaign defines: a function of the project and of the pairs that were given up. There is no order of tests,
--- no slot and no stop in it.
-use Rattle.std.specs.Prelude.{◌≡◌, ℕ, ◌+◌, Bool, true, ◌==◌, ◌&&◌, ◌||◌, false, List, [], ◌∷◌, ◌++◌, length, slice_get, Option, Some, if◌then◌else◌}
+-- no slot, no stop and no bound in it.
+use Rattle.std.specs.Prelude.{◌≡◌, ℕ, ◌+◌, Bool, true, ◌==◌, ◌&&◌, ◌||◌, not, false, List, [], ◌∷◌, ◌++◌, length, slice_get, Option, Some, if◌then◌else◌}
 use Rattle.std.specs.Bool.{MatchBool}
 use Rattle.mcy_keeper.specs.declared.book.Entry.{Entry}
 use Rattle.result_book.specs.declared.script.TestWord.TheVariants.{Unknown}
 use Rattle.tag_script.specs.declared.answer.Ask.TheVariants.{Need}
 use Rattle.campaign_plan.specs.declared.prepared.Prepared.{Prepared}
-use Rattle.result_book.specs.Scripts.{Answer, word_code, ask, is_ended}
+use Rattle.result_book.specs.declared.answer.Answer.{Answer}
+use Rattle.result_book.specs.Scripts.{word_code, ask, is_ended}
 use Rattle.campaign_plan.specs.declared.trial.Trial.{Trial}
 use Rattle.campaign_plan.specs.declared.trial.Trial.TheVariants.{Equality}
 use Rattle.campaign_run.specs.Rows.{IsTrueWord}
@@ -18,10 +19,19 @@ pub record Pair : Type 0 where
   pub mutation : ℕ
   pub test : ℕ
 
--- the pairs whose word among the rows is UNKNOWN
+-- whether one of the rows is of this pair
+abbrev pub has_pair : List Entry → ℕ → ℕ → Bool
+has_pair [] m t = false
+has_pair (e ∷ more) m t = (e.mutation == m && e.test == t) || has_pair more m t
+
+-- whether the row is the last one of its pair, before these, and has the word UNKNOWN
+abbrev pub stays_unknown : Entry → List Entry → Bool
+stays_unknown e more = e.word == word_code Unknown && not (has_pair more e.mutation e.test)
+
+-- the pairs whose last word among the rows is UNKNOWN
 abbrev pub given_up : List Entry → List Pair
 given_up [] = []
-given_up (e ∷ more) = if e.word == word_code Unknown then record { mutation = e.mutation; test = e.test } ∷ given_up more else given_up more
+given_up (e ∷ more) = if stays_unknown e more then record { mutation = e.mutation; test = e.test } ∷ given_up more else given_up more
 
 abbrev pub is_given_up : List Pair → ℕ → ℕ → Bool
 is_given_up [] m t = false

@@ -1,5 +1,5 @@
 -- How the work of a command ends.
-use Rattle.std.specs.Prelude.{◌≡◌, ℕ, ◌-◌, ◌==◌, List, length, Option, ⊤, if◌then◌else◌}
+use Rattle.std.specs.Prelude.{◌≡◌, ℕ, ◌==◌, List, Option, ⊤, if◌then◌else◌}
 use Rattle.mcy_base.specs.Causes.{Rose}
 use Rattle.mcy_keeper.specs.declared.book.Entry.{Entry}
 use Rattle.mcy_keeper.specs.declared.keeper.KeepError.{KeepError}
@@ -10,8 +10,8 @@ use Rattle.mcy_top.specs.declared.work.Ending.TheVariants.{Written, Refused, NoM
 use Rattle.campaign_outcomes.specs.declared.outcome.Outcome.{Outcome}
 use Rattle.campaign_outcomes.specs.declared.outcome.Outcome.TheVariants.{Done, Unfinished, NoCampaign, AlreadyBegun, BookBad, KeeperFault, WriteFault, Memory}
 use Rattle.campaign_plan.specs.declared.prepared.Prepared.{Prepared}
-use Rattle.campaign_run.specs.Running.{book_of}
-use Rattle.mcy_top.specs.Life.{finished_count, IsQuiet}
+use Rattle.result_book.specs.declared.goal.Goal.{Goal}
+use Rattle.mcy_top.specs.Life.{wanting, IsQuiet}
 
 -- the outcome of a command, from its outcome where the text is written
 abbrev pub ended_outcome : Outcome → Ending → Outcome
@@ -48,7 +48,5 @@ pub record Ends (written written' : Option (List ℕ)) (keeper keeper' sink sink
   pub cause : HasLateCause keeper keeper' sink sink' outcome
 
 -- the outcome of a run whose text is written
-abbrev pub run_outcome : Prepared → List Entry → Outcome
-run_outcome c rows =
-    if length c.campaign.mutations == finished_count c (book_of c rows) then Done
-    else Unfinished (length c.campaign.mutations - finished_count c (book_of c rows))
+abbrev pub run_outcome : Prepared → Goal → List Entry → Outcome
+run_outcome c goal rows = if wanting c goal rows == 0 then Done else Unfinished (wanting c goal rows)

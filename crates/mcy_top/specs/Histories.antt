@@ -2,7 +2,7 @@
 use Rattle.std.specs.Prelude.{◌≡◌, ◌⊎◌, ℕ, List, [], ◌∷◌, ◌++◌, take, Option, Some, IsSomeAnd, ⊤}
 use mathlib.Core.Logic.{inl, inr}
 use Rattle.mcy_keeper.specs.declared.book.Book.{Book}
-use Rattle.mcy_keeper.specs.Books.{blank, LeavesNothingNew, LeavesSome}
+use Rattle.mcy_keeper.specs.Books.{LeavesNothingNew, LeavesSome}
 use Rattle.mcy_outside.specs.Files.{Held}
 use Rattle.mcy_outside.specs.Written.{Appends}
 use Rattle.result_book.specs.Rows.{IsFinished}
@@ -10,13 +10,14 @@ use Rattle.campaign_plan.specs.declared.prepared.Prepared.{Prepared}
 use Rattle.command_words.specs.declared.command.Command.{Command}
 use Rattle.campaign_outcomes.specs.declared.outcome.Outcome.{Outcome}
 use Rattle.campaign_outcomes.specs.declared.outcome.Outcome.TheVariants.{Done}
-use Rattle.mcy_top.specs.Commands.{Runs}
+use Rattle.mcy_top.specs.Commands.{goal_of, Runs}
 use Rattle.campaign_run.specs.Rows.{IsBlankOrGood}
 use Rattle.campaign_run.specs.Crashes.{LeavesBooks}
 use Rattle.campaign_run.specs.Changes.{IsNear}
+use Rattle.campaign_run.specs.Running.{WantsNone}
 use Rattle.mcy_top.specs.Defined.{given_up, IsFinalText}
 use Rattle.mcy_top.specs.Life.{Early, Life}
-use Rattle.mcy_top.specs.Lives.{AreSafe, IsHistory, Lived}
+use Rattle.mcy_top.specs.Lives.{AreSafe, IsHistory, IsStart, Lived}
 
 -- A call of `mcy_main`: its words, what the files hold, the keeper, the text and the steps at its entry and at its end,
 -- and its outcome.
@@ -88,9 +89,9 @@ Left holds leaves (Ended call) is = leaves call.after
 Left holds leaves (CutEarly call) is = leaves call.before
 Left holds leaves (Cut call count) life = λ left. IsSomeAnd left (IsNear life.prepared (last_of life.loaded (take count life.work.book.changes)))
 
--- at first there is the empty book
-abbrev pub IsNew : Option Book → Type 0
-IsNew left = left ≡ Some blank
+-- at first there is this book
+abbrev pub IsNew : Book → Option Book → Type 0
+IsNew start left = left ≡ Some start
 
 -- The keeper at the first entry leaves only what was found, and that at each next entry only what the turn before may
 -- have left.
@@ -103,13 +104,13 @@ abbrev pub lives_of : {K : Type 0} (holds : K → Book → Type 0) (leaves : K �
 lives_of holds leaves found [] are = []
 lives_of holds leaves found (turn ∷ more) are = life_of holds leaves turn are.1.0 ++ lives_of holds leaves (Left holds leaves turn are.1.0) more are.1.1
 
--- A list of calls that begins with the empty book is a list of lives,
+-- A list of calls that begins with a book, such as the empty one or a good one of the first format, is a list of lives,
 abbrev pub CallsAreAHistory : {K : Type 0} → (K → Book → Type 0) → (K → Option Book → Type 0) → Type 0
-CallsAreAHistory {K} holds leaves = (turns : List (Turn K)) (are : AreTurns holds leaves IsNew turns) → IsHistory blank (lives_of holds leaves IsNew turns are)
+CallsAreAHistory {K} holds leaves = (start : Book) (turns : List (Turn K)) (are : AreTurns holds leaves (IsNew start) turns) → IsHistory start (lives_of holds leaves (IsNew start) turns are)
 
--- and so these are safe.
+-- and so these are safe where the book is one that lives may begin with.
 abbrev pub CallsAreSafe : {K : Type 0} → (K → Book → Type 0) → (K → Option Book → Type 0) → Type 0
-CallsAreSafe {K} holds leaves = (turns : List (Turn K)) (are : AreTurns holds leaves IsNew turns) → AreSafe (lives_of holds leaves IsNew turns are)
+CallsAreSafe {K} holds leaves = (start : Book) (turns : List (Turn K)) → IsStart start → (are : AreTurns holds leaves (IsNew start) turns) → AreSafe (lives_of holds leaves (IsNew start) turns are)
 
 -- The text that was written is the one that the campaign defines for the command with the pairs that the book gave up.
 pub record WroteFinalText (before now : Option (List ℕ)) (command : Command) (c : Prepared) (book : Book) : Type 0 where
@@ -117,8 +118,9 @@ pub record WroteFinalText (before now : Option (List ℕ)) (command : Command) (
   pub wrote : Appends before now text
   pub final : IsFinalText command c (given_up book.journal) text
 
--- A `run` has finished the book, and a call over a finished book has written that text.
+-- A `run` has left no test that it aims at, and so has finished the book; and a call over a finished book has written that text.
 pub record TellsFinal (before now : Option (List ℕ)) (command : Command) (c : Prepared) (book : Book) : Type 0 where
+  pub wants_none : Runs command → WantsNone c (goal_of command) book.journal
   pub finished : Runs command → IsFinished c.campaign book
   pub told : IsFinished c.campaign book → WroteFinalText before now command c book
 
@@ -136,7 +138,7 @@ AllTellTrue holds leaves found (turn ∷ more) are = TellsTrue holds leaves turn
 -- Each `run` of such a list that ends with Done has finished its campaign, and each call that ends with Done over a finished book has
 -- written the text that its campaign defines for it: the status, the list, or the sources.
 abbrev pub DoneCallsTellTrue : {K : Type 0} → (K → Book → Type 0) → (K → Option Book → Type 0) → Type 0
-DoneCallsTellTrue {K} holds leaves = (turns : List (Turn K)) (are : AreTurns holds leaves IsNew turns) → AllTellTrue holds leaves IsNew turns are
+DoneCallsTellTrue {K} holds leaves = (start : Book) (turns : List (Turn K)) → IsStart start → (are : AreTurns holds leaves (IsNew start) turns) → AllTellTrue holds leaves (IsNew start) turns are
 
 -- A restart finds a book that is empty or good, always: whatever is left is one, and where the keeper tells something is.
 pub record FindsBook {K : Type 0} (tells : K → Type 0) (leaves : K → Option Book → Type 0) (k : K) : Type 0 where
@@ -150,4 +152,4 @@ AllFindBooks tells holds leaves found (turn ∷ more) are = FindsBook tells leav
 
 -- Each restart in such a list finds a book.
 abbrev pub RestartsFindBooks : {K : Type 0} → (K → Type 0) → (K → Book → Type 0) → (K → Option Book → Type 0) → Type 0
-RestartsFindBooks {K} tells holds leaves = (turns : List (Turn K)) (are : AreTurns holds leaves IsNew turns) → AllFindBooks tells holds leaves IsNew turns are
+RestartsFindBooks {K} tells holds leaves = (start : Book) (turns : List (Turn K)) → IsStart start → (are : AreTurns holds leaves (IsNew start) turns) → AllFindBooks tells holds leaves (IsNew start) turns are

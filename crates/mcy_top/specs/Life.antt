@@ -1,11 +1,13 @@
 -- One call of the program, from end to end.
-use Rattle.std.specs.Prelude.{◌≡◌, ◌≢◌, ◌⊎◌, ℕ, ◌+◌, ◌<◌, ◌≤◌, List, [], length, count_by, ⊤, Option, None, Some}
+use Rattle.std.specs.Prelude.{◌≡◌, ◌≢◌, ◌⊎◌, ℕ, ◌+◌, zero, suc, ◌<◌, ◌≤◌, List, [], ◌++◌, length, ⊤, Option, None, Some, is_some, if◌then◌else◌}
 use Rattle.mcy_base.specs.Causes.{Rose}
 use Rattle.mcy_keeper.specs.declared.book.Book.{Book}
-use Rattle.mcy_keeper.specs.Books.{IsBlank, LeavesNothingNew, LeavesOnly}
+use Rattle.mcy_keeper.specs.declared.book.Entry.{Entry}
+use Rattle.mcy_keeper.specs.Books.{IsBlank, IsSecond, LeavesNothingNew, LeavesOnly}
 use Rattle.mcy_outside.specs.Files.{Held}
-use Rattle.result_book.specs.Scripts.{ask, is_ended}
-use Rattle.result_book.specs.Rows.{groups, IsFinished, IsWellFormed}
+use Rattle.result_book.specs.declared.goal.Goal.{Goal}
+use Rattle.result_book.specs.Goals.{wanted}
+use Rattle.result_book.specs.Rows.{history, IsFinished, IsWellFormed}
 use Rattle.mcy_outside.specs.Written.{Appends, AppendsPart}
 use Rattle.command_words.specs.declared.command.Command.{Command}
 use Rattle.command_words.specs.declared.command.Command.TheVariants.{Init, Run, List as Listing, Status, Source}
@@ -15,8 +17,8 @@ use Rattle.mcy_top.specs.declared.refusal.BookRefusal.TheVariants.{NoCampaign as
 use Rattle.campaign_outcomes.specs.declared.outcome.Outcome.{Outcome}
 use Rattle.campaign_outcomes.specs.declared.outcome.Outcome.TheVariants.{Done, Unfinished, Usage, ProjectBad, ScriptBad, SourceBad, Missing, TooLarge, NoCampaign, AlreadyBegun, BookBad, ReadFault, KeeperFault, WriteFault, Memory}
 use Rattle.command_words.specs.Commands.{command_of}
-use Rattle.campaign_run.specs.Running.{IsWithin}
-use Rattle.mcy_top.specs.Commands.{slots_of, stop_of, OnlyReads, Runs}
+use Rattle.campaign_run.specs.Running.{AreWanted, IsWithin, WantsNone}
+use Rattle.mcy_top.specs.Commands.{goal_of, slots_of, stop_of, OnlyReads, Runs}
 use Rattle.campaign_reading.specs.Files.{IsMade}
 use Rattle.campaign_reading.specs.Reads.{IsUnmade}
 use Rattle.mcy_top.specs.BookRefusals.{RefusesBook}
@@ -85,26 +87,33 @@ IsQuiet before now outcome = now ≡ before
 -- the command takes this book
 abbrev pub Takes : Command → Prepared → Book → Type 0
 Takes Init c book = IsBlank book
-Takes (Run stop) c book = IsBlank book ⊎ IsWellFormed c.campaign book
+Takes (Run stop retry) c book = IsBlank book ⊎ IsWellFormed c.campaign book
 Takes Listing c book = IsWellFormed c.campaign book
 Takes Status c book = IsWellFormed c.campaign book
 Takes Source c book = IsWellFormed c.campaign book
 
--- Every mutation is finished, and the text is the one that the campaign defines with the pairs that the book gave up.
+-- No mutation wants a test under the goal of the command, so that every mutation is finished; and the text is the one that the
+-- campaign defines with the pairs that the book gave up.
 pub record IsWhole (command : Command) (c : Prepared) (loaded book : Book) (text : List ℕ) : Type 0 where
+  pub wants_none : WantsNone c (goal_of command) book.journal
   pub finished : IsFinished c.campaign book
   pub final : IsBlankOrGood loaded → IsFinalText command c (given_up book.journal) text
 
--- how many mutations are finished
-abbrev pub finished_count : Prepared → Book → ℕ
-finished_count c book = count_by (λ answers. is_ended (ask c.campaign answers)) (groups c.campaign book.journal)
+-- how many of so many mutations, from mutation m on, want a test under a goal
+abbrev pub wanting_from : Prepared → Goal → List Entry → (m n : ℕ) → ℕ
+wanting_from c goal rows m zero = 0
+wanting_from c goal rows m (suc n) = (if is_some (wanted c.campaign rows m goal) then 1 else 0) + wanting_from c goal rows (m + 1) n
 
--- as many entries as were asked for were acknowledged, and so many mutations are left
+-- how many mutations do
+abbrev pub wanting : Prepared → Goal → List Entry → ℕ
+wanting c goal rows = wanting_from c goal rows 0 (length c.campaign.mutations)
+
+-- as many entries as were asked for were acknowledged, and so many mutations want a test still
 pub record IsStopped (command : Command) (c : Prepared) (loaded book : Book) (left : ℕ) : Type 0 where
   pub stop : ℕ
   pub asked : stop_of command ≡ Some stop
   pub gained : length book.journal ≡ length loaded.journal + stop
-  pub left_is : left + finished_count c book ≡ length c.campaign.mutations
+  pub left_is : left ≡ wanting c (goal_of command) book.journal
   pub some : 0 < left
 
 -- How a call ends that has loaded a book.
@@ -125,9 +134,13 @@ Carried Done = ⊤
 Carried (Unfinished left) = ⊤
 Carried outcome = ⊥
 
+-- each row that the book has beyond the history of the loaded one is of the test that its mutation wanted under the goal
+abbrev pub GainsWanted : Prepared → Goal → (loaded book : Book) → Type 0
+GainsWanted c goal loaded book = (more : List Entry) → book.journal ≡ (history c.campaign loaded).journal ++ more → AreWanted c goal (history c.campaign loaded).journal more
+
 -- The sure book has the loaded one as its first part, and every crash leaves a book: the sure one, with one entry more
 -- at most, and no more entries than were asked for. The sure book was reached by changes, and every crash leaves it or
--- the book after one change more.
+-- the book after one change more. Where tests were run and a text was written, it is of the second format.
 pub record Grew (leaves : Option Book → Type 0) (command : Command) (c : Prepared) (loaded sure : Book) (outcome : Outcome) : Type 0 where
   pub grown : IsPrefix loaded sure
   pub within_one : LeavesBooks leaves (IsWithinOne sure)
@@ -135,9 +148,11 @@ pub record Grew (leaves : Option Book → Type 0) (command : Command) (c : Prepa
   pub reads : OnlyReads command → LeavesOnly leaves loaded
   pub no_entry : ¬ Runs command → LeavesBooks leaves (λ other. other.journal ≡ loaded.journal)
   pub gained : IsWithin (stop_of command) (length loaded.journal) (length sure.journal)
+  pub wanted_only : GainsWanted c (goal_of command) loaded sure
   pub stops : LeavesBooks leaves (λ other. IsWithin (stop_of command) (length loaded.journal) (length other.journal))
   pub exact : Carried outcome → LeavesOnly leaves sure
   pub is_begun : Carried outcome → sure.meta ≢ []
+  pub second : Carried outcome → Runs command → IsSecond sure
   pub changes : List Book
   pub course : Course c loaded changes sure
   pub near : LeavesBooks leaves (IsNear c sure)

@@ -1,8 +1,11 @@
 -- Laws of lives: one after the other changes one kept book, and each ends by itself or is cut off at any moment.
-use Rattle.std.specs.Prelude.{◌≡◌, List, [], ◌∷◌, ◌++◌, ⊤}
+use Rattle.std.specs.Prelude.{◌≡◌, ◌⊎◌, ◌<◌, List, [], ◌∷◌, ◌++◌, ⊤}
 use Rattle.std.specs.List.{All, AllPairs}
+use Rattle.mcy_keeper.specs.declared.book.Entry.{Entry}
 use Rattle.mcy_keeper.specs.declared.book.Book.{Book}
-use Rattle.mcy_keeper.specs.Books.{blank}
+use Rattle.mcy_keeper.specs.Books.{IsBlank, IsFirst}
+use Rattle.result_book.specs.declared.script.TestWord.TheVariants.{Unknown}
+use Rattle.result_book.specs.Scripts.{word_code}
 use Rattle.campaign_plan.specs.declared.prepared.Prepared.{Prepared}
 use Rattle.campaign_plan.specs.Campaigns.{IsPlan}
 use Rattle.result_book.specs.Rows.{IsFinished, IsPair, IsWellFormed}
@@ -35,25 +38,33 @@ abbrev pub books_of : List Lived → List Book
 books_of [] = []
 books_of (l ∷ more) = (l.start ∷ l.changes ++ l.sure ∷ []) ++ books_of more
 
--- no pair of mutation and test stands twice in the book
-abbrev pub HasPairsOnce : Book → Type 0
-HasPairsOnce book = AllPairs (λ row e. ¬ IsPair e.mutation e.test row) book.journal
+-- where the later row is of the same pair of mutation and test, the earlier one gave it up, under a lower bound
+abbrev pub IsAgain : (earlier later : Entry) → Type 0
+IsAgain row e = IsPair e.mutation e.test row → (row.word ≡ word_code Unknown) × (row.bound < e.bound)
+
+-- no pair was run again in the book, save given-up pairs under greater limits
+abbrev pub RunsOnce : Book → Type 0
+RunsOnce book = AllPairs IsAgain book.journal
+
+-- what a list of lives may begin with: the empty book, or a good book of the first format
+abbrev pub IsStart : Book → Type 0
+IsStart book = IsBlank book ⊎ (IsGood book × IsFirst book)
 
 -- a finished book has for each command the text that the campaign defines with the pairs that were given up
 abbrev pub HasFinalTexts : Prepared → Book → Type 0
 HasFinalTexts c book = (command : Command) → IsWellFormed c.campaign book → IsFinished c.campaign book → IsFinalText command c (given_up book.journal) (text_of command c book)
 
--- Each book is empty or good and has each pair once, each is a first part of all that follow, and each life's last
--- book has its texts where it is finished.
+-- Each book is empty or good and has each pair once, save given-up pairs under greater limits, each is a first part of all that
+-- follow, and each life's last book has its texts where it is finished.
 pub record AreSafe (lives : List Lived) : Type 0 where
   pub good : All IsBlankOrGood (books_of lives)
-  pub once : All HasPairsOnce (books_of lives)
+  pub once : All RunsOnce (books_of lives)
   pub kept : AllPairs IsPrefix (books_of lives)
   pub final : All (λ l. HasFinalTexts l.prepared l.sure) lives
 
--- Lives that begin with the empty book are safe.
+-- Lives that begin with the empty book or with a good book of the first format are safe.
 abbrev pub LivesAreSafe : Type 0
-LivesAreSafe = (lives : List Lived) → IsHistory blank lives → AreSafe lives
+LivesAreSafe = (start : Book) (lives : List Lived) → IsStart start → IsHistory start lives → AreSafe lives
 
 -- A good book cut off after any of its rows is good.
 abbrev pub PartsAreGood : Type 0

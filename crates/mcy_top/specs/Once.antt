@@ -2,7 +2,7 @@
 use Rattle.std.specs.Prelude.{◌≡◌, ℕ, List}
 use Rattle.mcy_keeper.specs.declared.book.Book.{Book}
 use Rattle.campaign_plan.specs.declared.prepared.Prepared.{Prepared}
-use Rattle.result_book.specs.Scripts.{Answer}
+use Rattle.result_book.specs.declared.answer.Answer.{Answer}
 use Rattle.campaign_plan.specs.Campaigns.{IsPlan}
 use Rattle.result_book.specs.Rows.{IsFinished, IsWellFormed}
 use Rattle.campaign_run.specs.Rows.{IsGood, IsRightWord}
@@ -12,10 +12,10 @@ use Rattle.mcy_top.specs.Defined.{given_up, is_given_up, AreAllAnswers, IsFinalT
 
 -- the words of tests for the one campaign are words for the other
 abbrev pub SayTheSame : Prepared → Prepared → Type 0
-SayTheSame c d = (m t word : ℕ) → IsRightWord c m t word → IsRightWord d m t word
+SayTheSame c d = (m t bound word : ℕ) → IsRightWord c m t bound word → IsRightWord d m t bound word
 
 -- Campaigns with the same meta, which has the project and its sources, are the same but for parts of their benches, and these say the
--- same of each mutation.
+-- same of each mutation under each bound.
 abbrev pub CampaignsAreOne : Type 0
 CampaignsAreOne = (c d : Prepared) → IsPlan c → IsPlan d → c.campaign.meta ≡ d.campaign.meta → (c ≡ record d { trials = c.trials }) × SayTheSame c d
 
@@ -33,11 +33,11 @@ pub record IsEnded (c : Prepared) (book : Book) : Type 0 where
   pub form : IsWellFormed c.campaign book
   pub finished : IsFinished c.campaign book
 
--- the books gave up the same pairs, in any order
+-- the same pairs have UNKNOWN as their last words in the books, in any order
 abbrev pub GaveUpSame : Book → Book → Type 0
 GaveUpSame book other = (m t : ℕ) → is_given_up (given_up book.journal) m t ≡ is_given_up (given_up other.journal) m t
 
 -- Books of one campaign that are finished and gave up the same pairs have one text of each command, be it the status, the list of
--- the mutations or the sources line by line, whatever the order of their rows.
+-- the mutations or the sources line by line, whatever the format, the order and the bounds of their rows, and whatever was run again.
 abbrev pub FinishedTextsAreOne : Type 0
 FinishedTextsAreOne = (command : Command) (c : Prepared) (book other : Book) → IsPlan c → IsEnded c book → IsEnded c other → GaveUpSame book other → text_of command c book ≡ text_of command c other

@@ -1,8 +1,8 @@
--- The text of each command, from the answers of each mutation.
+-- The text of each command, from the read tests of each mutation with their last words.
 use Rattle.std.specs.Prelude.{ℕ, List, ◌++◌, length, codes}
 use Rattle.mcy_keeper.specs.declared.book.Book.{Book}
 use Rattle.result_book.specs.Rows.{groups}
-use Rattle.result_book.specs.Scripts.{Answer}
+use Rattle.result_book.specs.declared.answer.Answer.{Answer}
 use Rattle.source_report.specs.Lists.{list_lines}
 use Rattle.source_report.specs.Sources.{file_texts}
 use Rattle.source_report.specs.Texts.{lines, number_line}
@@ -17,11 +17,11 @@ init_text c = number_line (codes "Sites") c.site_count ++ number_line (codes "Mu
 -- the text of a command where these are the answers of each mutation
 abbrev pub answers_text : Command → Prepared → List (List Answer) → List ℕ
 answers_text Init c all = init_text c
-answers_text (Run stop) c all = lines c.campaign all
+answers_text (Run stop retry) c all = lines c.campaign all
 answers_text Listing c all = list_lines c.campaign 0 c.campaign.mutations all
 answers_text Status c all = lines c.campaign all
 answers_text Source c all = file_texts c.campaign all 0 c.files
 
--- the text of a command over a book
+-- The text of a command over a book. It is that over its history, whose read tests are the same (`HistoriesAreWellFormed` of `result_book`).
 abbrev pub text_of : Command → Prepared → Book → List ℕ
 text_of command c book = answers_text command c (groups c.campaign book.journal)

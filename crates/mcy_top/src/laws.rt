@@ -35,8 +35,9 @@ pub fn campaigns_are_one()
     mutants_tell_the_same();
 }
 
-/// The text of each command over a finished book, be it the status, the list or the sources, depends on the campaign and the pairs that
-/// were given up alone: not on the order of the tests, and not on where calls were cut off.
+/// The text of each command over a finished book, be it the status, the list or the sources, depends on the campaign and the pairs whose
+/// last word is UNKNOWN alone: not on the format of the book, not on the order and the bounds of the tests, not on what was run again,
+/// and not on where calls were cut off.
 pub fn finished_texts_are_the_campaigns()
     ensures { FinishedTextsAreOne }
 {
@@ -45,9 +46,9 @@ pub fn finished_texts_are_the_campaigns()
     mutants_tell_the_same();
 }
 
-/// Over every list of lives that begins with the empty book: each book is empty or good and has no
-/// pair of mutation and test twice, nothing that was acknowledged is lost later, and a finished book
-/// has the texts that the campaign defines. A good book cut off after any of its rows is good.
+/// Over every list of lives that begins with the empty book, or with a good book of the first format: each book is empty or good and has
+/// no pair of mutation and test twice, save given-up pairs under greater limits, nothing that was acknowledged is lost later, and a
+/// finished book has the texts that the campaign defines. A good book cut off after any of its rows is good.
 pub fn lives_are_safe()
     ensures lives { LivesAreSafe }
     ensures parts { PartsAreGood }
@@ -55,7 +56,7 @@ pub fn lives_are_safe()
 
 /// After a call that has loaded a book, a crash leaves something, and always a book. What the call is sure of
 /// is a first part of the keeper's sure book, the longest that is a first part of every book that a crash may
-/// leave, and no such book has more than one entry beyond that one.
+/// leave, as they stand or upgraded, and no such book has more than one entry beyond that one.
 pub fn sure_book_has_all<K: Keeper>(before: &K, after: &K)
     ensures covered { SureBookHasAll (K.holds before.now) (K.leaves before.now) (K.leaves after.now) }
     ensures some { K.tells after.now → LeavesSome (K.leaves after.now) }
@@ -69,13 +70,13 @@ pub fn call_is_a_life<K: Keeper>(before: &K, after: &K)
     ensures early { EarlyCallLeavesNothingNew (K.leaves before.now) (K.leaves after.now) }
 {}
 
-/// Over every list of calls on one keeper that begins with the empty book, each of which ended by itself or was cut off
-/// at any moment, and whose next call starts from nothing but what the one before may have left: the calls that have
-/// loaded a book are lives, these are safe, each `run` that ended with Done has finished its campaign, and each call that
-/// ended with Done over a finished book, be it `run`, `status`, `list` or `source`, has written the text that its campaign
-/// defines for it. Of a call that ended the law takes what the clause `life` of `mcy_main` says where the keeper tells. A
-/// call that was cut off leaves the book after one of its changes, or that with the one change that was under way. So each
-/// restart finds a book, empty or good.
+/// Over every list of calls on one keeper that begins with the empty book or with a good one of the first format, each of which
+/// ended by itself or was cut off at any moment, and whose next call starts from nothing but what the one before may have left: the
+/// calls that have loaded a book are lives, these are safe, each `run` that ended with Done has left no test that it aims at and
+/// finished its campaign, and each call that ended with Done over a finished book, be it `run`, `status`, `list` or `source`, has
+/// written the text that its campaign defines for it. Of a call that ended the law takes what the clause `life` of `mcy_main` says
+/// where the keeper tells. A call that was cut off leaves the book after one of its changes, or that with the one change that was
+/// under way. So each restart finds a book, empty or good.
 pub fn calls_are_a_history<K: Keeper>(_keeper: &K)
     ensures history { CallsAreAHistory K.holds K.leaves }
     ensures safe { CallsAreSafe K.holds K.leaves }

@@ -5,6 +5,7 @@ pub mod laws;
 mod main_call;
 pub mod netlist_laws;
 mod refusal;
+mod running;
 mod work;
 
 pub use campaign_outcomes::{Outcome, exit_status, fault_line};

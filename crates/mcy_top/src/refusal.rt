@@ -1,9 +1,14 @@
 //! How a call ends that is refused for its files, or for the book that was loaded.
-ghost use Rattle.std.specs.Prelude.{◌≡◌};
+ghost use Rattle.std.specs.Prelude.{◌≡◌, []};
+ghost use Rattle.mcy_keeper.specs.Books.{IsBlank};
+ghost use Rattle.command_words.specs.declared.command.Command.{Command as Asked};
+ghost use Rattle.campaign_plan.specs.declared.prepared.Prepared.{Prepared as Planned};
+ghost use Rattle.mcy_top.specs.BookRefusals.{told, RefusesBook};
 ghost use Rattle.mcy_top.specs.Outcomes.{book_outcome, outcome_of};
 
 use campaign_outcomes::Outcome;
 use campaign_reading::Refusal;
+use mcy_keeper::Book;
 use result_book::BookError;
 
 /// How a call ends whose files make no campaign.
@@ -42,4 +47,22 @@ impl BookRefusal {
             BookRefusal::Memory => Outcome::Memory,
         }
     }
+}
+
+/// A count as it is told, at most 4,294,967,295.
+fn told(count: usize) -> u32
+    ensures { result ≡ told count }
+{
+    u32::try_from(count).unwrap_or(u32::MAX)
+}
+
+/// What is wrong with a book that is not empty and has no meta.
+pub(crate) fn stray(loaded: &Book) -> BookError
+    requires meta { loaded.now.meta ≡ [] }
+    requires some { ¬ IsBlank loaded.now }
+    ensures { (command : Asked) (prepared : Planned) → RefusesBook command prepared loaded.now (BookRefusal.BookBad result) }
+{
+    let mutations = told(loaded.mutations.as_slice().len());
+    let rows = told(loaded.journal.as_slice().len());
+    BookError::Stray(mutations, rows)
 }

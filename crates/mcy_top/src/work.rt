@@ -1,26 +1,25 @@
 //! The work of the commands over a loaded book.
 ghost use Rattle.std.specs.Prelude.{◌≡◌, ◌≢◌, ℕ, ◌≤◌, [], IfOk, IfErr, IsTrue, OnOk, string_bytes};
 ghost use Rattle.mcy_base.specs.Causes.{Rose};
-ghost use Rattle.mcy_keeper.specs.Books.{blank, IsBlank, Keeps};
-ghost use Rattle.result_book.specs.Rows.{IsWellFormed};
+ghost use Rattle.mcy_keeper.specs.Books.{blank, Keeps};
+ghost use Rattle.result_book.specs.Goals.{IsGoal};
+ghost use Rattle.result_book.specs.Rows.{history, IsWellFormed};
 ghost use Rattle.result_book.specs.States.{IsStateOf};
 ghost use Rattle.source_report.specs.Lists.{list_text};
 ghost use Rattle.source_report.specs.Sources.{source_text};
 ghost use Rattle.source_report.specs.Texts.{status_text};
-ghost use Rattle.mcy_top.specs.Commands.{OnlyReads};
+ghost use Rattle.mcy_top.specs.Commands.{goal_of, OnlyReads};
 ghost use Rattle.mcy_top.specs.Texts.{init_text, text_of};
 ghost use Rattle.campaign_plan.specs.Campaigns.{IsPlan};
-ghost use Rattle.mcy_top.specs.BookRefusals.{told, RefusesBook};
-ghost use Rattle.mcy_top.specs.Endings.{ended_outcome, failed_outcome, run_outcome, Delivers, Ends};
+ghost use Rattle.mcy_top.specs.BookRefusals.{RefusesBook};
+ghost use Rattle.mcy_top.specs.Endings.{ended_outcome, failed_outcome, Delivers, Ends};
 ghost use Rattle.campaign_run.specs.Running.{book_of};
 ghost use Rattle.mcy_top.specs.Life.{Work};
 ghost use Rattle.command_words.specs.declared.command.Command.{Command as Asked};
-ghost use Rattle.campaign_plan.specs.declared.prepared.Prepared.{Prepared as Planned};
 
-use crate::refusal::BookRefusal;
+use crate::refusal::{BookRefusal, stray};
 use campaign_outcomes::Outcome;
 use campaign_plan::Prepared;
-use campaign_run::Tester;
 use command_words::Command;
 use mcy_base::Steps;
 use mcy_keeper::{Book, KeepError, Keeper};
@@ -44,7 +43,7 @@ pub(crate) enum Ending {
 
 impl Ending {
     /// How the call ends, from how it ends where the text is written.
-    fn outcome(self, written: Outcome) -> Outcome
+    pub(crate) fn outcome(self, written: Outcome) -> Outcome
         ensures { result ≡ ended_outcome written self }
     {
         match self {
@@ -77,24 +76,6 @@ fn deliver<O: Sink>(text: &[u8], out: &mut O) -> Ending
     }
 }
 
-/// A count as it is told, at most 4,294,967,295.
-fn told(count: usize) -> u32
-    ensures { result ≡ told count }
-{
-    u32::try_from(count).unwrap_or(u32::MAX)
-}
-
-/// What is wrong with a book that is not empty and has no meta.
-fn stray(loaded: &Book) -> BookError
-    requires meta { loaded.now.meta ≡ [] }
-    requires some { ¬ IsBlank loaded.now }
-    ensures { (command : Asked) (prepared : Planned) → RefusesBook command prepared loaded.now (BookRefusal.BookBad result) }
-{
-    let mutations = told(loaded.mutations.as_slice().len());
-    let rows = told(loaded.journal.as_slice().len());
-    BookError::Stray(mutations, rows)
-}
-
 /// The campaign that a command works on.
 #[derive(Drop)]
 pub(crate) struct Task<'a> {
@@ -104,7 +85,7 @@ pub(crate) struct Task<'a> {
 
 impl Task<'_> {
     /// Makes the status text whole, and writes it.
-    fn report<O: Sink>(&self, state: &State, out: &mut O) -> Ending
+    pub(crate) fn report<O: Sink>(&self, state: &State, out: &mut O) -> Ending
         requires plan { IsPlan self.now.prepared.now }
         requires state { IsStateOf self.now.prepared.now.campaign state.now.rows state.now }
         ensures wrote { Delivers (O.written out.old) (O.written out.new) (status_text self.now.prepared.now.campaign state.now.rows) result }
@@ -195,74 +176,6 @@ impl Task<'_> {
         }
     }
 
-    /// How a run ends whose text is written: with so many mutations left, or none.
-    fn run_outcome(&self, state: &State) -> Outcome
-        requires plan { IsPlan self.now.prepared.now }
-        requires state { IsStateOf self.now.prepared.now.campaign state.now.rows state.now }
-        ensures { result ≡ run_outcome self.now.prepared.now state.now.rows }
-    {
-        let mutations = self.prepared.campaign.mutations.as_slice().len() as u32;
-        match mutations - state.finished() {
-            0 => Outcome::Done,
-            left => Outcome::Unfinished(left),
-        }
-    }
-
-    /// Runs tests from this state of the begun book, and writes the status.
-    fn run<K: Keeper, O: Sink, L: Ledger>(
-        &self,
-        stop_after: Option<u32>,
-        state: State,
-        keeper: &mut K,
-        out: &mut O,
-        steps: &mut Steps<L>,
-    ) -> Outcome
-        requires settled { IsTrue (K.is_settled keeper.old) }
-        requires plan { IsPlan self.now.prepared.now }
-        requires state { IsStateOf self.now.prepared.now.campaign state.rows state }
-        requires kept { K.tells keeper.old → Keeps (K.holds keeper.old) (K.leaves keeper.old) (book_of self.now.prepared.now state.rows) }
-        ensures tells { K.tells keeper.new → K.tells keeper.old }
-        ensures work { K.tells keeper.new → Work (K.leaves keeper.new) (O.written out.old) (O.written out.new) steps.old steps.new (Command.Run stop_after) self.now.prepared.now (book_of self.now.prepared.now state.rows) result }
-        ensures ends { Ends (O.written out.old) (O.written out.new) (K.faults keeper.old) (K.faults keeper.new) (O.faults out.old) (O.faults out.new) result }
-    {
-        let tester = Tester {
-            alloc: self.alloc,
-            prepared: self.prepared,
-        };
-        let mut state = state;
-        match tester.run_tests(stop_after, &mut state, keeper, steps) {
-            Ok(()) => self.report(&state, out).outcome(self.run_outcome(&state)),
-            Err(error) => failed(error),
-        }
-    }
-
-    /// Begins the campaign in an empty book, runs tests, and writes the status.
-    fn begin_and_run<K: Keeper, O: Sink, L: Ledger>(
-        &self,
-        stop_after: Option<u32>,
-        keeper: &mut K,
-        out: &mut O,
-        steps: &mut Steps<L>,
-    ) -> Outcome
-        requires settled { IsTrue (K.is_settled keeper.old) }
-        requires plan { IsPlan self.now.prepared.now }
-        requires kept { K.tells keeper.old → Keeps (K.holds keeper.old) (K.leaves keeper.old) blank }
-        ensures tells { K.tells keeper.new → K.tells keeper.old }
-        ensures work { K.tells keeper.new → Work (K.leaves keeper.new) (O.written out.old) (O.written out.new) steps.old steps.new (Command.Run stop_after) self.now.prepared.now blank result }
-        ensures ends { Ends (O.written out.old) (O.written out.new) (K.faults keeper.old) (K.faults keeper.new) (O.faults out.old) (O.faults out.new) result }
-    {
-        let Ok(state) = State::new(self.alloc, &self.prepared.campaign) else {
-            return Outcome::Memory;
-        };
-        match keeper.begin(
-            &self.prepared.campaign.meta,
-            &self.prepared.campaign.mutations,
-        ) {
-            Ok(()) => self.run(stop_after, state, keeper, out, steps),
-            Err(error) => failed(error),
-        }
-    }
-
     /// The work of a command over an empty book.
     fn start<K: Keeper, O: Sink, L: Ledger>(
         &self,
@@ -273,6 +186,7 @@ impl Task<'_> {
     ) -> Outcome
         requires settled { IsTrue (K.is_settled keeper.old) }
         requires plan { IsPlan self.now.prepared.now }
+        requires goal { IsGoal (goal_of command) }
         requires kept { K.tells keeper.old → Keeps (K.holds keeper.old) (K.leaves keeper.old) blank }
         ensures tells { K.tells keeper.new → K.tells keeper.old }
         ensures work { K.tells keeper.new → Work (K.leaves keeper.new) (O.written out.old) (O.written out.new) steps.old steps.new command self.now.prepared.now blank result }
@@ -280,17 +194,19 @@ impl Task<'_> {
     {
         match command {
             Command::Init => self.init(keeper, out),
-            Command::Run { stop_after } => { self.begin_and_run(stop_after, keeper, out, steps) }
+            Command::Run { stop_after, retry } => {
+                self.begin_and_run(stop_after, retry, keeper, out, steps)
+            }
             Command::List | Command::Status | Command::Source => Outcome::NoCampaign,
         }
     }
 
-    /// The state of a begun book, where it is the campaign's.
-    fn read_state(&self, loaded: &Book) -> Result<State, BookRefusal>
+    /// The state of a begun book's history, where the book is the campaign's.
+    pub(crate) fn read_state(&self, loaded: &Book) -> Result<State, BookRefusal>
         requires plan { IsPlan self.now.prepared.now }
         requires begun { loaded.now.meta ≢ [] }
         ensures form { OnOk result (IsWellFormed self.now.prepared.now.campaign loaded.now) }
-        ensures state { IfOk result (IsStateOf self.now.prepared.now.campaign loaded.now.journal) }
+        ensures state { IfOk result (IsStateOf self.now.prepared.now.campaign (history self.now.prepared.now.campaign loaded.now).journal) }
         ensures refused { IfErr result (λ refusal. (command : Asked) → command ≢ Command.Init → RefusesBook command self.now.prepared.now loaded.now refusal) }
     {
         refused_books_are_ill_formed();
@@ -298,29 +214,6 @@ impl Task<'_> {
             Ok(state) => Ok(state),
             Err(BookError::Memory) => Err(BookRefusal::Memory),
             Err(error) => Err(BookRefusal::BookBad(error)),
-        }
-    }
-
-    /// Goes on with a begun book: runs tests, and writes the status.
-    fn resume<K: Keeper, O: Sink, L: Ledger>(
-        &self,
-        stop_after: Option<u32>,
-        loaded: &Book,
-        keeper: &mut K,
-        out: &mut O,
-        steps: &mut Steps<L>,
-    ) -> Outcome
-        requires settled { IsTrue (K.is_settled keeper.old) }
-        requires plan { IsPlan self.now.prepared.now }
-        requires begun { loaded.now.meta ≢ [] }
-        requires kept { K.tells keeper.old → Keeps (K.holds keeper.old) (K.leaves keeper.old) loaded.now }
-        ensures tells { K.tells keeper.new → K.tells keeper.old }
-        ensures work { K.tells keeper.new → Work (K.leaves keeper.new) (O.written out.old) (O.written out.new) steps.old steps.new (Command.Run stop_after) self.now.prepared.now loaded.now result }
-        ensures ends { Ends (O.written out.old) (O.written out.new) (K.faults keeper.old) (K.faults keeper.new) (O.faults out.old) (O.faults out.new) result }
-    {
-        match self.read_state(loaded) {
-            Ok(state) => self.run(stop_after, state, keeper, out, steps),
-            Err(refusal) => refusal.into_outcome(),
         }
     }
 
@@ -356,6 +249,7 @@ impl Task<'_> {
     ) -> Outcome
         requires settled { IsTrue (K.is_settled keeper.old) }
         requires plan { IsPlan self.now.prepared.now }
+        requires goal { IsGoal (goal_of command) }
         requires begun { loaded.now.meta ≢ [] }
         requires kept { K.tells keeper.old → Keeps (K.holds keeper.old) (K.leaves keeper.old) loaded.now }
         ensures tells { K.tells keeper.new → K.tells keeper.old }
@@ -364,7 +258,9 @@ impl Task<'_> {
     {
         match command {
             Command::Init => Outcome::AlreadyBegun,
-            Command::Run { stop_after } => { self.resume(stop_after, loaded, keeper, out, steps) }
+            Command::Run { stop_after, retry } => {
+                self.resume(stop_after, retry, loaded, keeper, out, steps)
+            }
             Command::List | Command::Status | Command::Source => {
                 self.show(command, loaded, keeper, out)
             }
@@ -382,6 +278,7 @@ impl Task<'_> {
     ) -> Outcome
         requires settled { IsTrue (K.is_settled keeper.old) }
         requires plan { IsPlan self.now.prepared.now }
+        requires goal { IsGoal (goal_of command) }
         requires kept { K.tells keeper.old → Keeps (K.holds keeper.old) (K.leaves keeper.old) loaded.now }
         ensures tells { K.tells keeper.new → K.tells keeper.old }
         ensures work { K.tells keeper.new → Work (K.leaves keeper.new) (O.written out.old) (O.written out.new) steps.old steps.new command self.now.prepared.now loaded.now result }

@@ -24,7 +24,7 @@ filled_at (w ∷ words) (suc test) word at = filled_at words test word at
 pub among_filled : (words : List (Option ℕ)) → AreAmong words (filled words)
 among_filled words = record { same = filled_at words }
 
-ask_heard : (c : Campaign) (words : List (Option ℕ)) → ask_by c words ≡ ask_told (heard c.expect words (course_of c.script))
+pub ask_heard : (c : Campaign) (words : List (Option ℕ)) → ask_by c words ≡ ask_told (heard c.expect words (course_of c.script))
 unfolding ask_by script_outcome
 ask_heard c words = told_heard c.expect words (filled words) (course_of c.script) (among_filled words)
 
@@ -33,7 +33,7 @@ pub ask_is : (c : Campaign) (answers : List Answer) (words : List ℕ) → AreAm
 unfolding script_outcome
 ask_is c answers words among = ask_heard c (words_of answers) ∙ sym (told_heard c.expect (words_of answers) words (course_of c.script) among)
 
-found_by : (found : Option ℕ) (ends : End) (test : ℕ) → first_told found ends ≡ Need test → found ≡ Some test
+pub found_by : (found : Option ℕ) (ends : End) (test : ℕ) → first_told found ends ≡ Need test → found ≡ Some test
 found_by None (done tags) test is = absurd (let other : Done tags ≡ Need test = is in cc)
 found_by None (assert_failed line) test is = absurd (let other : AssertFailed line ≡ Need test = is in cc)
 found_by None (unexpected t) test is = absurd (let other : Unexpected t ≡ Need test = is in cc)
@@ -43,7 +43,7 @@ found_if : (p : ℕ → Bool) (x : ℕ) (rest : Option ℕ) (t : ℕ) (b : Bool)
 found_if p x rest t true holds behind is = let same : Some x ≡ Some t = is in let at : x ≡ t = cc in subst (λ (y : ℕ). p y ≡ true) at holds
 found_if p x rest t false holds behind is = behind is
 
-found_true : (p : ℕ → Bool) (xs : List ℕ) (t : ℕ) → find p xs ≡ Some t → p t ≡ true
+pub found_true : (p : ℕ → Bool) (xs : List ℕ) (t : ℕ) → find p xs ≡ Some t → p t ≡ true
 found_true p [] t is = absurd (let none : None ≡ Some t = is in cc)
 found_true p (x ∷ xs) t is = found_if p x (find p xs) t (p x) refl (found_true p xs t) is
 
@@ -55,7 +55,7 @@ told_need : (words : List (Option ℕ)) (outcome : Outcome) (test : ℕ) → tol
 unfolding told
 told_need words outcome test is = no_word (word_at words test) (found_true (λ t. is_none (word_at words t)) outcome.asked test (found_by (find (λ t. is_none (word_at words t)) outcome.asked) outcome.ends test is))
 
-need_by : (c : Campaign) (words : List (Option ℕ)) (test : ℕ) → ask_by c words ≡ Need test → word_at words test ≡ None
+pub need_by : (c : Campaign) (words : List (Option ℕ)) (test : ℕ) → ask_by c words ≡ Need test → word_at words test ≡ None
 unfolding ask_by
 need_by c words test is = told_need words (script_outcome c.expect (filled words) c.script) test is
 

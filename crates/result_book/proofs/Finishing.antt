@@ -1,30 +1,29 @@
 -- How many mutations are finished.
-use Rattle.std.proofs.Common.{◌≡◌, ◌↔◌, arith, ℕ, zero, suc, ◌+◌, ◌<◌, ◌≤◌, Bool, true, false, List, length, map, cond, count_by, refl, sym, ◌∙◌, ap, subst}
-use Rattle.std.proofs.lemmas.List.{length-map}
+use Rattle.std.proofs.Common.{◌≡◌, ◌↔◌, arith, ℕ, zero, suc, ◌+◌, ◌<◌, ◌≤◌, Bool, true, false, List, length, cond, count_by, refl, sym, ◌∙◌, ap, subst}
 use Rattle.std.proofs.lemmas.List.Sums.{count_by-le-length, sum_by-cons}
 use Rattle.mcy_keeper.specs.declared.book.Entry.{Entry}
 use Rattle.mcy_keeper.specs.declared.book.Book.{Book}
 use Rattle.result_book.specs.declared.campaign.Campaign.{Campaign}
 use Rattle.tag_script.specs.declared.answer.Ask.{Ask}
-use Rattle.result_book.specs.Scripts.{ask, is_ended}
-use Rattle.result_book.specs.Rows.{ask_on, groups_from, IsFinished}
+use Rattle.result_book.specs.Scripts.{each_from, is_ended}
+use Rattle.result_book.specs.Rows.{ask_on, IsFinished}
 use Rattle.result_book.specs.States.{IsStateOf, Progress}
-use Rattle.result_book.proofs.Grouping.{length-groups_from}
+use Rattle.result_book.proofs.Each.{length-each_from}
 
 abbrev one_if : Bool → ℕ
 one_if b = cond b 1 0
 
 abbrev ended_from : Campaign → ℕ → ℕ → List Entry → ℕ
-ended_from c m n rows = count_by is_ended (map (ask c) (groups_from m n rows))
+ended_from c m n rows = count_by is_ended (each_from (λ k. ask_on c k rows) m n)
 
 abbrev AreEnded : Campaign → ℕ → ℕ → List Entry → Type 0
 AreEnded c m n rows = (k : ℕ) → k < n → is_ended (ask_on c (m + k) rows) ≡ true
 
 ended_from-suc : (c : Campaign) (m n : ℕ) (rows : List Entry) → ended_from c m (suc n) rows ≡ one_if (is_ended (ask_on c m rows)) + ended_from c (m + 1) n rows
-ended_from-suc c m n rows = sum_by-cons (λ a. one_if (is_ended a)) (ask_on c m rows) (map (ask c) (groups_from (m + 1) n rows))
+ended_from-suc c m n rows = sum_by-cons (λ a. one_if (is_ended a)) (ask_on c m rows) (each_from (λ k. ask_on c k rows) (m + 1) n)
 
 ended_from-le : (c : Campaign) (m n : ℕ) (rows : List Entry) → ended_from c m n rows ≤ n
-ended_from-le c m n rows = omega (arith, count_by-le-length is_ended (map (ask c) (groups_from m n rows)), length-map (groups_from m n rows) (ask c), length-groups_from m n rows)
+ended_from-le c m n rows = omega (arith, count_by-le-length is_ended (each_from (λ k. ask_on c k rows) m n), length-each_from (λ k. ask_on c k rows) m n)
 
 count_ended : (c : Campaign) (m n : ℕ) (rows : List Entry) → AreEnded c m n rows → ended_from c m n rows ≡ n
 count_ended c m zero rows all = refl

@@ -1,6 +1,10 @@
 pub mod BookFaults
 pub mod BookLaws
 pub mod Campaigns
+pub mod Goals
+pub mod Reads
+pub mod Rounds
 pub mod Rows
 pub mod Scripts
 pub mod States
+pub mod Wants

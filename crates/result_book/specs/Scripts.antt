@@ -1,8 +1,11 @@
 -- What a campaign's tag script asks for on a mutation, how it ends, and what a row tells of that.
-use Rattle.std.specs.Prelude.{ℕ, zero, suc, ◌+◌, ◌-◌, ◌^◌, Bool, true, false, ◌==◌, List, [], ◌∷◌, Option, None, Some, map, min, unwrap_or, if◌then◌else◌, bit_and}
+use Rattle.std.specs.Prelude.{◌≡◌, ℕ, zero, suc, ◌+◌, ◌-◌, ◌^◌, Bool, true, false, ◌==◌, List, [], ◌∷◌, Option, None, Some, map, min, unwrap_or, if◌then◌else◌, bit_and}
+use Rattle.std.specs.Option.{option_or}
+use Rattle.std.specs.List.{Any}
 use Rattle.tag_script.specs.declared.answer.Ask.{Ask}
 use Rattle.tag_script.specs.declared.answer.Ask.TheVariants.{Need, Done, AssertFailed, Unexpected}
-use Rattle.tag_script.specs.Outcomes.{script_outcome, told}
+use Rattle.tag_script.specs.Outcomes.{script_outcome, told, word_at}
+pub use Rattle.result_book.specs.declared.answer.Answer.{Answer}
 use Rattle.result_book.specs.declared.campaign.Campaign.{Campaign}
 use Rattle.result_book.specs.declared.script.TestWord.{TestWord}
 use Rattle.result_book.specs.declared.script.TestWord.TheVariants.{Pass, Fail, Hang, Unknown}
@@ -14,24 +17,19 @@ word_code Fail = 1
 word_code Hang = 2
 word_code Unknown = 3
 
--- what a test of a mutation answered
-pub record Answer : Type 0 where
-  pub test : ℕ
-  pub word : ℕ
-
--- the word of a test among a mutation's answers, if there is one
+-- the last word of a test among a mutation's answers, if there is one
 abbrev pub word_in : List Answer → ℕ → Option ℕ
 word_in [] test = None
-word_in (answer ∷ more) test = if answer.test == test then Some answer.word else word_in more test
+word_in (answer ∷ more) test = option_or (word_in more test) (if answer.test == test then Some answer.word else None)
 
--- the words of so many tests among the answers, from this test on
-abbrev pub words_from : ℕ → ℕ → List Answer → List (Option ℕ)
-words_from test zero answers = []
-words_from test (suc n) answers = word_in answers test ∷ words_from (test + 1) n answers
+-- what each of so many has, from this one on
+abbrev pub each_from : {X : Type 0} → (ℕ → X) → ℕ → ℕ → List X
+each_from f from zero = []
+each_from f from (suc n) = f from ∷ each_from f (from + 1) n
 
--- the words of the 16 tests that there are at most
+-- the last words of the 16 tests that there are at most
 unfoldable pub words_of : List Answer → List (Option ℕ)
-words_of answers = words_from 0 16 answers
+words_of answers = each_from (word_in answers) 0 16
 
 -- These words, with PASS for each test that has none. Any other would do: see `MissingWordsPlayNoPart`.
 abbrev pub filled : List (Option ℕ) → List ℕ
@@ -45,6 +43,33 @@ ask_by c words = told words (script_outcome c.expect (filled words) c.script)
 -- what the script asks for where a mutation's tests have given these answers, or how it ended
 abbrev pub ask : Campaign → List Answer → Ask
 ask c answers = ask_by c (words_of answers)
+
+-- the tests that the script asks where the tests of a mutation have these words, in the order asked
+unfoldable pub asked_on : Campaign → List (Option ℕ) → List ℕ
+asked_on c words = (script_outcome c.expect (filled words) c.script).asked
+
+-- what a test answered, and other answers behind it; none where it has no word
+abbrev pub known_first : ℕ → Option ℕ → List Answer → List Answer
+known_first test None behind = []
+known_first test (Some word) behind = record { test = test; word = word } ∷ behind
+
+-- what these tests answered, up to the first without a word
+abbrev pub known_of : List (Option ℕ) → List ℕ → List Answer
+known_of words [] = []
+known_of words (test ∷ more) = known_first test (word_at words test) (known_of words more)
+
+-- The read tests of a mutation whose tests have these last words, each with its word: the tests that the script asks on them, in
+-- the order asked, up to the first without a word.
+abbrev pub read_by : Campaign → List (Option ℕ) → List Answer
+read_by c words = known_of words (asked_on c words)
+
+-- the read tests of a mutation whose tests have given these answers
+abbrev pub read_answers : Campaign → List Answer → List Answer
+read_answers c answers = read_by c (words_of answers)
+
+-- the test is one of them
+abbrev pub IsRead : Campaign → List Answer → ℕ → Type 0
+IsRead c answers test = Any (λ answer. answer.test ≡ test) (read_answers c answers)
 
 -- the script needs no test
 abbrev pub is_ended : Ask → Bool

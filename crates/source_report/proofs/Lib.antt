@@ -2,4 +2,3 @@ pub mod Counted
 pub mod FileLines
 pub mod LineCounting
 pub mod Lines
-pub mod Threads

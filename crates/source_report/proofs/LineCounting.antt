@@ -7,7 +7,8 @@ use Rattle.std.proofs.lemmas.List.{get_or-set_other, length-set, length-take}
 use Rattle.std.proofs.lemmas.List.Sums.{count_by-le-length}
 use Rattle.tag_script.specs.declared.answer.Ask.{Ask}
 use Rattle.result_book.specs.declared.campaign.Campaign.{Campaign}
-use Rattle.result_book.specs.Scripts.{Answer, ask}
+use Rattle.result_book.specs.declared.answer.Answer.{Answer}
+use Rattle.result_book.specs.Scripts.{ask}
 use Rattle.source_report.specs.declared.counts.End.{End}
 use Rattle.source_report.specs.declared.counts.End.TheVariants.{Tag}
 use Rattle.source_report.specs.Texts.{end_count, tag_counts}

@@ -1,12 +1,13 @@
--- The list of the mutations: a line for each, with the answers of its tests in the order of the rows, and how its script
+-- The list of the mutations: a line for each, with its read tests in the order asked and their last words, and how its script
 -- ended.
-use Rattle.std.specs.Prelude.{◌≡◌, ⊤, ℕ, zero, suc, ◌+◌, ◌^◌, ◌<◌, ◌≤◌, ◌==◌, List, [], ◌∷◌, ◌++◌, length, drop, get_or, slice_get, Some, codes, decimal, IsSomeAnd, if◌then◌else◌}
+use Rattle.std.specs.Prelude.{ℕ, ◌+◌, ◌^◌, ◌==◌, List, [], ◌∷◌, ◌++◌, get_or, codes, decimal, if◌then◌else◌}
 use Rattle.mcy_keeper.specs.declared.book.Entry.{Entry}
 use Rattle.result_book.specs.declared.campaign.Campaign.{Campaign}
 use Rattle.result_book.specs.declared.script.TestWord.TheVariants.{Pass, Fail, Hang, Unknown}
 use Rattle.tag_script.specs.declared.answer.Ask.{Ask}
 use Rattle.tag_script.specs.declared.answer.Ask.TheVariants.{Need, Done, AssertFailed, Unexpected}
-use Rattle.result_book.specs.Scripts.{Answer, ask, has_tag, word_code}
+use Rattle.result_book.specs.declared.answer.Answer.{Answer}
+use Rattle.result_book.specs.Scripts.{ask, has_tag, word_code}
 use Rattle.result_book.specs.Rows.{groups}
 use Rattle.source_report.specs.Texts.{word_name}
 
@@ -53,25 +54,3 @@ list_lines c number sites groups = []
 -- the list of a campaign whose journal has these rows
 unfoldable pub list_text : Campaign → List Entry → List ℕ
 list_text c rows = list_lines c 0 c.mutations (groups c rows)
-
--- The first row of a mutation among rows that are counted from k on. It is told from 1 on, and 0 is none.
-abbrev pub first_row : ℕ → ℕ → List Entry → ℕ
-first_row m k [] = 0
-first_row m k (e ∷ more) = if e.mutation == m then suc k else first_row m (suc k) more
-
--- the rows from one on that is told so
-abbrev pub rows_from : List Entry → ℕ → List Entry
-rows_from rows zero = []
-rows_from rows (suc k) = drop k rows
-
--- there is such a row of the mutation, or it is none
-abbrev pub IsNext : ℕ → List Entry → ℕ → Type 0
-IsNext m rows zero = ⊤
-IsNext m rows (suc k) = IsSomeAnd (slice_get rows k) (λ e. e.mutation ≡ m)
-
--- For each mutation its first row from k on, and for each row from k on the next one of the same mutation.
-pub record AreChained (mutations k : ℕ) (rows : List Entry) (first next : List ℕ) : Type 0 where
-  pub first_count : length first ≡ mutations
-  pub next_count : length next ≡ length rows
-  pub begins : (m : ℕ) → m < mutations → get_or first m 0 ≡ first_row m k (drop k rows)
-  pub goes_on : (i : ℕ) (e : Entry) → k ≤ i → slice_get rows i ≡ Some e → get_or next i 0 ≡ first_row e.mutation (suc i) (drop (suc i) rows)

@@ -7,7 +7,8 @@ use Rattle.mcy_base.specs.declared.file.SourceFile.{SourceFile}
 use Rattle.mcy_keeper.specs.declared.book.Entry.{Entry}
 use Rattle.result_book.specs.declared.campaign.Campaign.{Campaign}
 use Rattle.tag_script.specs.declared.answer.Ask.{Ask}
-use Rattle.result_book.specs.Scripts.{Answer, ask}
+use Rattle.result_book.specs.declared.answer.Answer.{Answer}
+use Rattle.result_book.specs.Scripts.{ask}
 use Rattle.result_book.specs.Rows.{groups}
 use Rattle.source_report.specs.declared.counts.End.{End}
 use Rattle.source_report.specs.declared.counts.End.TheVariants.{Tag}

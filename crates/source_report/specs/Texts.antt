@@ -1,5 +1,6 @@
--- The text of the status, from the answers of each mutation in the order of the mutations: counts, and the project's report
--- on the counts of tags. The order of rows of different mutations plays no part.
+-- The text of the status, from the read tests of each mutation with their last words, in the order of the mutations: counts, and
+-- the project's report on the counts of tags. Neither the order of rows of different mutations nor a test that is not read plays a
+-- part.
 use Rattle.std.specs.Prelude.{ℕ, ◌+◌, ◌^◌, Bool, true, false, ◌==◌, List, [], ◌∷◌, ◌++◌, length, count_by, Option, None, Some, codes, decimal, if◌then◌else◌}
 use Rattle.mcy_keeper.specs.declared.book.Entry.{Entry}
 use Rattle.report_script.specs.Texts.{report_text}
@@ -8,8 +9,9 @@ use Rattle.result_book.specs.declared.script.TestWord.{TestWord}
 use Rattle.result_book.specs.declared.script.TestWord.TheVariants.{Pass, Fail, Hang, Unknown}
 use Rattle.tag_script.specs.declared.answer.Ask.{Ask}
 use Rattle.tag_script.specs.declared.answer.Ask.TheVariants.{AssertFailed, Unexpected}
-use Rattle.result_book.specs.Campaigns.{eq_kind}
-use Rattle.result_book.specs.Scripts.{Answer, ask, has_tag, is_ended, word_code, word_in}
+use Rattle.result_book.specs.Campaigns.{sim_kind}
+use Rattle.result_book.specs.declared.answer.Answer.{Answer}
+use Rattle.result_book.specs.Scripts.{ask, has_tag, is_ended, word_code, word_in}
 use Rattle.result_book.specs.Rows.{groups}
 use Rattle.source_report.specs.declared.counts.End.{End}
 use Rattle.source_report.specs.declared.counts.End.TheVariants.{Tag, Assert, Word}
@@ -22,14 +24,14 @@ word_name Unknown = codes "UNKNOWN"
 
 -- the word that a kind of test has beside PASS and FAIL
 abbrev pub third_word : ℕ → TestWord
-third_word kind = if kind == eq_kind then Unknown else Hang
+third_word kind = if kind == sim_kind then Hang else Unknown
 
 -- a test answered with this word
 abbrev pub is_word : TestWord → Option ℕ → Bool
 is_word word None = false
 is_word word (Some code) = code == word_code word
 
--- on how many mutations a test answered with this word
+-- on how many mutations a test is read and answered with this word last
 abbrev pub word_count : List (List Answer) → ℕ → TestWord → ℕ
 word_count groups test word = count_by (λ answers. is_word word (word_in answers test)) groups
 

@@ -1,12 +1,14 @@
 //! How many mutations' tests have a word, and how many mutations' scripts ended in a way.
-ghost use Rattle.std.specs.Prelude.{◌≡◌, ◌<◌, count_by, length};
+ghost use Rattle.std.specs.Prelude.{◌≡◌, ◌<◌, ◌^◌, IfOk, count_by, length, map};
 ghost use Rattle.result_book.specs.Campaigns.{IsFit};
 ghost use Rattle.result_book.specs.Rows.{groups};
+ghost use Rattle.result_book.specs.Scripts.{words_of};
 ghost use Rattle.tag_script.specs.Outcomes.{word_at};
 ghost use Rattle.result_book.specs.States.{IsStateOf};
-ghost use Rattle.source_report.specs.Texts.{end_count, finished_count, is_end, is_word, word_count};
+ghost use Rattle.source_report.specs.Texts.{end_count, finished_count, is_end, is_word};
 
 use result_book::{Campaign, State, TestWord, has_tag};
+use std::alloc::{AllocError, Global};
 use tag_script::{Ask, Results};
 
 /// How a mutation's script ended, as far as the status tells it.
@@ -64,20 +66,33 @@ pub(crate) fn finished_count(campaign: &Campaign, state: &State) -> u32
     state.finished()
 }
 
-/// On how many mutations a test has this word.
-pub(crate) fn word_count(campaign: &Campaign, state: &State, test: u32, word: TestWord) -> u32
+/// The last words of the read tests of each mutation.
+pub(crate) fn read_words(
+    alloc: Global,
+    campaign: &Campaign,
+    state: &State,
+) -> Result<Vec<Results>, AllocError>
     requires fit { IsFit campaign.now }
     requires state { IsStateOf campaign.now state.now.rows state.now }
-    requires test { test < 16 }
-    ensures { result ≡ word_count (groups campaign.now state.now.rows) test word }
+    ensures { IfOk result (λ reads. reads.items ≡ map words_of (groups campaign.now state.now.rows)) }
 {
-    let mut count = 0;
+    let mut reads = Vec::new(alloc);
     for mutation in 0..mutation_count(campaign, state) {
-        if is_word(word, state.results(mutation), test) {
-            count += 1;
-        }
+        reads.push(state.read_words(campaign, mutation))?;
     }
-    count
+    Ok(reads)
+}
+
+/// On how many mutations a test has this word, where these are the words of each one's tests.
+pub(crate) fn word_count(reads: &[Results], test: u32, word: TestWord) -> u32
+    requires test { test < 16 }
+    requires few { length reads.now < 2 ^ 32 }
+    ensures { result ≡ count_by (λ words. is_word word (word_at words test)) reads.now }
+{
+    reads
+        .iter()
+        .filter(|words| is_word(word, **words, test))
+        .count() as u32
 }
 
 /// How many mutations' scripts ended in this way.

@@ -1,7 +1,6 @@
-//! The texts that tell how a campaign stands.
+//! The texts that tell how a campaign stands: from the read tests of each mutation, with their last words.
 #![tactic(auto)]
 
-mod chains;
 mod counts;
 mod file_lines;
 mod line_counts;

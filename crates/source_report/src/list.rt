@@ -1,29 +1,24 @@
 //! The list of the mutations, line by line.
-ghost use Rattle.std.specs.Prelude.{◌≡◌, ◌<◌, ◌≤◌, ◌^◌, ◌++◌, [], length, string_bytes, All, IfOk, OnOk};
+ghost use Rattle.std.specs.Prelude.{◌≡◌, ◌<◌, ◌≤◌, ◌++◌, [], length, All, IfOk, OnOk};
 ghost use Rattle.result_book.specs.Campaigns.{IsFit};
-ghost use Rattle.result_book.specs.Rows.{answer_of, answers_of};
-ghost use Rattle.result_book.specs.Scripts.{ask};
+ghost use Rattle.result_book.specs.Rows.{read_on};
 ghost use Rattle.result_book.specs.States.{IsStateOf};
-ghost use Rattle.source_report.specs.Lists.{AreChained};
 ghost use Rattle.source_report.specs.Lists as lists;
 
-use crate::chains::Chains;
 use crate::status::{tag_bit, word_name};
 use mcy_base::{Bytes, TextList};
-use mcy_keeper::Entry;
-use result_book::{Campaign, State, TestWord, has_tag};
+use result_book::{Answer, Campaign, State, TestWord, has_tag};
 use std::alloc::{AllocError, Global};
 use tag_script::Ask;
 
-/// The mutations of a campaign, a line each: its number, counted from 1, its site, the words of its tests in the order in
-/// which they were given, and its tags, or how else its script stands.
+/// The mutations of a campaign, a line each: its number, counted from 1, its site, its read tests in the order asked with their last
+/// words, and its tags, or how else its script stands.
 pub fn list_text(alloc: Global, campaign: &Campaign, state: &State) -> Result<Bytes, AllocError>
     requires fit { IsFit campaign.now }
     requires state { IsStateOf campaign.now state.now.rows state.now }
     ensures { IfOk result (λ text. text ≡ lists.list_text campaign.now state.now.rows) }
 {
     let sites = campaign.mutations.as_slice();
-    let chains = Chains::of(alloc, sites.len(), state.rows())?;
     let mut text = Vec::new(alloc);
     for (number, site) in sites.iter().enumerate() {
         add_line(
@@ -31,8 +26,7 @@ pub fn list_text(alloc: Global, campaign: &Campaign, state: &State) -> Result<By
             &mut text,
             campaign,
             state,
-            &chains,
-            number,
+            number as u32,
             site.as_slice(),
         )?;
     }
@@ -45,23 +39,22 @@ fn add_line(
     text: &mut Vec<u8>,
     campaign: &Campaign,
     state: &State,
-    chains: &Chains,
-    mutation: usize,
+    mutation: u32,
     site: &[u8],
 ) -> Result<(), AllocError>
     requires fit { IsFit campaign.now }
     requires state { IsStateOf campaign.now state.now.rows state.now }
-    requires chained { AreChained (length campaign.now.mutations) 0 state.now.rows chains.now.first.items chains.now.next.items }
     requires mutation { mutation < length campaign.now.mutations }
-    ensures { OnOk result (text.new.items ≡ text.old.items ++ lists.list_line campaign.now mutation site.now (answers_of mutation state.now.rows)) }
+    ensures { OnOk result (text.new.items ≡ text.old.items ++ lists.list_line campaign.now mutation site.now (read_on campaign.now mutation state.now.rows)) }
 {
+    let answers = state.read_answers(alloc, campaign, mutation)?;
     let head = format!(in alloc; "{}: ", mutation + 1)?;
     add(text, head.as_bytes())?;
     add(text, site)?;
     add(text, b" [")?;
-    add_answers(text, campaign, state, chains, mutation)?;
+    add_answers(text, &campaign.test_names, &answers)?;
     add(text, b"]")?;
-    add_end(alloc, text, &campaign.tags, state.ask_of(mutation as u32))?;
+    add_end(alloc, text, &campaign.tags, state.ask_of(mutation))?;
     add(text, b"\n")
 }
 
@@ -72,49 +65,36 @@ pub(crate) fn add(text: &mut Vec<u8>, bytes: &[u8]) -> Result<(), AllocError>
     text.extend_from_slice(bytes)
 }
 
-/// Adds the answers of a mutation.
-fn add_answers(
-    text: &mut Vec<u8>,
-    campaign: &Campaign,
-    state: &State,
-    chains: &Chains,
-    mutation: usize,
-) -> Result<(), AllocError>
-    requires fit { IsFit campaign.now }
-    requires state { IsStateOf campaign.now state.now.rows state.now }
-    requires chained { AreChained (length campaign.now.mutations) 0 state.now.rows chains.now.first.items chains.now.next.items }
-    requires mutation { mutation < length campaign.now.mutations }
-    ensures { OnOk result (text.new.items ≡ text.old.items ++ lists.answers_text [] campaign.now.test_names (answers_of mutation state.now.rows)) }
+/// Adds the answers of a mutation, a blank between two.
+fn add_answers(text: &mut Vec<u8>, names: &TextList, answers: &[Answer]) -> Result<(), AllocError>
+    requires { All (λ answer. answer.test < length names.now) answers.now }
+    ensures { OnOk result (text.new.items ≡ text.old.items ++ lists.answers_text [] names.now answers.now) }
 {
-    let rows = state.rows();
     let mut before: &[u8] = b"";
-    let mut row = chains.first[mutation];
-    while row != 0 {
-        let place = row as usize - 1;
-        add_answer(text, before, &campaign.test_names, &rows[place])?;
+    for answer in answers {
+        add_answer(text, before, names, answer)?;
         before = b" ";
-        row = chains.next[place];
     }
     Ok(())
 }
 
-/// Adds the answer in a row, with these bytes before it.
+/// Adds an answer, with these bytes before it.
 fn add_answer(
     text: &mut Vec<u8>,
     before: &[u8],
     names: &TextList,
-    row: &Entry,
+    answer: &Answer,
 ) -> Result<(), AllocError>
-    requires { row.now.test < length names.now }
-    ensures { OnOk result (text.new.items ≡ text.old.items ++ (before.now ++ lists.answer_text names.now (answer_of row.now))) }
+    requires { answer.now.test < length names.now }
+    ensures { OnOk result (text.new.items ≡ text.old.items ++ (before.now ++ lists.answer_text names.now answer.now)) }
 {
     add(text, before)?;
     add(
         text,
-        names.as_slice()[row.test as usize].as_str().as_bytes(),
+        names.as_slice()[answer.test as usize].as_str().as_bytes(),
     )?;
     add(text, b"=")?;
-    add(text, word_text(row.word).as_bytes())
+    add(text, word_text(answer.word).as_bytes())
 }
 
 /// The name of the word with this code.

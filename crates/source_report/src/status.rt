@@ -1,15 +1,18 @@
 //! The text of the status: the lines of the counts, and the project's report.
-ghost use Rattle.std.specs.Prelude.{◌≡◌, ◌<◌, ◌^◌, ◌++◌, IfOk, OnOk, string_bytes};
+ghost use Rattle.std.specs.Prelude.{◌≡◌, ◌<◌, ◌^◌, ◌++◌, List, IfOk, OnOk, length, map, string_bytes};
 ghost use Rattle.result_book.specs.Campaigns.{IsFit};
 ghost use Rattle.result_book.specs.Rows.{groups};
+ghost use Rattle.result_book.specs.declared.answer.Answer.{Answer};
+ghost use Rattle.result_book.specs.Scripts.{words_of};
 ghost use Rattle.result_book.specs.States.{IsStateOf};
 ghost use Rattle.source_report.specs.Texts as texts;
 
-use crate::counts::{End, end_count, finished_count, mutation_count, word_count};
+use crate::counts::{End, end_count, finished_count, mutation_count, read_words, word_count};
 use mcy_base::Bytes;
 use report_script::report_text;
-use result_book::{Campaign, EQ_KIND, State, TestWord};
+use result_book::{Campaign, SIM_KIND, State, TestWord};
 use std::alloc::{AllocError, Global};
+use tag_script::Results;
 
 /// The status of a campaign, as a text of lines: how many mutations there are and are finished, how often each test
 /// gave each word, how many mutations ended with each tag, at an assertion and at a word that is not expected; then what
@@ -35,6 +38,7 @@ fn count_lines(alloc: Global, campaign: &Campaign, state: &State) -> Result<Vec<
 {
     let asserts = end_count(campaign, state, End::Assert);
     let unexpected = end_count(campaign, state, End::Word);
+    let reads = read_words(alloc, campaign, state)?;
     let mut text = String::new(alloc);
     add_number(
         &mut text,
@@ -46,7 +50,7 @@ fn count_lines(alloc: Global, campaign: &Campaign, state: &State) -> Result<Vec<
         "Finished",
         finished_count(campaign, state) as usize,
     )?;
-    add_tests(&mut text, campaign, state)?;
+    add_tests(&mut text, campaign, &reads)?;
     add_tags(&mut text, campaign, state)?;
     add_number(&mut text, "Asserts", asserts as usize)?;
     add_number(&mut text, "Unexpected", unexpected as usize)?;
@@ -89,23 +93,23 @@ pub(crate) fn word_name(word: TestWord) -> &'static str
 fn third_word(kind: u32) -> TestWord
     ensures { result ≡ texts.third_word kind }
 {
-    if kind == EQ_KIND {
-        TestWord::Unknown
-    } else {
+    if kind == SIM_KIND {
         TestWord::Hang
+    } else {
+        TestWord::Unknown
     }
 }
 
-/// Adds the lines of the tests.
-fn add_tests(text: &mut String, campaign: &Campaign, state: &State) -> Result<(), AllocError>
+/// Adds the lines of the tests, where these are the words of each mutation's read tests.
+fn add_tests(text: &mut String, campaign: &Campaign, reads: &[Results]) -> Result<(), AllocError>
     requires fit { IsFit campaign.now }
-    requires state { IsStateOf campaign.now state.now.rows state.now }
-    ensures { OnOk result (string_bytes text.new ≡ string_bytes text.old
-        ++ texts.test_lines (groups campaign.now state.now.rows) 0 campaign.now.test_names campaign.now.kinds) }
+    requires few { length reads.now < 2 ^ 32 }
+    ensures { (groups : List (List Answer)) → reads.now ≡ map words_of groups → OnOk result (string_bytes text.new ≡ string_bytes text.old
+        ++ texts.test_lines groups 0 campaign.now.test_names campaign.now.kinds) }
 {
     for (test, name) in campaign.test_names.as_slice().iter().enumerate() {
         let kind = campaign.kinds.as_slice()[test];
-        add_test(text, campaign, state, test as u32, name.as_str(), kind)?;
+        add_test(text, reads, test as u32, name.as_str(), kind)?;
     }
     Ok(())
 }
@@ -113,22 +117,20 @@ fn add_tests(text: &mut String, campaign: &Campaign, state: &State) -> Result<()
 /// Adds the line of a test.
 fn add_test(
     text: &mut String,
-    campaign: &Campaign,
-    state: &State,
+    reads: &[Results],
     test: u32,
     name: &str,
     kind: u32,
 ) -> Result<(), AllocError>
-    requires fit { IsFit campaign.now }
-    requires state { IsStateOf campaign.now state.now.rows state.now }
     requires test { test < 16 }
-    ensures { OnOk result (string_bytes text.new ≡ string_bytes text.old
-        ++ texts.test_line (groups campaign.now state.now.rows) test name.now kind) }
+    requires few { length reads.now < 2 ^ 32 }
+    ensures { (groups : List (List Answer)) → reads.now ≡ map words_of groups → OnOk result (string_bytes text.new ≡ string_bytes text.old
+        ++ texts.test_line groups test name.now kind) }
 {
     let third = third_word(kind);
-    let passed = word_count(campaign, state, test, TestWord::Pass);
-    let failed = word_count(campaign, state, test, TestWord::Fail);
-    let others = word_count(campaign, state, test, third);
+    let passed = word_count(reads, test, TestWord::Pass);
+    let failed = word_count(reads, test, TestWord::Fail);
+    let others = word_count(reads, test, third);
     let third = word_name(third);
     writeln!(
         text,

@@ -6,3 +6,5 @@
 mod opening;
 #[cfg(test)]
 mod tests;
+#[cfg(test)]
+mod upgrades;

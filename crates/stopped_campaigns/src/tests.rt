@@ -35,7 +35,10 @@ fn campaign(alloc: Global) -> Result<CleanFiles, AllocError> {
 }
 
 /// The outcome and the text of a run.
-fn run<K: Keeper>(alloc: Global, keeper: &mut K) -> Result<(Outcome, MemorySink), AllocError> {
+pub(crate) fn run<K: Keeper>(
+    alloc: Global,
+    keeper: &mut K,
+) -> Result<(Outcome, MemorySink), AllocError> {
     let mut words = Vec::new(alloc);
     words.push("run".to_owned(alloc)?)?;
     let mut files = campaign(alloc)?;
@@ -45,7 +48,7 @@ fn run<K: Keeper>(alloc: Global, keeper: &mut K) -> Result<(Outcome, MemorySink)
 }
 
 /// A file in memory whose calls fail once so many were made.
-type Stopping = Fuse<Memory>;
+pub(crate) type Stopping = Fuse<Memory>;
 
 /// New files: the log and the database, each of which stops after so many calls.
 fn stopping_files(alloc: Global, log_calls: u64, db_calls: u64) -> Files<Stopping> {
@@ -56,14 +59,14 @@ fn stopping_files(alloc: Global, log_calls: u64, db_calls: u64) -> Files<Stoppin
 }
 
 /// The files after a crash: what was not synced is lost, and the calls no longer stop.
-fn crashed(mut files: Files<Stopping>) -> Files<Stopping> {
+pub(crate) fn crashed(mut files: Files<Stopping>) -> Files<Stopping> {
     files.log.crash();
     files.db.crash();
     files
 }
 
 /// Runs the campaign over these files. Whether it was done, with its whole text, and what is left of the files.
-fn run_over(
+pub(crate) fn run_over(
     rt: &impl Abort,
     alloc: Global,
     files: Files<Stopping>,
@@ -101,7 +104,7 @@ fn stop_and_go_on(
 }
 
 /// More calls than a run makes of one file.
-const MOST_CALLS: u64 = 2000;
+pub(crate) const MOST_CALLS: u64 = 2000;
 
 #[test]
 fn a_campaign_stopped_at_any_call_of_the_disk_goes_on(rt: HostRuntime) -> Result<(), Fail> {

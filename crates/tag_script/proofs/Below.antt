@@ -1,6 +1,6 @@
 -- A script that names only these tests asks for no other.
-use Rattle.std.proofs.Common.{◌≡◌, ℕ, ◌<◌, Bool, true, false, ◌&&◌, List, [], ◌∷◌, Option, Some, None, Result, Ok, Err, map, sym, subst, arith, if◌then◌else◌}
-use Rattle.std.specs.Prelude.{⊤}
+use Rattle.std.proofs.Common.{◌≡◌, ℕ, ◌<◌, Bool, true, false, not, ◌==◌, ◌&&◌, List, [], ◌∷◌, Option, Some, None, Result, Ok, Err, map, sym, subst, arith, if◌then◌else◌}
+use Rattle.std.specs.Prelude.{⊤, filter, slice_index}
 use Rattle.std.proofs.lemmas.Bool.{ltb-true}
 use Rattle.tag_lines.specs.declared.expr.Expr.{Expr}
 use Rattle.tag_lines.specs.declared.expr.Expr.TheOpen as e
@@ -19,7 +19,7 @@ use Rattle.tag_script.specs.declared.script.Statement.TheFolds.{fold-roll-Arm, f
 use Rattle.tag_script.specs.Courses.{Choice, Course, Doing, Standing, Valuing, arm_step, choice, chosen, course_of, decided, decides, doing, ended, expr_step, failed, followed, in_turn, reads, start, statement_step, value_of}
 use Rattle.tag_script.specs.Fits.{NeedsBelow, all_true, arm_fits, expr_fits, fit_arm, fit_expr, fit_statement, script_fits, statement_fits}
 use Rattle.tag_script.specs.Hearing.{ask_told, heard, on_word, word_by, word_read}
-use Rattle.tag_script.specs.Outcomes.{is_expected, word_at}
+use Rattle.tag_script.specs.Outcomes.{Outcome, asking, is_expected, outcome_of, script_outcome, unexpected, word_at}
 use Rattle.tag_script.specs.Values.{Datum, is_true, number}
 use Rattle.tag_script.proofs.Truths.{left_true, right_true}
 
@@ -158,3 +158,35 @@ heard_needs tests expect results (reads test goes) h = word_needs tests expect t
 
 pub script_needs : (tests tags : ℕ) (expect : List ℕ) (results : List (Option ℕ)) (script : Script) → script_fits tests tags script ≡ true → NeedsBelow tests (ask_told (heard expect results (course_of script)))
 script_needs tests tags expect results script h = heard_needs tests expect results (course_of script) (course_below tests tags script h)
+
+-- What is asked.
+
+-- each of these tests is one of so many
+abbrev pub AreBelow : ℕ → List ℕ → Type 0
+AreBelow tests [] = Unit {0}
+AreBelow tests (test ∷ more) = (test < tests) × AreBelow tests more
+
+kept_below : (tests test : ℕ) (b : Bool) (kept : List ℕ) → test < tests → AreBelow tests kept → AreBelow tests (if b then test ∷ kept else kept)
+kept_below tests test true kept h more = (h, more)
+kept_below tests test false kept h more = more
+
+filter_below : (tests : ℕ) (p : ℕ → Bool) (xs : List ℕ) → AreBelow tests xs → AreBelow tests (filter p xs)
+filter_below tests p [] h = tt
+filter_below tests p (x ∷ xs) h = kept_below tests x (p x) (filter p xs) h.0 (filter_below tests p xs h.1)
+
+asking_below : (tests test : ℕ) (b : Bool) (behind : Outcome) → test < tests → AreBelow tests behind.asked → AreBelow tests (if b then asking test behind else record { asked = test ∷ []; ends = unexpected test }).asked
+asking_below tests test true behind h more = (h, filter_below tests (λ other. not (other == test)) behind.asked more)
+asking_below tests test false behind h more = (h, tt)
+
+course_asks : (tests : ℕ) (expect words : List ℕ) (c : Course ℕ) → Below tests c → AreBelow tests (outcome_of expect words c).asked
+unfolding outcome_of
+course_asks tests expect words (ended tags) h = tt
+course_asks tests expect words (failed line) h = tt
+course_asks tests expect words (reads test goes) h =
+    let word : ℕ = slice_index words test in
+    asking_below tests test (is_expected expect test word) (outcome_of expect words (goes word)) h.0 (course_asks tests expect words (goes word) (h.1 word))
+
+-- a script that names only these tests asks only these
+pub asked_below : (tests tags : ℕ) (expect words : List ℕ) (script : Script) → script_fits tests tags script ≡ true → AreBelow tests (script_outcome expect words script).asked
+unfolding script_outcome
+asked_below tests tags expect words script h = course_asks tests expect words (course_of script) (course_below tests tags script h)

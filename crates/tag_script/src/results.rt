@@ -44,7 +44,7 @@ impl Results {
     }
 
     /// The word of a test, where there is such a test and it has one.
-    pub(crate) fn any_word(self, test: u32) -> Option<u32>
+    pub fn any_word(self, test: u32) -> Option<u32>
         ensures { result ≡ word_at self test }
     {
         if (test as usize) < MAX_TESTS {
@@ -61,6 +61,15 @@ impl Results {
         ensures { result ≡ slice_set self test (Some word) }
     {
         self.words[test as usize] = Some(word as u8);
+        self
+    }
+
+    /// The same without the word of a test.
+    pub fn without_word(mut self, test: u32) -> Results
+        requires { test < MAX_TESTS }
+        ensures { result ≡ slice_set self test None }
+    {
+        self.words[test as usize] = None;
         self
     }
 }

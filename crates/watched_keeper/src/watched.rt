@@ -1,12 +1,12 @@
 //! A keeper over another one, and the watcher of both.
 //!
 //! What is kept is what the keeper below keeps: the watcher is told of a book or a row once it is there, and plays no part in any
-//! clause.
+//! clause. An upgrade adds no row, and he is told nothing of it.
 ghost use Rattle.std.specs.Prelude.{◌≡◌, ◌↔◌, Option};
 ghost use Rattle.mcy_keeper.specs.declared.book.Book.{Book as Pages};
 
 use mcy_base::BytesList;
-use mcy_keeper::{Book, Entry, KeepError, Keeper};
+use mcy_keeper::{Book, BoundList, Entry, KeepError, Keeper};
 
 /// Who is told what a keeper keeps.
 pub trait Watcher {
@@ -57,6 +57,10 @@ impl<K: Keeper, W: Watcher> Keeper for WatchedKeeper<K, W> {
             self.watcher.begun(mutations);
         }
         written
+    }
+
+    fn upgrade(&mut self, bounds: &BoundList) -> Result<(), KeepError> {
+        self.keeper.upgrade(bounds)
     }
 
     fn append(&mut self, entry: &Entry) -> Result<(), KeepError> {

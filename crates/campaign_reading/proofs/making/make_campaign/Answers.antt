@@ -29,7 +29,6 @@ returns c =
       trials = c.requires.trials.2;
       cycles = refl;
       seed = refl;
-      conflicts = refl;
       campaign = c.in_ok-choice.ensures.campaign ∙ same;
       count = ap length c.requires.sites;
       places = c.in_ok-choice.ensures.sites ∙ ap (λ (n : RawNetlist). picked_sites project n) c.netlist.ensures;

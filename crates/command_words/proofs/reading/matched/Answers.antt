@@ -1,5 +1,5 @@
 -- The name of the subcommand and its rows make one pair.
-use Rattle.std.proofs.Common.{rules, ap, sym, codes, true≢false, ◌≡◌, ◌∙◌, List, Option, Some, None, option_map}
+use Rattle.std.proofs.Common.{rules, ap, ap₂, sym, codes, true≢false, ◌≡◌, ◌∙◌, List, Option, Some, None, option_map}
 use Rattle.std.specs.Option.{is_some, option_map_or}
 use Rattle.clap.specs.Words.{Row, Text, first_of, found_of, rows_of, subcommand_rows_of}
 use Rattle.clap.proofs.WalkLemmas.{first_value-rows}
@@ -15,7 +15,7 @@ pub returns-in-run : goal.returns-in-run
 returns-in-run c =
     let rows : List Row = rows_of (found_of c.in_ok-name.inner.now) in
     let found : subcommand_rows_of c.args.matches.now ≡ Some (c.in_ok-name.name.now, rows) = paired _ _ _ rows c.in_ok-name.ensures.name c.in_ok-name.ensures.rows in
-    let value : c.stopping.result ≡ run_by (first_of (codes "stop-after") rows) = c.stopping.ensures
-    ∙ ap run_by (c.get_str.ensures ∙ first_value-rows (found_of c.in_ok-name.inner.now) (codes "stop-after")) in
+    let value : c.run_by.result ≡ run_by (first_of (codes "stop-after") rows) (first_of (codes "retry") rows) = c.run_by.ensures
+    ∙ ap₂ run_by (c.get_str.ensures ∙ first_value-rows (found_of c.in_ok-name.inner.now) (codes "stop-after")) (c.get_str-in-run.ensures ∙ first_value-rows (found_of c.in_ok-name.inner.now) (codes "retry")) in
     let is_run : c.in_ok-name.name.now ≡ codes "run" = search rules in
     value ∙ sym (ap command_by found ∙ ap (λ name. command_named name rows) is_run)

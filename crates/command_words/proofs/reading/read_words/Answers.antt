@@ -6,7 +6,7 @@ use Rattle.clap.specs.Words.{App, IsAmong, Text, app_of, fault_of, is_simple, is
 use Rattle.clap.proofs.WalkLemmas.{list_any-map}
 use Rattle.clap.proofs.OnLiterals.{clap_on_literals}
 use Rattle.command_words.specs.Program.{command_by, command_line}
-use Rattle.command_words.proofs.RunWords.{IsClean}
+use Rattle.command_words.proofs.RunTurns.{IsClean}
 use Rattle.command_words.proofs.Turns.{dashes}
 use Rattle.command_words.proofs.Whole.{accepted, clean_from, refused, with_dashes}
 use Rattle.command_words.proofs.reading.read_words.Goals as goal

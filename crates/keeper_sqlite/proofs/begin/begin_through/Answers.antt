@@ -1,6 +1,8 @@
 use Rattle.std.proofs.Common.{true, Some, OnOk, OnErr, sym, subst}
 use Rattle.mcy_keeper.specs.declared.book.Book.{Book}
 use Rattle.mcy_keeper.specs.Books.{IsBlank, begun, Keeps, LeavesEither}
+use Rattle.keeper_sqlite.specs.declared.read.JournalTable.{JournalTable}
+use Rattle.keeper_sqlite.specs.Rows.{table_of}
 use Rattle.keeper_sqlite.specs.Stands.{Holds, Leaves}
 use Rattle.keeper_sqlite.proofs.Keeping.{begun_told, begun_either}
 use Rattle.keeper_sqlite.proofs.begin.begin_through.Goals as goal
@@ -9,7 +11,7 @@ pub returns-in-Some-clause-done : goal.returns-in-Some-clause-done
 returns-in-Some-clause-done g c clean =
     let new = c.begin_book.new.connection in
     let book = begun c.args.meta.now c.args.mutations.now in
-    subst (λ o. OnOk c.begin_book.result ((was : Book) → Holds g.S.Store o true was → IsBlank was → Keeps (Holds g.S.Store (Some new) true) (Leaves g.S.Store (Some new)) book)) (sym c.in-Some.is)
+    subst (λ o. OnOk c.begin_book.result ((table : JournalTable) (was : Book) → Holds g.S.Store o true table was → IsBlank was → Keeps (Holds g.S.Store (Some new) true (table_of book)) (Leaves g.S.Store (Some new)) book)) (sym c.in-Some.is)
     (begun_told g.S.Store c.in-Some.connected new c.args.meta.now c.args.mutations.now clean c.begin_book.result (λ trees is_open left. g.met.S.Store.settled new.store trees is_open left) (λ is_open. g.met.S.Store.stays new.store is_open) c.begin_book.ensures.begun)
 
 pub returns-in-Some-clause-either : goal.returns-in-Some-clause-either
@@ -17,5 +19,5 @@ returns-in-Some-clause-either g c clean =
     let new = c.begin_book.new.connection in
     let old = c.in-Some.connected in
     let book = begun c.args.meta.now c.args.mutations.now in
-    subst (λ o. OnErr c.begin_book.result ((was : Book) → Holds g.S.Store o true was → IsBlank was → LeavesEither (Leaves g.S.Store (Some new)) was book)) (sym c.in-Some.is)
+    subst (λ o. OnErr c.begin_book.result ((table : JournalTable) (was : Book) → Holds g.S.Store o true table was → IsBlank was → LeavesEither (Leaves g.S.Store (Some new)) was book)) (sym c.in-Some.is)
     (begun_either g.S.Store old new c.args.meta.now c.args.mutations.now clean c.begin_book.result (λ trees is_open left. g.met.S.Store.settled old.store trees is_open left) c.begin_book.ensures.crash)

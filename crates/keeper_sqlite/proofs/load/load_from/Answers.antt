@@ -2,6 +2,8 @@ use Rattle.std.proofs.Common.{rules, ◌≡◌, inl, inr, false, not, IsTrue, Is
 use Rattle.keeper_sqlite.specs.declared.refusal.Refusal.TheVariants.{Database}
 use Rattle.sqlite.specs.Held.{state}
 use Rattle.sqlite.specs.State.{HasCleanDisk}
+use Rattle.sqlite.proofs.StateLemmas.{survives_then}
+use Rattle.keeper_sqlite.specs.Making.{MayMake}
 use Rattle.keeper_sqlite.proofs.Loads.{loaded}
 use Rattle.keeper_sqlite.proofs.load.load_from.Goals as goal
 
@@ -28,3 +30,9 @@ returns-in_err-book-clause-fault g c clean fault =
     let early : HasCleanDisk (state g.S.Store ready) = omega (arith, c.read_book.ensures.crash.clean) in
     let why : IsErrOf c.read_book.result Database = search rules in
     inr (ready, c.in_ok-ensure_tables.ensures.ready early, c.read_book.ensures.fault clean why)
+
+pub returns-clause-crash : goal.returns-clause-crash
+returns-clause-crash g c =
+    let old = state g.S.Store c.args.connection.now in
+    let mid = state g.S.Store c.ensure_tables.new.connection in
+    survives_then old mid (state g.S.Store c.read_book.new.connection) (MayMake old) (λ _. ⊥) (MayMake old) (λ _ trees may. may) (λ _ trees none. absurd none) c.ensure_tables.ensures.crash c.read_book.ensures.crash

@@ -1,6 +1,7 @@
 use Rattle.std.proofs.Common.{◌≡◌, Bool, Some, IfOk, OnOk, sym, subst}
 use Rattle.mcy_keeper.specs.declared.book.Book.{Book}
 use Rattle.mcy_keeper.specs.Books.{LeavesNothingNew}
+use Rattle.keeper_sqlite.specs.declared.read.JournalTable.{JournalTable}
 use Rattle.keeper_sqlite.specs.Stands.{Holds, Leaves}
 use Rattle.keeper_sqlite.specs.Making.{LoadsTables}
 use Rattle.keeper_sqlite.proofs.Loads.{answered, found_tables, same_found, found_allowed, nothing_new, on_err}
@@ -19,7 +20,7 @@ returns-in-Some-clause-tables g c clean =
 
 pub returns-in-Some-clause-same : goal.returns-in-Some-clause-same
 returns-in-Some-clause-same g c clean =
-    subst (λ o. IfOk c.load_from.result (λ found. (settled : Bool) (was : Book) → Holds g.S.Store o settled was → found ≡ was)) (sym c.in-Some.is)
+    subst (λ o. IfOk c.load_from.result (λ found. (settled : Bool) (table : JournalTable) (was : Book) → Holds g.S.Store o settled table was → found ≡ was)) (sym c.in-Some.is)
     (same_found g.S.Store c.in-Some.connected c.load_from.new.connection clean c.load_from.result (c.load_from.ensures.loaded clean))
 
 pub returns-in-Some-clause-allowed : goal.returns-in-Some-clause-allowed

@@ -6,7 +6,9 @@ use Rattle.sqlite.specs.Given.{HasGiven}
 use Rattle.keeper_sqlite.specs.declared.refusal.Refusal.TheVariants.{Database}
 use Rattle.keeper_sqlite.specs.Refusals.{refusal_of}
 use Rattle.keeper_sqlite.specs.Unloaded.{IsNoEntries}
-use Rattle.keeper_sqlite.specs.Rows.{shown_entry}
+use Rattle.keeper_sqlite.specs.Rows.{shown_entry, FitsTable}
+use Rattle.std.specs.List.{AllByRecursion}
+use Rattle.keeper_sqlite.proofs.Adding.{fit_push}
 use Rattle.keeper_sqlite.proofs.Refused.{still_itself, begins_from}
 use Rattle.keeper_sqlite.proofs.Lists.{map-push}
 use Rattle.keeper_sqlite.proofs.Selects.{commits_nothing, shown_from}
@@ -29,6 +31,7 @@ rows-init g c =
       same = refl;
       crash = commits_nothing c.args.sql.now old (state g.S.Store c.in_ok-rows.rows.conn.now) c.requires made.survives;
       given = λ clean. rw c.new-entries.ensures.items (begun_plain g.S.Store _ _ c.args.connection.now _ (c.requires (early clean)) (made.begun clean));
+      fit = subst (AllByRecursion (FitsTable c.args.table)) (sym c.new-entries.ensures.items) tt;
       count = ap length c.new-entries.ensures.items;
     }
 
@@ -39,7 +42,7 @@ returns-in_default-clause-shown g c clean =
     let late : HasCleanDisk (state g.S.Store now) = search rules in
     let was = c.rows.invariant.given (omega (arith, moved.survives.clean)) in
     let early : HasCleanDisk (state g.S.Store c.args.connection.now) = omega (arith, moved.survives.clean, c.rows.invariant.crash.clean) in
-    let shown = (rw (c.in_ok-row.was, c.in_default.is) at (moved.ok late)) c.args.sql.now [] (map shown_entry c.rows.entries.items) was.0 in
+    let shown = (rw (c.in_ok-row.was, c.in_default.is) at (moved.ok late)) c.args.sql.now [] (map (shown_entry c.args.table) c.rows.entries.items) was.0 in
     let first = shown_from c.args.sql.now (state g.S.Store c.args.connection.now) _ (state g.S.Store now) _ (c.requires early) was.1 shown in
     search rules
 
@@ -50,14 +53,15 @@ rows-preserved g c =
     let mid = state g.S.Store c.rows.rows.conn.now in
     let new = state g.S.Store c.next.follows.lender-at-none.conn.now in
     let entries = c.rows.entries.items in
-    let grown : map shown_entry entries ++ c.in-Some.row.now ∷ [] ≡ map shown_entry c.push.new.self.items = ap (λ r. map shown_entry entries ++ r ∷ []) c.in_ok-entry.ensures.found ∙ sym (map-push shown_entry entries c.in_ok-entry.entry) ∙ ap (map shown_entry) (sym c.in_ok-push.ensures.items) in
+    let grown : map (shown_entry c.args.table) entries ++ c.in-Some.row.now ∷ [] ≡ map (shown_entry c.args.table) c.push.new.self.items = ap (λ r. map (shown_entry c.args.table) entries ++ r ∷ []) c.in_ok-entry.ensures.found.0 ∙ sym (map-push (shown_entry c.args.table) entries c.in_ok-entry.entry) ∙ ap (map (shown_entry c.args.table)) (sym c.in_ok-push.ensures.items) in
     record {
       same = search rules;
       crash = search rules;
       given = λ clean.
           let was = c.rows.invariant.given (omega (arith, moved.survives.clean)) in
-          let next = (rw (c.in_ok-row.was, c.in-Some.is) at (moved.ok clean)) c.args.sql.now [] (map shown_entry entries) was.0 in
+          let next = (rw (c.in_ok-row.was, c.in-Some.is) at (moved.ok clean)) c.args.sql.now [] (map (shown_entry c.args.table) entries) was.0 in
           (subst (HasGiven g.S.Store c.args.sql.now [] c.next.follows.lender-at-none.conn.now) grown next, unchanged_then old mid new was.1 (rw c.in_ok-row.was at (moved.same clean)));
+      fit = subst (AllByRecursion (FitsTable c.args.table)) (sym c.in_ok-push.ensures.items) (fit_push c.args.table entries c.in_ok-entry.entry c.rows.invariant.fit c.in_ok-entry.ensures.found.1);
       count = omega (arith, c.rows.invariant.count, length-append entries (c.in_ok-entry.entry ∷ []), ap length c.in_ok-push.ensures.items);
     }
 
@@ -75,9 +79,9 @@ returns-in_err-row-clause-fault g c clean fault =
     let now = c.next.follows.lender-at-none.conn.now in
     let late : HasCleanDisk (state g.S.Store now) = search rules in
     let was = c.rows.invariant.given (omega (arith, moved.survives.clean)) in
-    let failed = (rw c.in_err-row.was at (moved.err late)) c.args.sql.now [] (map shown_entry c.rows.entries.items) was.0 in
+    let failed = (rw c.in_err-row.was at (moved.err late)) c.args.sql.now [] (map (shown_entry c.args.table) c.rows.entries.items) was.0 in
     let why : refusal_of c.in_err-row.field-0.0 ≡ Database = search rules in
-    let stopped : IsNoEntries g.S.Store c.args.sql.now c.args.connection.now now = inl (record { before = c.rows.rows.conn.now; still = λ _. was.1; error = c.in_err-row.field-0.0; failed = failed; is = why }) in
+    let stopped : IsNoEntries g.S.Store c.args.table c.args.sql.now c.args.connection.now now = inl (record { before = c.rows.rows.conn.now; still = λ _. was.1; error = c.in_err-row.field-0.0; failed = failed; is = why }) in
     search rules
 
 pub returns-in_err-entry-clause-fault : goal.returns-in_err-entry-clause-fault
@@ -89,7 +93,7 @@ returns-in_err-entry-clause-fault g c clean fault =
     let late : HasCleanDisk (state g.S.Store now) = search rules in
     let found = c.rows.entries.items in
     let was = c.rows.invariant.given (omega (arith, moved.survives.clean)) in
-    let next = (rw (c.in_ok-row.was, c.in-Some.is) at (moved.ok late)) c.args.sql.now [] (map shown_entry found) was.0 in
+    let next = (rw (c.in_ok-row.was, c.in-Some.is) at (moved.ok late)) c.args.sql.now [] (map (shown_entry c.args.table) found) was.0 in
     let same = unchanged_then old mid (state g.S.Store now) was.1 (rw c.in_ok-row.was at (moved.same late)) in
     let begun = begins_from c.args.sql.now old (state g.S.Store now) _ same (given_begin g.S.Store c.args.sql.now [] now _ next) in
     let why : IsErrOf c.entry_of.result Database = search rules in

@@ -2,7 +2,8 @@ use Rattle.std.proofs.Common.{◌≡◌, map, length, []}
 use Rattle.sqlite.specs.Held.{state}
 use Rattle.sqlite.specs.Given.{HasGiven}
 use Rattle.sqlite.specs.State.{HasCleanDisk, IsUnchanged, Survives}
-use Rattle.keeper_sqlite.specs.Rows.{shown_entry}
+use Rattle.keeper_sqlite.specs.Rows.{shown_entry, FitsTable}
+use Rattle.std.specs.List.{AllByRecursion}
 use Rattle.keeper_sqlite.proofs.select.show_entries.Given as goal
 
 abbrev pub invariant-rows : goal.invariant-rows
@@ -12,6 +13,7 @@ invariant-rows g l =
     record {
       same : l.rows.conn.ghost_name ≡ l.initial.rows.conn.ghost_name;
       crash : Survives old now (λ _. ⊥);
-      given : HasCleanDisk now → HasGiven g.S.Store l.sql [] l.rows.conn.now (map shown_entry l.entries.items) × IsUnchanged old now;
+      given : HasCleanDisk now → HasGiven g.S.Store l.sql [] l.rows.conn.now (map (shown_entry l.table) l.entries.items) × IsUnchanged old now;
+      fit : AllByRecursion (FitsTable l.table) l.entries.items;
       count : length l.entries.items ≡ l._place;
     }

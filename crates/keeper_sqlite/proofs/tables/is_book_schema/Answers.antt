@@ -1,23 +1,21 @@
 use Rattle.std.proofs.Common.{rules, ◌≡◌, codes, ◌∙◌, [], ◌∷◌}
-use Rattle.keeper_sqlite.specs.Tables.{rowid_table, constraints, meta_columns, mutation_columns, journal_columns}
-use Rattle.keeper_sqlite.proofs.Lists.{three}
+use Rattle.keeper_sqlite.specs.Tables.{rowid_table, constraints, meta_columns, mutation_columns, journal_columns, second_columns}
+use Rattle.keeper_sqlite.proofs.Lists.{four}
 use Rattle.keeper_sqlite.proofs.tables.is_book_schema.Goals as goal
 
-pub returns-clause-is : goal.returns-clause-is
-returns-clause-is c last =
+pub returns-then-is_second-clause-is : goal.returns-then-is_second-clause-is
+returns-then-is_second-clause-is c last =
     let schema = c.args.schema.now in
     let meta : c.meta-item.result ≡ rowid_table (codes "meta") 0 meta_columns (constraints c.meta-item.result) = search rules in
     let mutations : c.mutations-item.result ≡ rowid_table (codes "mutations") 1 mutation_columns (constraints c.mutations-item.result) = search rules in
     let journal : c.journal-item.result ≡ rowid_table (codes "journal") 2 journal_columns (constraints c.journal-item.result) = search rules in
+    let all_second : c.second-item.result ≡ rowid_table (codes "journal2") 4 second_columns (constraints c.second-item.result) = search rules in
     let listed : schema.tables ≡ c.as_slice.result.now = search rules in
-    let tables = listed ∙ three c.as_slice.result.now _ _ _ c.in-len3.len_at_least c.in-len3.len_below c.meta-item.is c.mutations-item.is c.journal-item.is in
+    let tables = listed ∙ four c.as_slice.result.now _ _ _ _ c.in-len4.len_at_least c.in-len4.len_below c.meta-item.is c.mutations-item.is c.journal-item.is c.second-item.is in
     let all : schema.tables ≡ rowid_table (codes "meta") 0 meta_columns (constraints c.meta-item.result) ∷ rowid_table (codes "mutations") 1 mutation_columns (constraints c.mutations-item.result)
-    ∷ rowid_table (codes "journal") 2 journal_columns (constraints c.journal-item.result) ∷ [] = tables ∙ (λ i. meta i ∷ mutations i ∷ journal i ∷ []) in
+    ∷ rowid_table (codes "journal") 2 journal_columns (constraints c.journal-item.result) ∷ rowid_table (codes "journal2") 4 second_columns (constraints c.second-item.result) ∷ [] = tables ∙ (λ i. meta i ∷ mutations i ∷ journal i ∷ all_second i ∷ []) in
     let views : schema.views ≡ [] = search rules in
     record {
-      meta = constraints c.meta-item.result;
-      mutations = constraints c.mutations-item.result;
-      journal = constraints c.journal-item.result;
-      indexes = schema.indexes;
+      of = record { meta = constraints c.meta-item.result; mutations = constraints c.mutations-item.result; journal = constraints c.journal-item.result; second = constraints c.second-item.result; indexes = schema.indexes };
       is = λ i. record { tables = all i; indexes = schema.indexes; views = views i };
     }

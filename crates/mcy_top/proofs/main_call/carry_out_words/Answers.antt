@@ -2,6 +2,7 @@ use Rattle.std.proofs.Common.{◌≡◌, List, ℕ, Option, Some, inl, inr, map,
 use Rattle.mcy_outside.specs.Files.{Held}
 use Rattle.command_words.specs.Commands.{command_of}
 use Rattle.mcy_top.specs.Life.{IsAccepted}
+use Rattle.mcy_top.proofs.Aiming.{goal_is}
 use Rattle.mcy_top.proofs.Answered.{failed_answered, late_answered}
 use Rattle.mcy_top.proofs.main_call.carry_out_words.Goals as goal
 
@@ -51,3 +52,13 @@ returns-clause-answer g c =
     let asked : command_of words ≡ Some c.in-Ok-Some.command = cc in
     let accepted : IsAccepted words held = record { asked = λ none. cc; prepared = c.in-Ok.prepared; made = c.in-Ok.ensures.made } in
     rw c.failed.ensures (failed_answered words held c.in-Err-load.error accepted)
+
+-- what the words aim at is a goal
+pub carry_out-requires-clause-goal : goal.carry_out-requires-clause-goal
+carry_out-requires-clause-goal g c =
+    let says = c.in-Ok-Some.ensures in
+    let field = c.in-Ok-Some.field-0-is in
+    let command = c.in-Ok-Some.command-is in
+    let words : List (List ℕ) = map string_bytes c.args.words.now in
+    let asked : command_of words ≡ Some c.in-Ok-Some.command = cc in
+    goal_is words c.in-Ok-Some.command asked

@@ -1,6 +1,6 @@
-use Rattle.std.proofs.Common.{[]}
+use Rattle.std.proofs.Common.{[], false}
 use Rattle.result_book.proofs.Growing.{rows_first}
 use Rattle.result_book.proofs.book_laws.first_parts_are_rows.Goals as goal
 
 pub returns : goal.returns
-returns c = λ campaign rows more all. rows_first campaign [] rows more all
+returns c = λ campaign rows more all. rows_first false campaign [] rows more all

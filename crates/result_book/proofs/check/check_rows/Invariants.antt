@@ -1,6 +1,9 @@
-use Rattle.std.proofs.Common.{take}
+use Rattle.std.proofs.Common.{[], take}
+use Rattle.result_book.specs.Rows.{AreRowsIn}
 use Rattle.result_book.specs.States.{IsStateOf}
+use Rattle.result_book.proofs.Formats.{seconds}
 use Rattle.result_book.proofs.check.check_rows.Given as goal
 
+-- the rows so far are in form, and the state is that of them in the second format
 abbrev pub invariant-loop-row : goal.invariant-loop-row
-invariant-loop-row l = IsStateOf l.campaign (take l.row-index l.row-items) l.state
+invariant-loop-row l = AreRowsIn l.first l.campaign [] (take l.row-index l.row-items) × IsStateOf l.campaign (seconds l.first l.campaign (take l.row-index l.row-items)) l.state

@@ -3,7 +3,7 @@ use Rattle.std.proofs.lemmas.List.{take_all}
 use Rattle.result_book.specs.Scripts.{ask}
 use Rattle.result_book.specs.Rows.{groups}
 use Rattle.source_report.specs.Texts.{is_end}
-use Rattle.source_report.proofs.Counted.{count-map, count_no, count_yes}
+use Rattle.source_report.proofs.Counted.{asks_told, count-map, count_no, count_yes}
 use Rattle.source_report.proofs.counts.end_count.Goals as goal
 use Rattle.source_report.proofs.counts.end_count.Goals.{then-is_of, else-is_of}
 
@@ -19,5 +19,5 @@ loop-mutation-preserved c =
 pub returns : goal.returns
 returns c =
     c.loop-mutation.invariant.0
-    ∙ ap (count_by (is_end c.args.end)) (take_all c.loop-mutation.mutation c.args.state.now.asks (omega arith) ∙ c.requires.state.asks)
+    ∙ ap (count_by (is_end c.args.end)) (take_all c.loop-mutation.mutation c.args.state.now.asks (omega arith) ∙ c.requires.state.asks ∙ asks_told c.args.campaign.now c.args.state.now.rows c.requires.fit)
     ∙ count-map (is_end c.args.end) (λ answers. is_end c.args.end (ask c.args.campaign.now answers)) (ask c.args.campaign.now) (λ answers. refl) (groups c.args.campaign.now c.args.state.now.rows)

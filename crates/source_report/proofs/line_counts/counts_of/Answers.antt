@@ -4,13 +4,13 @@ use Rattle.std.proofs.lemmas.List.{get_or-replicate, length-replicate, take_all}
 use Rattle.std.proofs.lemmas.Slice.Zip.{length-zip}
 use Rattle.result_book.specs.Rows.{groups}
 use Rattle.source_report.specs.Sources.{is_counted}
-use Rattle.source_report.proofs.Counted.{length-groups_from}
+use Rattle.source_report.proofs.Counted.{asks_told, length-groups_from}
 use Rattle.source_report.proofs.LineCounting.{counted-all, row-few, row-inside, seen-more, slice_get-zip, Mutation}
 use Rattle.source_report.proofs.line_counts.counts_of.Goals as goal
 
 pub place_of-place-requires : goal.place_of-place-requires
 place_of-place-requires c =
-    let long = length-groups_from 0 (length c.args.campaign.now.mutations) c.args.state.now.rows in
+    let long = length-groups_from c.args.campaign.now 0 (length c.args.campaign.now.mutations) c.args.state.now.rows in
     omega (arith, long, c.mutation_count-mutation-end.ensures.groups, c.requires.fit.lines, c.loop-mutation-test.true)
 
 pub loop-mutation-init : goal.loop-mutation-init
@@ -26,7 +26,7 @@ count_one-requires-clause-within c = row-inside c.wanted_row-row.result _ c.args
 pub count_one-requires-clause-few : goal.count_one-requires-clause-few
 count_one-requires-clause-few c =
     let all : List Mutation = zip c.args.campaign.now.lines c.args.state.now.asks in
-    let long = length-groups_from 0 (length c.args.campaign.now.mutations) c.args.state.now.rows in
+    let long = length-groups_from c.args.campaign.now 0 (length c.args.campaign.now.mutations) c.args.state.now.rows in
     row-few c.wanted_row-row.result _ c.args.file c.args.wanted c.args.lines c.loop-mutation.mutation _ all c.loop-mutation.counts.items c.wanted_row-row.ensures.within c.loop-mutation.invariant
     (omega (arith, long, c.mutation_count-mutation-end.ensures.groups, c.requires.fit.few_mutations, c.loop-mutation-test.true))
 
@@ -46,6 +46,6 @@ returns c =
     record {
       count = c.loop-mutation.invariant.count;
       each = λ row below. c.loop-mutation.invariant.each row below
-          ∙ ap (count_by (is_counted c.args.file c.args.wanted row)) (take_all c.loop-mutation.mutation all short ∙ ap (zip c.args.campaign.now.lines) c.requires.state.asks)
+          ∙ ap (count_by (is_counted c.args.file c.args.wanted row)) (take_all c.loop-mutation.mutation all short ∙ ap (zip c.args.campaign.now.lines) (c.requires.state.asks ∙ asks_told c.args.campaign.now c.args.state.now.rows c.requires.fit))
           ∙ counted-all c.args.campaign.now c.args.file row c.args.wanted c.args.campaign.now.lines answers;
     }

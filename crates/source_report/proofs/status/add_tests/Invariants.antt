@@ -1,10 +1,12 @@
-use Rattle.std.proofs.Common.{◌≡◌, ◌++◌, drop, string_bytes}
-use Rattle.result_book.specs.Rows.{groups}
+use Rattle.std.proofs.Common.{◌≡◌, ◌++◌, List, drop, map, string_bytes}
+use Rattle.result_book.specs.declared.answer.Answer.{Answer}
+use Rattle.result_book.specs.Scripts.{words_of}
 use Rattle.source_report.specs.Texts.{test_lines}
 use Rattle.source_report.proofs.status.add_tests.Given as goal
 
 -- the lines so far and those to come are all lines
 abbrev pub invariant-loop-test : goal.invariant-loop-test
 invariant-loop-test l =
-    string_bytes l.text ++ test_lines (groups l.campaign l.state.rows) l.test (drop l.test l.campaign.test_names) (drop l.test l.campaign.kinds)
-    ≡ string_bytes l.initial.text ++ test_lines (groups l.campaign l.state.rows) 0 l.campaign.test_names l.campaign.kinds
+    (groups : List (List Answer)) → l.reads ≡ map words_of groups
+    → string_bytes l.text ++ test_lines groups l.test (drop l.test l.campaign.test_names) (drop l.test l.campaign.kinds)
+    ≡ string_bytes l.initial.text ++ test_lines groups 0 l.campaign.test_names l.campaign.kinds

@@ -1,7 +1,7 @@
 use Rattle.std.proofs.Common.{rules, ◌≡◌, true, sym, subst}
-use Rattle.mcy_keeper.specs.Books.{with_entry, LeavesEither}
+use Rattle.mcy_keeper.specs.Books.{with_entry, Keeps, LeavesEither}
 use Rattle.keeper_sqlite.specs.Stands.{Tells, Holds, Leaves}
-use Rattle.keeper_sqlite.proofs.Answering.{refused_write}
+use Rattle.keeper_sqlite.proofs.Answering.{done_write, fits_held, refused_write, written_done}
 use Rattle.keeper_sqlite.proofs.sql_keeper.SqlKeeperKeeper.append.Goals as goal
 
 pub returns-clause-either : goal.returns-clause-either
@@ -9,6 +9,21 @@ returns-clause-either g c tells fault was held =
     let written = c.append_through-written in
     let same : c.answer_write.new.self.connection ≡ written.new.connection = search rules in
     let told : Tells g.S.Store written.new.connection = subst (Tells g.S.Store) same tells in
-    let held_settled : Holds g.S.Store c.args.self.now.connection true was = subst (λ b. Holds g.S.Store c.args.self.now.connection b was) c.requires.settled held in
+    let held_settled : Holds g.S.Store c.args.self.now.connection true c.args.self.now.table was = subst (λ b. Holds g.S.Store c.args.self.now.connection b c.args.self.now.table was) c.requires.settled held in
     subst (λ o. LeavesEither (Leaves g.S.Store o) was (with_entry was c.args.entry.now)) (sym same)
-    (refused_write written.result c.answer_write.result _ c.answer_write.ensures.ok fault (written.ensures.either told) was held_settled (c.requires.next was held))
+    (refused_write written.result c.answer_write.result _ c.answer_write.ensures.ok fault (written.ensures.either told) was held_settled (c.requires.next was held) (fits_held g.S.Store c.args.self.now.connection true c.args.self.now.table was c.args.entry.now held_settled (c.requires.format was held)))
+
+pub returns-clause-done : goal.returns-clause-done
+returns-clause-done g c tells =
+    let written = c.append_through-written in
+    let same : c.answer_write.new.self.connection ≡ written.new.connection = search rules in
+    let told : Tells g.S.Store written.new.connection = subst (Tells g.S.Store) same tells in
+    let table = c.args.self.now.table in
+    done_write written.result c.answer_write.result _ _ c.answer_write.ensures.memory c.answer_write.ensures.fault (λ ended was held.
+    let held_settled : Holds g.S.Store c.args.self.now.connection true table was = subst (λ b. Holds g.S.Store c.args.self.now.connection b table was) c.requires.settled held in
+    let keeps = (written_done written.result (written.ensures.done told) ended) was held_settled (c.requires.next was held) (fits_held g.S.Store c.args.self.now.connection true table was c.args.entry.now held_settled (c.requires.format was held)) in
+    let is = written_done written.result c.answer_write.ensures.ok ended in
+    let now : (c.answer_write.new.self.settled ≡ true) × (c.answer_write.new.self.table ≡ table) = search rules in
+    subst (λ o. Keeps (Holds g.S.Store o c.answer_write.new.self.settled c.answer_write.new.self.table) (Leaves g.S.Store o) (with_entry was c.args.entry.now)) (sym same)
+    (subst (λ b. Keeps (Holds g.S.Store written.new.connection b c.answer_write.new.self.table) (Leaves g.S.Store written.new.connection) (with_entry was c.args.entry.now)) (sym now.0)
+    (subst (λ t. Keeps (Holds g.S.Store written.new.connection true t) (Leaves g.S.Store written.new.connection) (with_entry was c.args.entry.now)) (sym now.1) keeps)))

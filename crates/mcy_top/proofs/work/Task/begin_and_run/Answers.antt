@@ -15,11 +15,11 @@ new-requires g c = plan_fit c.args.self.now.prepared.now c.requires.plan
 
 pub returns-in-Ok-begin-clause-work : goal.returns-in-Ok-begin-clause-work
 returns-in-Ok-begin-clause-work g c tells =
-    work_opened (g.K.Keeper.leaves c.run.new.keeper) (g.O.Sink.written c.args.out.now) (g.O.Sink.written c.run.new.out) c.args.steps.now c.run.new.steps c.args.stop_after c.args.self.now.prepared.now c.run.result c.requires.plan
-    (subst (λ (rows : List Entry). Work (g.K.Keeper.leaves c.run.new.keeper) (g.O.Sink.written c.args.out.now) (g.O.Sink.written c.run.new.out) c.args.steps.now c.run.new.steps (Run c.args.stop_after) c.args.self.now.prepared.now (book_of c.args.self.now.prepared.now rows) c.run.result) c.in-Ok.ensures.rows_are (c.run.ensures.work tells))
+    work_opened (g.K.Keeper.leaves c.run.new.keeper) (g.O.Sink.written c.args.out.now) (g.O.Sink.written c.run.new.out) c.args.steps.now c.run.new.steps c.args.stop_after c.args.retry c.args.self.now.prepared.now c.run.result c.requires.plan
+    (subst (λ (rows : List Entry). Work (g.K.Keeper.leaves c.run.new.keeper) (g.O.Sink.written c.args.out.now) (g.O.Sink.written c.run.new.out) c.args.steps.now c.run.new.steps (Run c.args.stop_after c.args.retry) c.args.self.now.prepared.now (book_of c.args.self.now.prepared.now rows) c.run.result) c.in-Ok.ensures.rows_are (c.run.ensures.work tells))
 
 pub returns-in-Err-clause-work : goal.returns-in-Err-clause-work
 returns-in-Err-clause-work g c tells =
-    rw c.failed.ensures (work_unopened (g.K.Keeper.leaves c.begin.new.self) (g.O.Sink.written c.args.out.now) c.args.steps.now (Run c.args.stop_after) c.args.self.now.prepared.now c.in-Err.error c.requires.plan (λ h. h) (inl refl)
+    rw c.failed.ensures (work_unopened (g.K.Keeper.leaves c.begin.new.self) (g.O.Sink.written c.args.out.now) c.args.steps.now (Run c.args.stop_after c.args.retry) c.args.self.now.prepared.now c.in-Err.error c.requires.plan (λ h. h) (inl refl)
     (subst (λ (r : Result (Unit {0}) KeepError). OnErr r (LeavesEither (g.K.Keeper.leaves c.begin.new.self) blank (opened c.args.self.now.prepared.now))) c.in-Err.is
     (begin_left (g.K.Keeper.holds c.args.keeper.now) (g.K.Keeper.leaves c.args.keeper.now) (g.K.Keeper.leaves c.begin.new.self) c.begin.result c.args.self.now.prepared.now (c.requires.kept (c.begin.ensures.tells tells)) (c.begin.ensures.either tells) (c.begin.ensures.refused tells))))

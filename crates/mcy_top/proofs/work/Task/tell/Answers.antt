@@ -20,9 +20,9 @@ unfolding source_text
 returns-in-Source-clause-wrote g c = rw c.in-Source.is c.show_source.ensures.wrote
 
 -- of the other commands one only reads, and tells the status
-told_text : (command : Command) (p : Prepared) (book : Book) → OnlyReads command → ((command ≡ Init) ⊎ (((stop : Option ℕ) × (command ≡ Run stop)) ⊎ (command ≡ Status))) → text_of command p book ≡ status_text p.campaign book.journal
+told_text : (command : Command) (p : Prepared) (book : Book) → OnlyReads command → ((command ≡ Init) ⊎ (((stop : Option ℕ) × (retry : Option ℕ) × (command ≡ Run stop retry)) ⊎ (command ≡ Status))) → text_of command p book ≡ status_text p.campaign book.journal
 told_text command p book reads (inl is) = absurd (subst OnlyReads is reads)
-told_text command p book reads (inr (inl run)) = absurd (subst OnlyReads run.1 reads)
+told_text command p book reads (inr (inl run)) = absurd (subst OnlyReads run.2 reads)
 told_text command p book reads (inr (inr is)) = ap (λ (k : Command). text_of k p book) is
 
 pub returns-in-Init : goal.returns-in-Init

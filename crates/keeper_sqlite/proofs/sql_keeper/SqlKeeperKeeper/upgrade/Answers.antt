@@ -1,0 +1,30 @@
+use Rattle.std.proofs.Common.{rules, ◌≡◌, true, sym, subst}
+use Rattle.mcy_keeper.specs.Books.{upgraded, Keeps, LeavesEither}
+use Rattle.keeper_sqlite.specs.declared.read.JournalTable.TheVariants.{Second}
+use Rattle.keeper_sqlite.specs.Stands.{Tells, Holds, Leaves}
+use Rattle.keeper_sqlite.proofs.Answering.{done_write, refused_write, written_done}
+use Rattle.keeper_sqlite.proofs.sql_keeper.SqlKeeperKeeper.upgrade.Goals as goal
+
+pub returns-clause-either : goal.returns-clause-either
+returns-clause-either g c tells fault was held =
+    let written = c.upgrade_through-written in
+    let same : c.answer_write.new.self.connection ≡ written.new.connection = search rules in
+    let told : Tells g.S.Store written.new.connection = subst (Tells g.S.Store) same tells in
+    let held_settled : Holds g.S.Store c.args.self.now.connection true c.args.self.now.table was = subst (λ b. Holds g.S.Store c.args.self.now.connection b c.args.self.now.table was) c.requires.settled held in
+    subst (λ o. LeavesEither (Leaves g.S.Store o) was (upgraded c.args.bounds.now was)) (sym same)
+    (refused_write written.result c.answer_write.result _ c.answer_write.ensures.ok fault (written.ensures.either told) c.args.self.now.table was held_settled (c.requires.first was held))
+
+pub returns-clause-done : goal.returns-clause-done
+returns-clause-done g c tells =
+    let written = c.upgrade_through-written in
+    let same : c.answer_write.new.self.connection ≡ written.new.connection = search rules in
+    let told : Tells g.S.Store written.new.connection = subst (Tells g.S.Store) same tells in
+    let table = c.args.self.now.table in
+    done_write written.result c.answer_write.result _ _ c.answer_write.ensures.memory c.answer_write.ensures.fault (λ ended was held.
+    let held_settled : Holds g.S.Store c.args.self.now.connection true table was = subst (λ b. Holds g.S.Store c.args.self.now.connection b table was) c.requires.settled held in
+    let keeps = (written_done written.result (written.ensures.done told) ended) table was held_settled (c.requires.first was held) (c.requires.bounds was held) in
+    let is = written_done written.result c.answer_write.ensures.ok ended in
+    let now : (c.answer_write.new.self.settled ≡ true) × (c.answer_write.new.self.table ≡ Second) = search rules in
+    subst (λ o. Keeps (Holds g.S.Store o c.answer_write.new.self.settled c.answer_write.new.self.table) (Leaves g.S.Store o) (upgraded c.args.bounds.now was)) (sym same)
+    (subst (λ b. Keeps (Holds g.S.Store written.new.connection b c.answer_write.new.self.table) (Leaves g.S.Store written.new.connection) (upgraded c.args.bounds.now was)) (sym now.0)
+    (subst (λ t. Keeps (Holds g.S.Store written.new.connection true t) (Leaves g.S.Store written.new.connection) (upgraded c.args.bounds.now was)) (sym now.1) keeps)))

@@ -1,0 +1,8 @@
+use Rattle.std.proofs.Common.{◌≡◌, map, take}
+use Rattle.std.specs.List.{AllByRecursion}
+use Rattle.keeper_sqlite.specs.declared.read.JournalTable.TheVariants.{First}
+use Rattle.keeper_sqlite.specs.Rows.{shown_entry, FitsTable}
+use Rattle.keeper_sqlite.proofs.upgrade.entries_of.Given as goal
+
+abbrev pub invariant-loop-row : goal.invariant-loop-row
+invariant-loop-row l = record { shown : take l.row-index l.rows ≡ map (shown_entry First) l.entries.items; fit : AllByRecursion (FitsTable First) l.entries.items }

@@ -1,0 +1,18 @@
+use Rattle.std.proofs.Common.{◌≡◌, IsTrue, map, take}
+use Rattle.sqlite.specs.Held.{state}
+use Rattle.sqlite.specs.State.{HasCleanDisk, KeepsCommit, Survives}
+use Rattle.keeper_sqlite.specs.declared.read.JournalTable.TheVariants.{Second}
+use Rattle.keeper_sqlite.specs.Tables.{IsBookSchema, second_tree}
+use Rattle.keeper_sqlite.specs.Rows.{entry_row}
+use Rattle.keeper_sqlite.specs.Writing.{Wrote}
+use Rattle.keeper_sqlite.proofs.upgrade.write_entries.Given as goal
+
+abbrev pub invariant-loop-entry : goal.invariant-loop-entry
+invariant-loop-entry g l = record {
+  same : l.transaction.conn.ghost_name ≡ l.initial.transaction.conn.ghost_name;
+  crash : Survives (state g.S.Store l.initial.transaction.conn.now) (state g.S.Store l.transaction.conn.now) (λ _. ⊥);
+  kept : HasCleanDisk (state g.S.Store l.transaction.conn.now) → IsTrue (state g.S.Store l.initial.transaction.conn.now).in_transaction
+      → IsTrue (state g.S.Store l.transaction.conn.now).in_transaction × KeepsCommit (state g.S.Store l.initial.transaction.conn.now) (state g.S.Store l.transaction.conn.now);
+  wrote : HasCleanDisk (state g.S.Store l.transaction.conn.now) → IsTrue (state g.S.Store l.initial.transaction.conn.now).in_transaction → IsBookSchema (state g.S.Store l.initial.transaction.conn.now).now.schema
+      → Wrote (second_tree (state g.S.Store l.initial.transaction.conn.now).now.schema) (map (entry_row Second) (take l.entry-index l.entries)) (state g.S.Store l.initial.transaction.conn.now) (state g.S.Store l.transaction.conn.now);
+}

@@ -1,0 +1,190 @@
+-- A run that moves the campaign's book to the second format.
+use Rattle.std.proofs.Common.{◌≡◌, ◌⊎◌, inl, inr, arith, ℕ, ◌+◌, Bool, true, false, List, [], ◌∷◌, ◌++◌, length, refl, sym, ap, subst, ◌∙◌, Option, Result, Ok, Err, OnErr, OnOk, IsErrOf}
+use Rattle.mcy_keeper.specs.declared.book.Entry.{Entry}
+use Rattle.mcy_keeper.specs.declared.book.Book.{Book}
+use Rattle.mcy_keeper.specs.declared.keeper.KeepError.{KeepError}
+use Rattle.mcy_keeper.specs.declared.keeper.KeepError.TheVariants.{Fault as KeepFault, Memory as KeepMemory}
+use Rattle.mcy_keeper.specs.Books.{is_first, upgraded, IsBlank, IsFirst, Keeps, LeavesEither, LeavesNothingNew}
+use Rattle.result_book.specs.Rows.{bounds_of, history, IsWellFormed}
+use Rattle.result_book.proofs.Formats.{has_history, history_meta, history_mutations}
+use Rattle.command_words.specs.declared.command.Command.TheVariants.{Init, Run}
+use Rattle.campaign_plan.specs.declared.prepared.Prepared.{Prepared}
+use Rattle.campaign_plan.specs.Campaigns.{IsPlan}
+use Rattle.campaign_plan.proofs.Plans.{plan_fit}
+use Rattle.campaign_outcomes.specs.declared.outcome.Outcome.{Outcome}
+use Rattle.campaign_outcomes.specs.declared.outcome.Outcome.TheVariants.{Done, Unfinished, NoCampaign, AlreadyBegun, BookBad, KeeperFault, WriteFault, Memory}
+use Rattle.campaign_run.specs.Changes.{IsNear, Upgraded}
+use Rattle.campaign_run.specs.Rows.{IsBlankOrGood, IsGood, IsPrefix, IsWithinOne}
+use Rattle.campaign_run.specs.Running.{book_of, AreWanted, IsWithin}
+use Rattle.campaign_run.proofs.Crashes.{either_books, weaker_books}
+use Rattle.mcy_top.specs.Commands.{run_goal}
+use Rattle.mcy_top.specs.Endings.{failed_outcome}
+use Rattle.mcy_top.specs.Life.{Answers, Carried, GainsWanted, Grew, Work}
+use Rattle.mcy_top.proofs.Advancing.{good_history, history_else, history_first, history_second, within_itself}
+use Rattle.mcy_top.proofs.Completing.{form_not_bad}
+use Rattle.mcy_top.proofs.Gaining.{gains_none, history_length}
+use Rattle.mcy_top.proofs.Living.{near_prefix}
+use Rattle.mcy_top.proofs.Once.{right_of}
+use Rattle.mcy_top.proofs.Prefixes.{prefix_trans}
+use Rattle.mcy_top.proofs.Working.{form_meta, within_same}
+
+-- The campaign's book, and its history.
+
+is_upgraded : (c : Prepared) (loaded : Book) → IsWellFormed c.campaign loaded → IsFirst loaded → Upgraded c loaded (history c.campaign loaded)
+is_upgraded c loaded form first = record { form = form; first = first; is = history_first c loaded first }
+
+-- it is the book itself, or the book after its upgrade
+near_history : (c : Prepared) (loaded : Book) → IsWellFormed c.campaign loaded → IsNear c loaded (history c.campaign loaded)
+near_history c loaded form = go (is_first loaded) refl
+  where
+    go : (first : Bool) → is_first loaded ≡ first → IsNear c loaded (history c.campaign loaded)
+    go true first = inr (inr (inr (is_upgraded c loaded form first)))
+    go false other = inl (history_else c loaded other)
+
+moved_prefix : (c : Prepared) (loaded : Book) → IsPlan c → IsWellFormed c.campaign loaded → IsPrefix loaded (history c.campaign loaded)
+moved_prefix c loaded plan form = near_prefix c loaded (history c.campaign loaded) plan (near_history c loaded form)
+
+-- of a book that is of no first format it is the book itself
+pub history_same : (c : Prepared) (loaded : Book) → (¬ IsFirst loaded) → history c.campaign loaded ≡ loaded
+history_same c loaded other = go (is_first loaded) refl
+  where
+    go : (first : Bool) → is_first loaded ≡ first → history c.campaign loaded ≡ loaded
+    go true first = absurd (other first)
+    go false is = history_else c loaded is
+
+-- it is the campaign's book with its rows
+pub history_book : (c : Prepared) (loaded : Book) → IsWellFormed c.campaign loaded → history c.campaign loaded ≡ book_of c (history c.campaign loaded).journal
+history_book c loaded form =
+    let meta : (history c.campaign loaded).meta ≡ c.campaign.meta = history_meta c.campaign loaded ∙ form.meta in
+    let mutations : (history c.campaign loaded).mutations ≡ c.campaign.mutations = history_mutations c.campaign loaded ∙ form.mutations in
+    λ i. record { meta = meta i; mutations = mutations i; journal = (history c.campaign loaded).journal }
+
+-- the history is its own
+still : (c : Prepared) (loaded : Book) → IsPlan c → IsWellFormed c.campaign loaded → history c.campaign (history c.campaign loaded) ≡ history c.campaign loaded
+still c loaded plan form = history_second c (history c.campaign loaded) (has_history c.campaign loaded (plan_fit c plan) form).second
+
+moved_good : (c : Prepared) (loaded : Book) → IsPlan c → IsWellFormed c.campaign loaded → IsBlankOrGood loaded → IsBlankOrGood (history c.campaign loaded)
+moved_good c loaded plan form was = inr (good_history c loaded plan form (right_of c loaded plan form was))
+
+-- A run from the history is one from the book.
+
+moved_answer : (stop retry : Option ℕ) (c : Prepared) (loaded sure : Book) (outcome : Outcome) → IsPlan c → IsWellFormed c.campaign loaded → Answers (Run stop retry) c (history c.campaign loaded) sure outcome → Answers (Run stop retry) c loaded sure outcome
+moved_answer stop retry c loaded sure Done plan form (takes, well, whole) =
+    (inr form, well, λ runs. record { wants_none = (whole runs).wants_none; finished = (whole runs).finished; final = λ was. (whole runs).final (moved_good c loaded plan form was) })
+moved_answer stop retry c loaded sure (Unfinished left) plan form (takes, well, s) =
+    (inr form, well, record { stop = s.stop; asked = s.asked; gained = s.gained ∙ ap (λ (n : ℕ). n + s.stop) (history_length c loaded); left_is = s.left_is; some = s.some })
+moved_answer stop retry c loaded sure NoCampaign plan form answer = absurd answer.1
+moved_answer stop retry c loaded sure AlreadyBegun plan form answer = absurd (let is : Run stop retry ≡ Init = answer.1 in cc)
+moved_answer stop retry c loaded sure (BookBad error) plan form answer = absurd (form_not_bad c (history c.campaign loaded) error plan (has_history c.campaign loaded (plan_fit c plan) form).form answer.0)
+moved_answer stop retry c loaded sure KeeperFault plan form answer = inr form
+moved_answer stop retry c loaded sure WriteFault plan form answer = inr form
+moved_answer stop retry c loaded sure Memory plan form answer = tt
+moved_answer stop retry c loaded sure outcome plan form answer = absurd answer
+
+moved_gains : (c : Prepared) (retry : Option ℕ) (loaded sure : Book) → IsPlan c → IsWellFormed c.campaign loaded → GainsWanted c (run_goal retry) (history c.campaign loaded) sure → GainsWanted c (run_goal retry) loaded sure
+moved_gains c retry loaded sure plan form gains = subst (λ (b : Book). (more : List Entry) → sure.journal ≡ b.journal ++ more → AreWanted c (run_goal retry) b.journal more) (still c loaded plan form) gains
+
+work_moved : (leaves : Option Book → Type 0) (written written' : Option (List ℕ)) (before now : ℕ) (stop retry : Option ℕ) (c : Prepared) (loaded : Book) (outcome : Outcome) → IsPlan c → IsWellFormed c.campaign loaded → IsFirst loaded
+    → Work leaves written written' before now (Run stop retry) c (history c.campaign loaded) outcome → Work leaves written written' before now (Run stop retry) c loaded outcome
+work_moved leaves written written' before now stop retry c loaded outcome plan form first w =
+    let same : length (history c.campaign loaded).journal ≡ length loaded.journal = history_length c loaded in
+    record {
+      sure = w.sure;
+      book = record {
+        grown = prefix_trans loaded (history c.campaign loaded) w.sure (moved_prefix c loaded plan form) w.book.grown;
+        within_one = w.book.within_one;
+        good = λ was. weaker_books leaves (λ b. IsGood b ⊎ (IsBlank b × IsBlank (history c.campaign loaded))) (λ b. IsGood b ⊎ (IsBlank b × IsBlank loaded)) good (w.book.good (moved_good c loaded plan form was));
+        reads = λ h. absurd h;
+        no_entry = λ h. absurd (h tt);
+        gained = subst (λ (n : ℕ). IsWithin stop n (length w.sure.journal)) same w.book.gained;
+        wanted_only = moved_gains c retry loaded w.sure plan form w.book.wanted_only;
+        stops = weaker_books leaves (λ b. IsWithin stop (length (history c.campaign loaded).journal) (length b.journal)) (λ b. IsWithin stop (length loaded.journal) (length b.journal)) (λ b within. subst (λ (n : ℕ). IsWithin stop n (length b.journal)) same within) w.book.stops;
+        exact = w.book.exact;
+        is_begun = w.book.is_begun;
+        second = w.book.second;
+        changes = history c.campaign loaded ∷ w.book.changes;
+        course = (inr (inr (is_upgraded c loaded form first)), w.book.course);
+        near = w.book.near;
+      };
+      steps = record { bound = omega (arith, w.steps.bound, same); equal = λ is. omega (arith, w.steps.equal is, same); stops = w.steps.stops; idle = λ h. absurd (h tt) };
+      text = w.text;
+      answer = moved_answer stop retry c loaded w.sure outcome plan form w.answer;
+    }
+  where
+    good : (other : Book) → IsGood other ⊎ (IsBlank other × IsBlank (history c.campaign loaded)) → IsGood other ⊎ (IsBlank other × IsBlank loaded)
+    good other (inl is) = inl is
+    good other (inr is) = absurd (form_meta c (history c.campaign loaded) plan (has_history c.campaign loaded (plan_fit c plan) form).form (ap (λ (b : Book). b.meta) is.1))
+
+pub work_resumed : (leaves : Option Book → Type 0) (written written' : Option (List ℕ)) (before now : ℕ) (stop retry : Option ℕ) (c : Prepared) (loaded : Book) (outcome : Outcome) → IsPlan c → IsWellFormed c.campaign loaded
+    → Work leaves written written' before now (Run stop retry) c (book_of c (history c.campaign loaded).journal) outcome → Work leaves written written' before now (Run stop retry) c loaded outcome
+work_resumed leaves written written' before now stop retry c loaded outcome plan form w = go (is_first loaded) refl (subst (λ (b : Book). Work leaves written written' before now (Run stop retry) c b outcome) (sym (history_book c loaded form)) w)
+  where
+    go : (first : Bool) → is_first loaded ≡ first → Work leaves written written' before now (Run stop retry) c (history c.campaign loaded) outcome → Work leaves written written' before now (Run stop retry) c loaded outcome
+    go true first w = work_moved leaves written written' before now stop retry c loaded outcome plan form first w
+    go false other w = subst (λ (b : Book). Work leaves written written' before now (Run stop retry) c b outcome) (history_else c loaded other) w
+
+-- The book with these bounds is its history.
+
+pub upgraded_is : (c : Prepared) (loaded : Book) (bounds : List ℕ) → IsFirst loaded → bounds ≡ bounds_of c.campaign loaded.journal → upgraded bounds loaded ≡ history c.campaign loaded
+upgraded_is c loaded bounds first are = ap (λ (b : List ℕ). upgraded b loaded) are ∙ sym (history_first c loaded first)
+
+-- What an upgrade leaves that failed.
+
+pub upgrade_left : (holds : Book → Type 0) (leaves leaves' : Option Book → Type 0) (result : Result (Unit {0}) KeepError) (c : Prepared) (loaded : Book) (bounds : List ℕ) → IsFirst loaded → bounds ≡ bounds_of c.campaign loaded.journal → Keeps holds leaves loaded
+    → (IsErrOf result KeepFault → (was : Book) → holds was → LeavesEither leaves' was (upgraded bounds was)) → (IsErrOf result KeepMemory → LeavesNothingNew leaves leaves') → OnErr result (LeavesEither leaves' loaded (history c.campaign loaded))
+upgrade_left holds leaves leaves' (Ok done) c loaded bounds first are kept either refused = tt
+upgrade_left holds leaves leaves' (Err KeepFault) c loaded bounds first are kept either refused =
+    subst (λ (next : Book). LeavesEither leaves' loaded next) (upgraded_is c loaded bounds first are) (either refl loaded kept.told)
+upgrade_left holds leaves leaves' (Err KeepMemory) c loaded bounds first are kept either refused = λ left is. inl (kept.crash.nothing_else left (refused refl left is))
+
+-- What one keeps that was done.
+
+pub upgrade_kept : (holds holds' : Book → Type 0) (leaves leaves' : Option Book → Type 0) (result : Result (Unit {0}) KeepError) (c : Prepared) (loaded : Book) (bounds : List ℕ) → IsFirst loaded → bounds ≡ bounds_of c.campaign loaded.journal → Keeps holds leaves loaded
+    → OnOk result ((was : Book) → holds was → Keeps holds' leaves' (upgraded bounds was)) → OnOk result (Keeps holds' leaves' (history c.campaign loaded))
+upgrade_kept holds holds' leaves leaves' (Ok done) c loaded bounds first are kept becomes = subst (λ (next : Book). Keeps holds' leaves' next) (upgraded_is c loaded bounds first are) (becomes loaded kept.told)
+upgrade_kept holds holds' leaves leaves' (Err error) c loaded bounds first are kept becomes = tt
+
+-- A run whose upgrade failed leaves the book or its history.
+
+grew_unmoved : (leaves : Option Book → Type 0) (stop retry : Option ℕ) (c : Prepared) (loaded : Book) (outcome : Outcome) → IsPlan c → IsWellFormed c.campaign loaded → ¬ Carried outcome
+    → LeavesEither leaves loaded (history c.campaign loaded) → Grew leaves (Run stop retry) c loaded loaded outcome
+grew_unmoved leaves stop retry c loaded outcome plan form not either =
+    let next : Book = history c.campaign loaded in
+    let same : length next.journal ≡ length loaded.journal = history_length c loaded in
+    record {
+      grown = (within_itself loaded).prefix;
+      within_one = either_books leaves (IsWithinOne loaded) loaded next either (within_itself loaded) (record { prefix = moved_prefix c loaded plan form; one = omega (arith, same) });
+      good = λ was. either_books leaves (λ b. IsGood b ⊎ (IsBlank b × IsBlank loaded)) loaded next either (here was) (inl (good_history c loaded plan form (right_of c loaded plan form was)));
+      reads = λ h. absurd h;
+      no_entry = λ h. absurd (h tt);
+      gained = within_same stop (length loaded.journal);
+      wanted_only = gains_none c (run_goal retry) loaded;
+      stops = either_books leaves (λ b. IsWithin stop (length loaded.journal) (length b.journal)) loaded next either (within_same stop (length loaded.journal)) (subst (λ (n : ℕ). IsWithin stop (length loaded.journal) n) (sym same) (within_same stop (length loaded.journal)));
+      exact = λ h. absurd (not h);
+      is_begun = λ h. absurd (not h);
+      second = λ h. absurd (not h);
+      changes = [];
+      course = refl;
+      near = either_books leaves (IsNear c loaded) loaded next either (inl refl) (near_history c loaded form);
+    }
+  where
+    here : IsBlankOrGood loaded → IsGood loaded ⊎ (IsBlank loaded × IsBlank loaded)
+    here (inl empty) = inr (empty, empty)
+    here (inr good) = inl good
+
+pub work_unmoved : (leaves : Option Book → Type 0) (written : Option (List ℕ)) (n : ℕ) (stop retry : Option ℕ) (c : Prepared) (loaded : Book) (e : KeepError) → IsPlan c → IsWellFormed c.campaign loaded
+    → LeavesEither leaves loaded (history c.campaign loaded) → Work leaves written written n n (Run stop retry) c loaded (failed_outcome e)
+work_unmoved leaves written n stop retry c loaded KeepFault plan form either = record {
+  sure = loaded;
+  book = grew_unmoved leaves stop retry c loaded KeeperFault plan form (λ h. h) either;
+  steps = record { bound = omega arith; equal = λ is. absurd is; stops = within_same stop n; idle = λ h. refl };
+  text = refl;
+  answer = inr form;
+}
+work_unmoved leaves written n stop retry c loaded KeepMemory plan form either = record {
+  sure = loaded;
+  book = grew_unmoved leaves stop retry c loaded Memory plan form (λ h. h) either;
+  steps = record { bound = omega arith; equal = λ is. absurd is; stops = within_same stop n; idle = λ h. refl };
+  text = refl;
+  answer = tt;
+}

@@ -1,0 +1,177 @@
+//! The work of `run`: a begun book is moved to the second format, where it is of the first, tests are run, and the status is written.
+ghost use Rattle.std.specs.Prelude.{◌≡◌, ◌≢◌, ◌≤◌, [], IsErrOf, IsTrue, OnErr, OnOk};
+ghost use Rattle.mcy_base.specs.Causes.{Rose};
+ghost use Rattle.mcy_keeper.specs.Books.{blank, Keeps, LeavesEither};
+ghost use Rattle.result_book.specs.Goals.{IsGoal};
+ghost use Rattle.result_book.specs.Rows.{history, IsWellFormed};
+ghost use Rattle.result_book.specs.States.{IsStateOf};
+ghost use Rattle.mcy_top.specs.Commands.{run_goal};
+ghost use Rattle.campaign_plan.specs.Campaigns.{IsPlan};
+ghost use Rattle.mcy_top.specs.Endings.{run_outcome, Ends};
+ghost use Rattle.campaign_run.specs.Running.{book_of};
+ghost use Rattle.mcy_top.specs.Life.{wanting, Work};
+
+use crate::work::{Task, failed};
+use campaign_outcomes::Outcome;
+use campaign_run::Tester;
+use command_words::Command;
+use mcy_base::Steps;
+use mcy_keeper::{Book, KeepError, Keeper};
+use mcy_outside::Sink;
+use result_book::{Goal, State, bounds_of};
+use std::sync::ledger::Ledger;
+
+/// What a run aims at: all mutations, and the pairs that were given up under less than the number of its option, if it has one.
+fn run_goal(retry: Option<u32>) -> Goal
+    ensures { result ≡ run_goal retry }
+{
+    Goal {
+        retry: retry.unwrap_or(0),
+        part: 0,
+        parts: 1,
+    }
+}
+
+impl Task<'_> {
+    /// How many mutations want a test under the goal.
+    fn wanting(&self, goal: Goal, state: &State) -> u32
+        requires plan { IsPlan self.now.prepared.now }
+        requires goal { IsGoal goal }
+        requires state { IsStateOf self.now.prepared.now.campaign state.now.rows state.now }
+        ensures { result ≡ wanting self.now.prepared.now goal state.now.rows }
+    {
+        let campaign = &self.prepared.campaign;
+        let mutations = campaign.mutations.as_slice().len() as u32;
+        let mut count = 0;
+        for mutation in 0..mutations {
+            if state.want(campaign, mutation, goal).is_some() {
+                count += 1;
+            }
+        }
+        count
+    }
+
+    /// How a run ends whose text is written: with so many mutations that want a test, or none.
+    fn run_outcome(&self, goal: Goal, state: &State) -> Outcome
+        requires plan { IsPlan self.now.prepared.now }
+        requires goal { IsGoal goal }
+        requires state { IsStateOf self.now.prepared.now.campaign state.now.rows state.now }
+        ensures { result ≡ run_outcome self.now.prepared.now goal state.now.rows }
+    {
+        match self.wanting(goal, state) {
+            0 => Outcome::Done,
+            left => Outcome::Unfinished(left),
+        }
+    }
+
+    /// Runs tests from this state of the begun book, which is of the second format, and writes the status.
+    fn run<K: Keeper, O: Sink, L: Ledger>(
+        &self,
+        stop_after: Option<u32>,
+        retry: Option<u32>,
+        state: State,
+        keeper: &mut K,
+        out: &mut O,
+        steps: &mut Steps<L>,
+    ) -> Outcome
+        requires settled { IsTrue (K.is_settled keeper.old) }
+        requires plan { IsPlan self.now.prepared.now }
+        requires goal { IsGoal (run_goal retry) }
+        requires state { IsStateOf self.now.prepared.now.campaign state.rows state }
+        requires kept { K.tells keeper.old → Keeps (K.holds keeper.old) (K.leaves keeper.old) (book_of self.now.prepared.now state.rows) }
+        ensures tells { K.tells keeper.new → K.tells keeper.old }
+        ensures work { K.tells keeper.new → Work (K.leaves keeper.new) (O.written out.old) (O.written out.new) steps.old steps.new (Command.Run stop_after retry) self.now.prepared.now (book_of self.now.prepared.now state.rows) result }
+        ensures ends { Ends (O.written out.old) (O.written out.new) (K.faults keeper.old) (K.faults keeper.new) (O.faults out.old) (O.faults out.new) result }
+    {
+        let tester = Tester {
+            alloc: self.alloc,
+            prepared: self.prepared,
+        };
+        let mut state = state;
+        let goal = run_goal(retry);
+        match tester.run_tests(goal, stop_after, &mut state, keeper, steps) {
+            Ok(()) => self
+                .report(&state, out)
+                .outcome(self.run_outcome(goal, &state)),
+            Err(error) => failed(error),
+        }
+    }
+
+    /// Begins the campaign in an empty book, runs tests, and writes the status.
+    pub(crate) fn begin_and_run<K: Keeper, O: Sink, L: Ledger>(
+        &self,
+        stop_after: Option<u32>,
+        retry: Option<u32>,
+        keeper: &mut K,
+        out: &mut O,
+        steps: &mut Steps<L>,
+    ) -> Outcome
+        requires settled { IsTrue (K.is_settled keeper.old) }
+        requires plan { IsPlan self.now.prepared.now }
+        requires goal { IsGoal (run_goal retry) }
+        requires kept { K.tells keeper.old → Keeps (K.holds keeper.old) (K.leaves keeper.old) blank }
+        ensures tells { K.tells keeper.new → K.tells keeper.old }
+        ensures work { K.tells keeper.new → Work (K.leaves keeper.new) (O.written out.old) (O.written out.new) steps.old steps.new (Command.Run stop_after retry) self.now.prepared.now blank result }
+        ensures ends { Ends (O.written out.old) (O.written out.new) (K.faults keeper.old) (K.faults keeper.new) (O.faults out.old) (O.faults out.new) result }
+    {
+        let Ok(state) = State::new(self.alloc, &self.prepared.campaign) else {
+            return Outcome::Memory;
+        };
+        match keeper.begin(
+            &self.prepared.campaign.meta,
+            &self.prepared.campaign.mutations,
+        ) {
+            Ok(()) => self.run(stop_after, retry, state, keeper, out, steps),
+            Err(error) => failed(error),
+        }
+    }
+
+    /// Moves the campaign's book to the second format, where it is of the first: the keeper then has its history.
+    fn upgrade<K: Keeper>(&self, loaded: &Book, keeper: &mut K) -> Result<(), KeepError>
+        requires settled { IsTrue (K.is_settled keeper.old) }
+        requires form { IsWellFormed self.now.prepared.now.campaign loaded.now }
+        requires kept { K.tells keeper.old → Keeps (K.holds keeper.old) (K.leaves keeper.old) loaded.now }
+        ensures tells { K.tells keeper.new → K.tells keeper.old }
+        ensures settled { OnOk result (IsTrue (K.is_settled keeper.new)) }
+        ensures kept { K.tells keeper.new → OnOk result (Keeps (K.holds keeper.new) (K.leaves keeper.new) (history self.now.prepared.now.campaign loaded.now)) }
+        ensures left { K.tells keeper.new → OnErr result (LeavesEither (K.leaves keeper.new) loaded.now (history self.now.prepared.now.campaign loaded.now)) }
+        ensures later { K.faults keeper.old ≤ K.faults keeper.new }
+        ensures cause { IsErrOf result KeepError.Fault → Rose (K.faults keeper.old) (K.faults keeper.new) }
+    {
+        if loaded.is_first() {
+            let bounds = bounds_of(self.alloc, &self.prepared.campaign, loaded)?;
+            keeper.upgrade(&bounds)
+        } else {
+            Ok(())
+        }
+    }
+
+    /// Goes on with a begun book: moves it to the second format, where it is of the first, runs tests, and writes the status.
+    pub(crate) fn resume<K: Keeper, O: Sink, L: Ledger>(
+        &self,
+        stop_after: Option<u32>,
+        retry: Option<u32>,
+        loaded: &Book,
+        keeper: &mut K,
+        out: &mut O,
+        steps: &mut Steps<L>,
+    ) -> Outcome
+        requires settled { IsTrue (K.is_settled keeper.old) }
+        requires plan { IsPlan self.now.prepared.now }
+        requires goal { IsGoal (run_goal retry) }
+        requires begun { loaded.now.meta ≢ [] }
+        requires kept { K.tells keeper.old → Keeps (K.holds keeper.old) (K.leaves keeper.old) loaded.now }
+        ensures tells { K.tells keeper.new → K.tells keeper.old }
+        ensures work { K.tells keeper.new → Work (K.leaves keeper.new) (O.written out.old) (O.written out.new) steps.old steps.new (Command.Run stop_after retry) self.now.prepared.now loaded.now result }
+        ensures ends { Ends (O.written out.old) (O.written out.new) (K.faults keeper.old) (K.faults keeper.new) (O.faults out.old) (O.faults out.new) result }
+    {
+        let state = match self.read_state(loaded) {
+            Ok(state) => state,
+            Err(refusal) => return refusal.into_outcome(),
+        };
+        match self.upgrade(loaded, keeper) {
+            Ok(()) => self.run(stop_after, retry, state, keeper, out, steps),
+            Err(error) => failed(error),
+        }
+    }
+}

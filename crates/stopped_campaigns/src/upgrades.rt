@@ -1,0 +1,98 @@
+//! Campaigns over a database of the first format that stop in the midst of the migration to the second.
+use crate::tests::{MOST_CALLS, Stopping, crashed, run, run_over};
+use keeper_sqlite::SqlKeeper;
+use mcy_keeper::KeepError;
+use mcy_top::Outcome;
+use sqlite::{Connection, Files, Options};
+use sqlite_disk::{Fuse, Memory};
+use std::alloc::Global;
+use std::process::Abort;
+use std::test::Fail;
+
+/// What makes a database of the first format of one of the second: that of an older program has these three tables alone.
+const TO_FIRST: &str =
+    "BEGIN; INSERT INTO journal SELECT seq, mutation, test, word, mark, tags FROM journal2; DROP TABLE journal2; UPDATE meta SET body = x'31' WHERE item = 0; COMMIT";
+
+/// The rows of the second format that have the project's limit.
+const BOUNDED: &str =
+    "SELECT count(*) FROM journal2 WHERE bound = 20000 AND (SELECT count(*) FROM journal) = 0 AND (SELECT body FROM meta WHERE item = 0) = x'32'";
+
+/// The files of a finished campaign of the first format, each of which stops after so many calls.
+fn first_files(
+    rt: &impl Abort,
+    alloc: Global,
+    log_calls: u64,
+    db_calls: u64,
+) -> Result<Files<Stopping>, Fail> {
+    let files = Files {
+        log: Memory::new(alloc),
+        db: Memory::new(alloc),
+    };
+    assert!(rt; files.may_be_used());
+    let Ok(connection) = Connection::open_files(alloc, files, Options::new(7)) else {
+        return Err(KeepError::Fault.into());
+    };
+    let mut keeper = SqlKeeper::adopt(alloc, Some(connection));
+    let (outcome, _) = run(alloc, &mut keeper)?;
+    assert!(rt; matches!(&outcome, Outcome::Done));
+    let Some(mut connection) = keeper.into_connection() else {
+        return Err(KeepError::Fault.into());
+    };
+    assert!(rt; connection.execute_batch(TO_FIRST).is_ok());
+    let left = connection.into_store().close();
+    Ok(Files {
+        log: Fuse::new(left.log, log_calls),
+        db: Fuse::new(left.db, db_calls),
+    })
+}
+
+/// How many rows of these files have the project's limit, in the second format.
+fn bounded_rows(rt: &impl Abort, alloc: Global, files: Files<Stopping>) -> Result<i64, Fail> {
+    assert!(rt; files.may_be_used());
+    let Ok(mut connection) = Connection::open_files(alloc, files, Options::new(7)) else {
+        return Err(KeepError::Fault.into());
+    };
+    match connection.query_row(BOUNDED, &[]) {
+        Ok(row) => Ok(row.get(0).unwrap_or(0)),
+        Err(_) => Ok(0),
+    }
+}
+
+/// Stops a run over a database of the first format after so many calls. After the crash the next run ends, with the text of the
+/// finished campaign and each row under its bound. Whether the first one did.
+fn stop_and_upgrade(
+    rt: &impl Abort,
+    alloc: Global,
+    log_calls: u64,
+    db_calls: u64,
+) -> Result<bool, Fail> {
+    let files = first_files(rt, alloc, log_calls, db_calls)?;
+    let (is_done, left) = run_over(rt, alloc, files)?;
+    let (goes_on, left) = run_over(rt, alloc, crashed(left))?;
+    assert!(rt; goes_on);
+    assert_eq!(rt; bounded_rows(rt, alloc, crashed(left))?, 3);
+    Ok(is_done)
+}
+
+#[test]
+fn a_migration_stopped_at_any_call_of_the_disk_leaves_the_old_book_or_the_new_one(
+    rt: HostRuntime,
+) -> Result<(), Fail> {
+    let alloc = rt.alloc();
+    for of_log in [true, false] {
+        let mut is_done = false;
+        for calls in 0..MOST_CALLS {
+            let (log_calls, db_calls) = if of_log {
+                (calls, u64::MAX)
+            } else {
+                (u64::MAX, calls)
+            };
+            is_done = stop_and_upgrade(&rt, alloc, log_calls, db_calls)?;
+            if is_done {
+                break;
+            }
+        }
+        assert!(rt; is_done);
+    }
+    Ok(())
+}
