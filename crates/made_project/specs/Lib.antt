@@ -1,0 +1,4 @@
+pub mod Lines
+pub mod Designs
+pub mod Projects
+pub mod Summaries
