@@ -1,0 +1,17 @@
+pub mod SlotLemmas
+pub mod Orderly
+pub mod Courses
+pub mod Again
+pub mod WaitLemmas
+pub mod Rooms
+pub mod Nexts
+pub mod Waited
+pub mod Endings
+pub mod KeptLemmas
+pub mod StageLemmas
+pub mod Begins
+pub mod Appends
+pub mod Taken
+pub mod Turning
+pub mod Starting
+pub mod Committing

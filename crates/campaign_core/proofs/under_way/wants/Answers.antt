@@ -1,0 +1,13 @@
+use Rattle.std.proofs.Common.{◌∙◌, ◌∷◌, ◌++◌, ap, List, Option, []}
+use Rattle.result_book.specs.declared.goal.Want.{Want}
+use Rattle.result_book.specs.Goals.{wanted}
+use Rattle.result_book.specs.Scripts.{each_from}
+use Rattle.campaign_core.proofs.Begins.{each_next}
+use Rattle.campaign_core.proofs.under_way.wants.Goals as goal
+
+pub loop-mutation-preserved : goal.loop-mutation-preserved
+loop-mutation-preserved c =
+    c.in_ok-push.ensures.items
+    ∙ ap (λ (items : List (Option Want)). items ++ c.want.result ∷ []) c.loop-mutation.invariant
+    ∙ ap (λ (w : Option Want). each_from (λ m. wanted c.args.campaign.now c.args.state.now.rows m c.args.goal) 0 c.loop-mutation.mutation ++ w ∷ []) c.want.ensures
+    ∙ each_next (λ m. wanted c.args.campaign.now c.args.state.now.rows m c.args.goal) c.loop-mutation.mutation

@@ -1,0 +1,7 @@
+use Rattle.std.proofs.Common.{◌≡◌}
+use Rattle.result_book.specs.Goals.{wanted}
+use Rattle.result_book.specs.Scripts.{each_from}
+use Rattle.campaign_core.proofs.under_way.wants.Given as goal
+
+abbrev pub invariant-loop-mutation : goal.invariant-loop-mutation
+invariant-loop-mutation l = l.wants.items ≡ each_from (λ m. wanted l.campaign l.state.rows m l.goal) 0 l.mutation

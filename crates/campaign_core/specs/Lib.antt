@@ -1,0 +1,13 @@
+pub mod Testers
+pub mod Refusals
+pub mod Turns
+pub mod Events
+pub mod Orders
+pub mod UnderWay
+pub mod Keeping
+pub mod Laws
+pub mod Waits
+pub mod Seats
+pub mod Stages
+pub mod Kept
+pub mod Ahead
