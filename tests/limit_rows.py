@@ -45,7 +45,8 @@ def run(differ, test="same", last="UNKNOWN", items=3):
     count, fails = len(differ), sum(differ)
     lines = [f"Mutations: {count}", f"Finished: {count}", f"Test {test}: PASS {count - fails} FAIL {fails} {last} 0"]
     lines += [f"Tag CHANGED: {fails}", f"Tag NOCHANGE: {count - fails}", "Asserts: 0", "Unexpected: 0"]
-    rows = [f"{n} {n} 0 {int(fails)} 1 {1 if fails else 2} 20000" for n, fails in enumerate(differ)]
+    bound = 20000 if last == "UNKNOWN" else 0
+    rows = [f"{n} {n} 0 {int(fails)} 1 {1 if fails else 2} {bound}" for n, fails in enumerate(differ)]
     rows = rows if len(rows) <= 100 else [f"{len(rows)} rows"]
     return told(lines, [f"{items} items, {count} mutations", *rows])
 
