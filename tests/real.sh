@@ -415,7 +415,7 @@ if [ "$has_shell" = 1 ]; then
         old_folder
         killed_call run
         case $(sqlite3 mcy.db 'SELECT body FROM meta WHERE item = 0') in
-            1) kept=$(rows journal) && [ "$(sqlite3 mcy.db '.tables' | grep -c journal2)" = 0 -o "$(rows)" = "" ] ;;
+            1) kept=$(rows journal) && { [ "$(sqlite3 mcy.db '.tables' | grep -c journal2)" = 0 ] || [ -z "$(rows)" ]; } ;;
             2) kept=$(rows | head -n 3) && [ "$(rows journal)" = "" ] ;;
             *) kept=none ;;
         esac && [ "$kept" = "$older" ] && chmod 666 mcy.db* && [ "$("$mcy" run 2>"$room/lines")" = "$finished" ] && [ "$(rows)" = "$wanted" ] && whole=$((whole + 1))
