@@ -268,6 +268,9 @@ CASES = (
 
 
 def main():
+    # What a background job ignores, the calls of the cases would ignore too.
+    for sent in (signal.SIGINT, signal.SIGHUP):
+        signal.signal(sent, signal.SIG_DFL)
     failed = 0
     for case in CASES:
         with tempfile.TemporaryDirectory() as room:
