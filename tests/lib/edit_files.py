@@ -10,7 +10,8 @@ IMPL = re.compile(r"^(?:unsafe )?impl(?:<.*?>)? (?!<)(.*?) \{", re.M)
 
 @dataclasses.dataclass(frozen=True)
 class Function:
-    """A function of a crate: its file, and its path as the prover prints it behind the crate's name."""
+    """A function of a crate: its file, and the end of its path as the prover prints it: of a method the type and its name, since the module is
+    that of the type, and of another function all behind the crate's name."""
 
     file: str
     path: str
@@ -19,10 +20,13 @@ class Function:
     def module(self):
         return module_of(self.file)
 
-    @property
-    def proof(self):
-        """The folder with its proof."""
-        return f"proofs/{self.path.replace('::', '/')}/"
+    def is_told(self, line):
+        """Whether a line of the prover says what the function comes to."""
+        return re.match(rf"fn \w+(::.*)?::{re.escape(self.path)}: ", line) is not None
+
+    def has_proof_in(self, file):
+        """Whether a file is one of its proof."""
+        return re.match(rf"proofs/(.*/)?{re.escape(self.path.replace('::', '/'))}/\w+\.antt", file) is not None
 
     def lines_in(self, text):
         """The numbers of its lines in a text of its file."""
@@ -72,7 +76,7 @@ def function_at(text, place, file):
     owner = owner_at(text, heads[-1].start()) if heads[-1][1] else ""
     if owner is None:
         return None
-    return Function(file, "::".join(it for it in (module_of(file), owner, heads[-1][2]) if it))
+    return Function(file, "::".join(it for it in (owner or module_of(file), heads[-1][2]) if it))
 
 
 def read_edit(folder, file):

@@ -34,7 +34,7 @@ NAMES, LIMIT, ANSWER, PASSED, BAD = "names alone", "a limit", "AN OLD ANSWER ALO
 REFUSED = SHOWN, OPEN, PROOF, CRATE
 KINDS = *REFUSED, NAMES, LIMIT
 
-IS_OPEN = "it is not proved that"
+IS_OPEN = re.compile(r"it is not proved that|`(search|grind)` (found no proof|gave up)")
 IS_FALSE = "at which this goal is false"
 OF_NAMES = re.compile(r"has no field|is not in scope|has no `|was not admitted|is no name")
 # A line with a place, behind which the prover's further lines on it come.
@@ -120,9 +120,9 @@ def told_of(function, texts, lines):
     own, told = function.lines_in(texts[function.file]), []
     for line in lines:
         found = TOLD.match(line)
-        if found and IS_OPEN in found[3] and found[1] == function.file and int(found[2]) in own:
+        if found and IS_OPEN.search(found[3]) and found[1] == function.file and int(found[2]) in own:
             told.append((True, line))
-        elif found and found[1].startswith(function.proof) and "error" in found[3]:
+        elif found and function.has_proof_in(found[1]) and "error" in found[3]:
             told.append((False, line))
         elif told and not found and not re.match(r"(fn|struct|enum|note:|help:) ?", line):
             told[-1] = (told[-1][0], f"{told[-1][1]}\n{line}")
@@ -131,7 +131,7 @@ def told_of(function, texts, lines):
 
 def told_at_all(lines):
     """What the prover tells of any goal and proof."""
-    return [(IS_OPEN in it, it) for it in lines if TOLD.match(it) and (IS_OPEN in it or ": error" in it)]
+    return [(bool(IS_OPEN.search(it)), it) for it in lines if TOLD.match(it) and (IS_OPEN.search(it) or ": error" in it)]
 
 
 def kind_of(told):
@@ -149,9 +149,9 @@ def kind_of(told):
     return None
 
 
-def verdict_of(crate, function, texts, lines, is_alone):
+def verdict_of(function, texts, lines, is_alone):
     """What a check came to for a function that an edit changes, and the line that says so; or nothing where it says nothing of it."""
-    status = next((it for it in lines if it.startswith(f"fn {crate.name}::{function.path}: ")), "")
+    status = next((it for it in lines if function.is_told(it)), "")
     if not status or re.search(r": (proved|no holes)$", status):
         return None
     told = told_of(function, texts, lines)
@@ -166,7 +166,7 @@ def verdict(crate, edit, edits, status, lines):
     if status not in (1, 3):
         return None
     texts = edit_files.texts_with(crate.folder, edits)
-    found = [verdict_of(crate, it, texts, lines, len(edits) == 1) for it in edit.functions if it]
+    found = [verdict_of(it, texts, lines, len(edits) == 1) for it in edit.functions if it]
     return min((it for it in found if it), key=lambda it: KINDS.index(it[0]), default=None)
 
 
@@ -183,8 +183,9 @@ def try_whole(crate, edit):
 
 def try_without(crate, edit, lines):
     """Tries an edit once more without the answers that no longer fit: what the goals come to then."""
-    told = [TOLD.match(it) for it in lines if "error" in it and any(function.proof in it for function in edit.functions)]
-    places = {(it[1], int(it[2])) for it in told if it and it[1].endswith("/Answers.antt")}
+    told = [TOLD.match(it) for it in lines if ": error" in it]
+    own = [it for it in told if it and any(function and function.has_proof_in(it[1]) for function in edit.functions)]
+    places = {(it[1], int(it[2])) for it in own if it[1].endswith("/Answers.antt")}
     if not places:
         return None
     status, lines = crate.check([edit], paths_of([edit]), places)
