@@ -108,7 +108,7 @@ refuses() {
     case_is $? "status $status of 'mcy $*' touches '$made', and not: $touched"
 }
 
-usage='mcy: usage: mcy init | run [--stop-after N] [--retry N] | list | status | source'
+usage='mcy: usage: mcy init | run [-j N] [--stop-after N] [--retry N] | list | status | source'
 finished='Mutations: 9
 Finished: 9
 Test same: PASS 0 FAIL 9 UNKNOWN 0
@@ -140,6 +140,28 @@ Tag NOCHANGE: 0
 Asserts: 0
 Unexpected: 0'
 
+# A demo is shown in an empty folder, twice with one text, and leaves it empty.
+demonstrated='Demo: 7 20
+Sites: 1020
+Mutations: 100
+Finished: 100
+Test test_sim: PASS 100 FAIL 0 HANG 0
+Test test_eq: PASS 68 FAIL 32 UNKNOWN 0
+Tag COVERED: 0
+Tag UNCOVERED: 32
+Tag NOCHANGE: 68
+Tag EQGAP: 0
+Tag GIVENUP: 0
+Asserts: 0
+Unexpected: 0'
+mkdir "$room/here" && cd "$room/here" && chmod 777 . || exit 1
+ends 0 "$demonstrated" "" demo 7 20
+ends 0 "$demonstrated" "" demo 7 20
+refuses 2 "$usage" "" demo 7 0
+refuses 2 "$usage" "" demo 7 401
+[ -z "$(ls -A)" ]
+case_is $? "a demo leaves no file: $(ls -A | tr '\n' ' ')"
+
 # Each status that the program has, as README.md lists them, in their order.
 new_folder
 ends 0 "$(printf 'Sites: 9\nMutations: 9')" "" init
@@ -157,6 +179,8 @@ new_folder
 refuses 2 "$usage" ""
 refuses 2 "$usage" "" source g.v
 refuses 2 "$usage" "" run --stop-after 0
+refuses 2 "$usage" "" run -j0
+refuses 2 "$usage" "" run -j 1 -j 2
 refuses 2 "$usage" "" $'st\xe9tus'
 {
     echo "module g(output y$(printf ', input [127:0] a%s' $(seq 17)));"
@@ -222,13 +246,14 @@ if [ "$has_shell" = 1 ]; then
     case_is $? "item 0 of meta is the format's number"
 fi
 
-# One call, killed after a random time of up to 25 milliseconds unless it ends before. It has let go of its files when
-# this returns.
+# One call, killed after a random time, of up to 25 milliseconds where nothing else is said, unless it ends before. It has let go of its
+# files when this returns.
 kills=0
+most=250
 killed_call() {
     "$mcy" "$@" >/dev/null 2>&1 &
     pid=$!
-    sleep "0.0$(printf '%03d' $((RANDOM % 250)))"
+    sleep "$(printf '0.%04d' $((RANDOM % most)))"
     kill -KILL "$pid"
     wait "$pid"
     [ $? = 137 ] && kills=$((kills + 1))
@@ -239,14 +264,16 @@ books=0
 for _ in $(seq "$campaigns"); do
     new_folder
     for _ in 1 2 3 4 5 6; do
+        slots=-j$((RANDOM % 64 + 1))
         case $((RANDOM % 4)) in
-            0) killed_call run ;;
-            1) killed_call run --stop-after $((RANDOM % 3 + 1)) ;;
+            0) killed_call run "$slots" ;;
+            1) killed_call run --stop-after $((RANDOM % 3 + 1)) "$slots" ;;
             2) killed_call init ;;
             3) killed_call status ;;
         esac
     done
-    text=$("$mcy" run 2>"$room/lines")
+    slots=-j$((RANDOM % 64 + 1))
+    text=$("$mcy" run "$slots" 2>"$room/lines")
     [ "$text" = "$finished" ] && texts=$((texts + 1))
     if [ "$has_shell" = 1 ]; then
         [ "$(sqlite3 mcy.db 'PRAGMA integrity_check')" = ok ] && [ "$(rows)" = "$wanted" ] && books=$((books + 1))
@@ -373,7 +400,7 @@ if [ "$has_shell" = 1 ]; then
     times=$((campaigns < 50 ? campaigns : 50))
     for _ in $(seq "$times"); do
         here_again
-        killed_call run --retry 9
+        killed_call run --retry 9 "-j$((RANDOM % 64 + 1))"
         killed_call run --retry 9
         [ "$("$mcy" run --retry 9 2>"$room/lines")" = "$settled" ] && [ "$(sqlite3 mcy.db 'PRAGMA integrity_check')" = ok ] && [ "$(bounds)" = "$settled_bounds" ] && asked=$((asked + 1))
     done
@@ -413,7 +440,7 @@ if [ "$has_shell" = 1 ]; then
     times=$((campaigns < 50 ? campaigns : 50))
     for _ in $(seq "$times"); do
         old_folder
-        killed_call run
+        killed_call run "-j$((RANDOM % 64 + 1))"
         case $(sqlite3 mcy.db 'SELECT body FROM meta WHERE item = 0') in
             1) kept=$(rows journal) && { [ "$(sqlite3 mcy.db '.tables' | grep -c journal2)" = 0 ] || [ -z "$(rows)" ]; } ;;
             2) kept=$(rows | head -n 3) && [ "$(rows journal)" = "" ] ;;
@@ -446,6 +473,51 @@ for name in serial arbiter processor; do
     "${as_user[@]}" timeout 60 "$mcy" run >"$room/text" 2>"$room/lines" </dev/null && [ "$(sed -n 2p "$room/text")" = "Finished: 4" ]
     case_is $? "the campaign of $name is finished: $(cat "$room/lines")"
 done
+
+# A campaign whose tests take turns, a bench and then an equality for what that does not notice. It has one text and one word for each test,
+# whatever the numbers of slots are, also where its calls are stopped and killed; the order of its rows goes by the slots.
+slots_folder() {
+    rm -rf "$room/here" && cp -r "$root/examples/arbiter" "$room/here" && cd "$room/here" && chmod -R go+rX . && chmod 777 . || exit 1
+    sed 's/^size .*/size 60/' "$root/examples/arbiter/config.mcy" >config.mcy
+}
+slots_folder
+one_text=$("$mcy" run)
+[ "$(sed -n 2p <<<"$one_text")" = "Finished: 60" ]
+case_is $? "a campaign of 60 mutations is finished: $one_text"
+for slots in -j3 -j64; do
+    slots_folder
+    ends 0 "$one_text" "" run "$slots"
+    ends 0 "$one_text" "" run -j 1 --stop-after 1
+done
+if [ "$has_shell" = 1 ]; then
+    row_words() {
+        sqlite3 -separator ' ' mcy.db "SELECT mutation, test, word, mark, tags, bound FROM journal2 ORDER BY mutation, test"
+    }
+    slots_folder
+    "$mcy" run >/dev/null 2>"$room/lines"
+    one_words=$(row_words)
+    row_count=$(wc -l <<<"$one_words")
+    kept=0
+    kills=0
+    most=1000
+    times=$((campaigns < 20 ? campaigns : 20))
+    for _ in $(seq "$times"); do
+        slots_folder
+        for _ in 1 2 3 4; do
+            if [ $((RANDOM % 2)) = 0 ]; then
+                killed_call run "-j$((RANDOM % 64 + 1))"
+            else
+                killed_call run -j "$((RANDOM % 4 + 1))" --stop-after $((RANDOM % 20 + 1))
+            fi
+        done
+        slots=$((RANDOM % 64 + 1))
+        [ "$("$mcy" run -j=$slots 2>"$room/lines")" = "$one_text" ] && [ "$(row_words)" = "$one_words" ] && [ "$(sqlite3 mcy.db 'PRAGMA integrity_check')" = ok ] &&
+            [ "$(sqlite3 mcy.db 'SELECT count(*), max(seq) + 1 FROM journal2')" = "$row_count|$row_count" ] && kept=$((kept + 1))
+    done
+    most=250
+    [ "$kept" = "$times" ]
+    case_is $? "each of $times campaigns in slots that were killed $kills times ends with one text and the same words ($kept)"
+fi
 
 # Databases that are none, and one whose tables have no CHECK, which is taken.
 tables='CREATE TABLE meta(item INTEGER PRIMARY KEY, body BLOB NOT NULL) STRICT;

@@ -184,22 +184,9 @@ def retry_cases():
     yield "# Such a row is taken.", [*OR.new(), "call init", f"row {up}", f"row {good}", "call list"], [*begun, *OR.called("list", text, [up, good])]
 
 
-def command_cases():
-    numbers = {"1": 1, "9": 9, "99": 99, "110": 110, "0110": 110, "990": 990, "12000": 12000, "99000": 99000, "100000": 100000}
-    rows = {f"run --retry{gap}{word}": f"Some(Run {{ stop_after: None, retry: Some({number}) }})" for word, number in numbers.items() for gap in " ="}
-    for words in ("run --stop-after 1 --retry 9", "run --retry 9 --stop-after 1", "run --retry=9 --stop-after=1", "run --stop-after=1 --retry 9"):
-        rows[words] = "Some(Run { stop_after: Some(1), retry: Some(9) })"
-    for words in ("0", "101", "111", "1001", "12300", "100001", "110000", "1000000", "4294967306", "''", "+9", "-9", "9x", "00000000009"):
-        rows[f"run --retry {words}"] = "None"
-    for words in ("run --retry", "run --retry=", "run --retry 9 --retry 9", "run --retry 9 --retry=10", "run --stop-after 1 --stop-after 2 --retry 9", "--retry 9 run", "init --retry 9",
-                  "list --retry 9", "status --retry=9", "source --retry 9", "run --retry 9 9", "run --stop-after --retry 9"):
-        rows[words] = "None"
-    yield "# A retry takes a number from 1 to 100,000 whose digits behind the first two are 0, at most once.", [f"command {words}" for words in rows], [f"{words}: {said}" for words, said in rows.items()]
-
-
 def main():
     given, told = [], []
-    for head, lines, answers in [*format_cases(), *retry_cases(), *read_cases(), *command_cases()]:
+    for head, lines, answers in [*format_cases(), *retry_cases(), *read_cases()]:
         given += [head, *lines]
         told += [head, *answers]
     tables.save_part("mcy_cases", given, told)

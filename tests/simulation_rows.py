@@ -55,9 +55,9 @@ class Both:
     def __init__(self, cycles):
         sites = list(all_sites())
         words = pcg.words(7, len(sites))
-        taken = [sites[i] for i in sorted(sorted(range(len(sites)), key=lambda i: (words[i], i))[:20])]
+        self.taken = [sites[i] for i in sorted(sorted(range(len(sites)), key=lambda i: (words[i], i))[:20])]
         self.equal = counter()
-        self.bench = [bench_word(site, cycles) for site in taken]
+        self.bench = [bench_word(site, cycles) for site in self.taken]
         self.tags = []
         for bench, equal in zip(self.bench, self.equal.words):
             name = {(True, False): "UNCOVERED", (False, False): "COVERED", (True, True): "NOCHANGE"}.get((bench == 0, equal == 0), "EQGAP")

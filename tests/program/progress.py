@@ -4,7 +4,8 @@
     python3 tests/program/progress.py PROGRAM
 
 Runs a campaign with standard error as a terminal: lines come, ten times a second at most, each with numbers that fit
-the campaign, and the last one is cleared. Standard output is the same as where standard error is a pipe, to which nothing is written.
+the campaign, and the last one is cleared; so with one test under way and with eight. Standard output is the same as where standard error
+is a pipe, to which nothing is written.
 Tests that are UNKNOWN are told behind the text of `run` and `status` on a terminal, and only there. Calls that are refused for what the
 database holds write a second line there.
 Ends with the line 'progress: N lines', or tells what is wrong.
@@ -164,6 +165,10 @@ def main():
         again = on_terminal(program, ["run"], here)
         assert (*again[:2], UNKNOWN.sub(b"", again[2])) == (0, text, b""), ("a finished campaign is told of", again)
         assert on_terminal(program, ["list"], here)[2] == b"", "a list is told of"
+    with folder() as here:
+        slots = on_terminal(program, ["run", "-j8"], here)
+        assert slots[:2] == (0, text), ("tests in slots have another text", slots)
+        count += check_lines(UNKNOWN.sub(b"", slots[2]), slots[3])
     check_given_up(program)
     with folder() as here:
         check_cut_off(program, here)

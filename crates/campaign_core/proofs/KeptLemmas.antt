@@ -64,7 +64,7 @@ module _ {J : Type 0} (has has' : J → Type 0) (asked : J → Asked) (word : J 
 
 -- ---- the counts
 
-busy_most : (slots : List (Option Busy)) → busy_count slots ≤ length slots
+pub busy_most : (slots : List (Option Busy)) → busy_count slots ≤ length slots
 busy_most [] = omega arith
 busy_most (x ∷ slots) = omega (arith, count_first x slots, one (is_some x), busy_most slots)
   where

@@ -12,6 +12,10 @@ pub mod StageLemmas
 pub mod Begins
 pub mod Appends
 pub mod Taken
+pub mod RunCounts
+pub mod RunBooks
+pub mod Runs
+pub mod RunEnds
 pub mod Turning
 pub mod Starting
 pub mod Committing

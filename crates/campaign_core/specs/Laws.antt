@@ -1,9 +1,10 @@
 -- What follows for every list of allowed events.
-use Rattle.std.specs.Prelude.{◌≡◌, ◌⊎◌, ℕ, ◌+◌, List, [], ◌∷◌, ◌++◌, length}
+use Rattle.std.specs.Prelude.{◌≡◌, ◌⊎◌, ℕ, ◌+◌, List, [], ◌∷◌, ◌++◌, length, Some}
 use Rattle.std.specs.List.{All}
 use Rattle.mcy_keeper.specs.declared.book.Entry.{Entry}
 use Rattle.campaign_core.specs.declared.event.Event.{Event}
 use Rattle.campaign_core.specs.Events.{IsAllowed, IsUnchanged, Takes}
+use Rattle.campaign_core.specs.Orders.{next_event}
 use Rattle.campaign_core.specs.Testers.{Asked, GivesTheSame}
 use Rattle.campaign_core.specs.Turns.{Turns}
 use Rattle.campaign_core.specs.UnderWay.{IsUnderWay}
@@ -38,3 +39,9 @@ pub record Kept {T : Type 0} (gives : T → Asked → ℕ → Type 0) (start end
   pub rows : end.state.rows ≡ start.state.rows ++ more
   pub given : AreGiven (gives start.tester) more
   pub counted : end.acknowledged ≡ start.acknowledged + length more
+
+-- The events of a program: each is the one that comes next. The tester's tests may give the same words throughout, after as many turns.
+abbrev pub Program : {T : Type 0} → (T → Asked → ℕ → Type 0) → (T → Asked → ℕ) → Turns T → List Event → Turns T → Type 0
+Program {T} gives most start [] end = end ≡ start
+Program {T} gives most start (e ∷ more) end =
+    (mid : Turns T) × (next_event start ≡ Some e) × GivesTheSame (gives start.tester) (gives mid.tester) × ((asked : Asked) → most mid.tester asked ≡ most start.tester asked) × Takes (gives start.tester) (most start.tester) start e mid × Program gives most mid more end

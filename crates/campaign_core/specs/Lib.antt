@@ -11,3 +11,4 @@ pub mod Seats
 pub mod Stages
 pub mod Kept
 pub mod Ahead
+pub mod Running

@@ -80,7 +80,7 @@ book_line NoMemory = told_line (codes "no memory")
 abbrev pub fault_text : Outcome → List ℕ
 fault_text Done = []
 fault_text (Unfinished left) = []
-fault_text Usage = told_line (codes "usage: mcy init | run [--stop-after N] [--retry N] | list | status | source")
+fault_text Usage = told_line (codes "usage: mcy init | run [-j N] [--stop-after N] [--retry N] | list | status | source")
 fault_text (ProjectBad error) = project_line error
 fault_text (ScriptBad error) = script_line error
 fault_text (SourceBad error) = source_line error

@@ -20,7 +20,7 @@ pub fn fault_line(alloc: Global, outcome: &Outcome) -> Result<Bytes, AllocError>
         Outcome::Done | Outcome::Unfinished(_) => Ok(String::new(alloc)),
         Outcome::Usage => told(
             alloc,
-            "usage: mcy init | run [--stop-after N] [--retry N] | list | status | source",
+            "usage: mcy init | run [-j N] [--stop-after N] [--retry N] | list | status | source",
         ),
         Outcome::ProjectBad(error) => project_line(alloc, *error),
         Outcome::ScriptBad(error) => script_line(alloc, *error),

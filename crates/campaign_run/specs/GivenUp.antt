@@ -1,4 +1,4 @@
--- The words of equivalence tests, and when one may be given up: the clauses of the pair have an attempt for the limit of the test.
+-- When an equivalence test may be given up: the clauses of the pair have an attempt for the limit of the test.
 use Rattle.std.specs.Prelude.{◌≡◌, ℕ, List, ℤ}
 use Rattle.netlist_core.specs.declared.raw.RawNetlist.{RawNetlist}
 use Rattle.netlist_core.specs.Checked.{Plan, IsSound, free_bits}
@@ -6,16 +6,6 @@ use Rattle.lrat_checker.specs.LegalLogs.{IsAttempt}
 use Rattle.mutation_sites.specs.declared.site.Site.{Site}
 use Rattle.mutation_sites.specs.Mutants.{HasEachRun, HasOneMore, HasSameNames, HasSameShapes, RunsAlike}
 use Rattle.pair_gates.specs.Copies.{pair_clauses}
-use Rattle.equiv_test.specs.declared.verdict.EqVerdict.{EqVerdict}
-use Rattle.equiv_test.specs.declared.verdict.EqVerdict.TheVariants.{NoChange, Change, Unknown}
-use Rattle.result_book.specs.declared.script.TestWord.TheVariants.{Pass, Fail, Unknown as Open}
-use Rattle.result_book.specs.Scripts.{word_code}
-
--- the word of a verdict of the equivalence test
-abbrev pub told_word : EqVerdict → ℕ
-told_word (NoChange refutation) = word_code Pass
-told_word (Change difference) = word_code Fail
-told_word (Unknown attempt) = word_code Open
 
 -- The other netlist is the mutant of this one at a site: it has its runs, and the same cells, ports and registers but for the cell
 -- that drives the mutated bit.

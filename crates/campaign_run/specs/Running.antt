@@ -46,23 +46,15 @@ pub record Ran (c : Prepared) (goal : Goal) (start end : List Entry) : Type 0 wh
 abbrev pub LeavesNext : (Option Book → Type 0) → Prepared → Book → Type 0
 LeavesNext leaves c sure = LeavesBooks leaves (λ other. (other ≡ sure) ⊎ ((e : Entry) × IsNextRow c sure e × (other ≡ with_entry sure e)))
 
--- what a run leaves that want of memory or an error of the keeper ended: the row that may be left is within the rows that
--- were asked for
-pub record Broke (leaves : Option Book → Type 0) (c : Prepared) (goal : Goal) (stop : Option ℕ) (start : List Entry) (before now : ℕ) : Type 0 where
+-- What a run with so many slots leaves that want of memory or an error of the keeper ended: the row that may be left is within the rows
+-- that were asked for, and each test that was started has its row or is in a slot.
+pub record Broke (leaves : Option Book → Type 0) (c : Prepared) (goal : Goal) (slots : ℕ) (stop : Option ℕ) (start : List Entry) (before now : ℕ) : Type 0 where
   pub rows : List Entry
   pub ran : Ran c goal start rows
   pub left : LeavesNext leaves c (book_of c rows)
   pub within : IsWithin stop (length start) (length rows + 1)
-  pub steps : now + length start ≤ before + length rows + 1
-
--- one row of the mutation was added, of this test under this bound
-pub record AddsRow (c : Prepared) (old new : List Entry) (m t bound : ℕ) : Type 0 where
-  pub row : Entry
-  pub next : IsNextRow c (book_of c old) row
-  pub mutation : row.mutation ≡ m
-  pub test : row.test ≡ t
-  pub bound_is : row.bound ≡ bound
-  pub is : new ≡ old ++ row ∷ []
+  pub least : before + length rows ≤ now + length start
+  pub steps : now + length start ≤ before + length rows + slots
 
 -- as many rows were gained as were asked for
 abbrev pub Reached : Option ℕ → List Entry → List Entry → Type 0

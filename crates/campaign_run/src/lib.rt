@@ -1,8 +1,3 @@
-//! The run of a campaign over its keeper: each test that the script asks, on its mutant, and its row in the book.
+//! What the rows of a campaign's book say: which words are right, how a book grows by a run, and what a crash may leave of it. The
+//! crate has definitions and lemmas alone.
 #![tactic(auto)]
-
-mod equality;
-mod running;
-mod simulation;
-
-pub use running::Tester;

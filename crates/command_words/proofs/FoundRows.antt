@@ -6,7 +6,7 @@ use Rattle.std.proofs.lemmas.List.{append-nil}
 use Rattle.clap.specs.Walk.{Row, Text, at_row, first_of, has_row, more_values, with_values, without}
 use Rattle.clap.specs.declared.parser.matches.ValueSource.TheVariants.{CommandLine}
 use Rattle.clap.specs.declared.builder.value_parser.Reading.TheVariants.{AsWritten}
-use Rattle.command_words.proofs.OptionWords.{Flag, Stop, Retry, name_of}
+use Rattle.command_words.proofs.OptionWords.{Flag, Jobs, Stop, Retry, name_of}
 
 -- the row of an option with this value
 abbrev pub row : Flag → Text → Row
@@ -30,22 +30,25 @@ first_value f value rows none =
     let same : without (name_of f) rows ≡ rows = absent (name_of f) (λ r. []) [] rows none ∙ append-nil rows in
     ap (with_values (name_of f) AsWritten CommandLine (value ∷ [])) same ∙ absent (name_of f) (more_values CommandLine (value ∷ [])) (row f value ∷ []) rows none
 
--- ---- the values of both options
+-- ---- the values of the options
 
 pub record Values : Type 0 where
+  pub jobs : Option Text
   pub stop : Option Text
   pub retry : Option Text
 
 abbrev pub value_at : Flag → Values → Option Text
+value_at Jobs values = values.jobs
 value_at Stop values = values.stop
 value_at Retry values = values.retry
 
 abbrev pub with_value : Flag → Text → Values → Values
+with_value Jobs word values = record values { jobs = Some word }
 with_value Stop word values = record values { stop = Some word }
 with_value Retry word values = record values { retry = Some word }
 
 abbrev pub no_values : Values
-no_values = record { stop = None; retry = None }
+no_values = record { jobs = None; stop = None; retry = None }
 
 -- these rows have these values
 pub record AreRows (rows : List Row) (values : Values) : Type 0 where
@@ -56,10 +59,12 @@ pub no_rows : AreRows [] no_values
 no_rows = record { found = found; has = has }
   where
     found : (f : Flag) → first_of (name_of f) [] ≡ value_at f no_values
+    found Jobs = refl
     found Stop = refl
     found Retry = refl
 
     has : (f : Flag) → has_row (name_of f) [] ≡ is_some (value_at f no_values)
+    has Jobs = refl
     has Stop = refl
     has Retry = refl
 
@@ -75,7 +80,7 @@ has_more id (x ∷ rows) r = ap (λ (b : Bool). bytes_eq x.id id || b) (has_more
     regroup true b c = refl
     regroup false b c = refl
 
--- the row of an option behind rows that lack it is found, and changes nothing for the other
+-- the row of an option behind rows that lack it is found, and changes nothing for the others
 found_last : (id : Text) (rows : List Row) (r : Row) → has_row id rows ≡ false → bytes_eq r.id id ≡ true → first_of id (rows ++ r ∷ []) ≡ slice_get r.values 0
 found_last id [] r none same = ap (λ (b : Bool). option_and_then (λ (x : Row). slice_get x.values 0) (cond b (Some r) None)) same
 found_last id (x ∷ rows) r none same =
@@ -90,28 +95,55 @@ found_before id (x ∷ rows) r other = go (found_before id rows r other) (bytes_
     go h true e = rw e refl
     go h false e = rw e h
 
+-- ---- one row more
+
+module _ (f : Flag) (word : Text) (rows : List Row) (values : Values) (are : AreRows rows values) (none : value_at f values ≡ None) where
+  absent_is : has_row (name_of f) rows ≡ false
+  absent_is = are.has f ∙ ap is_some none
+
+  own : bytes_eq (name_of f) (name_of f) ≡ true → first_of (name_of f) (rows ++ row f word ∷ []) ≡ Some word
+  own same = found_last (name_of f) rows (row f word) absent_is same
+
+  other : (g : Flag) → bytes_eq (name_of f) (name_of g) ≡ false → first_of (name_of g) (rows ++ row f word ∷ []) ≡ value_at g values
+  other g differs = found_before (name_of g) rows (row f word) differs ∙ are.found g
+
+  has_own : bytes_eq (name_of f) (name_of f) ≡ true → has_row (name_of f) (rows ++ row f word ∷ []) ≡ true
+  has_own same = has_more (name_of f) rows (row f word) ∙ ap (λ (b : Bool). has_row (name_of f) rows || b) same ∙ last (has_row (name_of f) rows)
+    where
+      last : (b : Bool) → (b || true) ≡ true
+      last true = refl
+      last false = refl
+
+  has_other : (g : Flag) → bytes_eq (name_of f) (name_of g) ≡ false → has_row (name_of g) (rows ++ row f word ∷ []) ≡ is_some (value_at g values)
+  has_other g differs = has_more (name_of g) rows (row f word) ∙ ap (λ (b : Bool). has_row (name_of g) rows || b) differs ∙ no_more (has_row (name_of g) rows) ∙ are.has g
+    where
+      no_more : (b : Bool) → (b || false) ≡ b
+      no_more true = refl
+      no_more false = refl
+
+found_more : (f : Flag) (word : Text) (rows : List Row) (values : Values) → AreRows rows values → value_at f values ≡ None
+    → (g : Flag) → first_of (name_of g) (rows ++ row f word ∷ []) ≡ value_at g (with_value f word values)
+found_more Jobs word rows values are none Jobs = own Jobs word rows values are none refl
+found_more Jobs word rows values are none Stop = other Jobs word rows values are none Stop refl
+found_more Jobs word rows values are none Retry = other Jobs word rows values are none Retry refl
+found_more Stop word rows values are none Jobs = other Stop word rows values are none Jobs refl
+found_more Stop word rows values are none Stop = own Stop word rows values are none refl
+found_more Stop word rows values are none Retry = other Stop word rows values are none Retry refl
+found_more Retry word rows values are none Jobs = other Retry word rows values are none Jobs refl
+found_more Retry word rows values are none Stop = other Retry word rows values are none Stop refl
+found_more Retry word rows values are none Retry = own Retry word rows values are none refl
+
+has_row_more : (f : Flag) (word : Text) (rows : List Row) (values : Values) → AreRows rows values → value_at f values ≡ None
+    → (g : Flag) → has_row (name_of g) (rows ++ row f word ∷ []) ≡ is_some (value_at g (with_value f word values))
+has_row_more Jobs word rows values are none Jobs = has_own Jobs word rows values are none refl
+has_row_more Jobs word rows values are none Stop = has_other Jobs word rows values are none Stop refl
+has_row_more Jobs word rows values are none Retry = has_other Jobs word rows values are none Retry refl
+has_row_more Stop word rows values are none Jobs = has_other Stop word rows values are none Jobs refl
+has_row_more Stop word rows values are none Stop = has_own Stop word rows values are none refl
+has_row_more Stop word rows values are none Retry = has_other Stop word rows values are none Retry refl
+has_row_more Retry word rows values are none Jobs = has_other Retry word rows values are none Jobs refl
+has_row_more Retry word rows values are none Stop = has_other Retry word rows values are none Stop refl
+has_row_more Retry word rows values are none Retry = has_own Retry word rows values are none refl
+
 pub rows_more : (f : Flag) (word : Text) (rows : List Row) (values : Values) → AreRows rows values → value_at f values ≡ None → AreRows (rows ++ row f word ∷ []) (with_value f word values)
-rows_more f word rows values are none = record { found = found f none; has = has f none }
-  where
-    absent_is : (f : Flag) → value_at f values ≡ None → has_row (name_of f) rows ≡ false
-    absent_is f none = are.has f ∙ ap is_some none
-
-    found : (f : Flag) → value_at f values ≡ None → (g : Flag) → first_of (name_of g) (rows ++ row f word ∷ []) ≡ value_at g (with_value f word values)
-    found Stop none Stop = found_last (name_of Stop) rows (row Stop word) (absent_is Stop none) refl
-    found Stop none Retry = found_before (name_of Retry) rows (row Stop word) refl ∙ are.found Retry
-    found Retry none Stop = found_before (name_of Stop) rows (row Retry word) refl ∙ are.found Stop
-    found Retry none Retry = found_last (name_of Retry) rows (row Retry word) (absent_is Retry none) refl
-
-    last : (b : Bool) → (b || true) ≡ true
-    last true = refl
-    last false = refl
-
-    no_more : (b : Bool) → (b || false) ≡ b
-    no_more true = refl
-    no_more false = refl
-
-    has : (f : Flag) → value_at f values ≡ None → (g : Flag) → has_row (name_of g) (rows ++ row f word ∷ []) ≡ is_some (value_at g (with_value f word values))
-    has Stop none Stop = has_more (name_of Stop) rows (row Stop word) ∙ last (has_row (name_of Stop) rows)
-    has Stop none Retry = has_more (name_of Retry) rows (row Stop word) ∙ no_more (has_row (name_of Retry) rows) ∙ are.has Retry
-    has Retry none Stop = has_more (name_of Stop) rows (row Retry word) ∙ no_more (has_row (name_of Stop) rows) ∙ are.has Stop
-    has Retry none Retry = has_more (name_of Retry) rows (row Retry word) ∙ last (has_row (name_of Retry) rows)
+rows_more f word rows values are none = record { found = found_more f word rows values are none; has = has_row_more f word rows values are none }

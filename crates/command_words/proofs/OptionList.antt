@@ -1,17 +1,18 @@
 -- The command that the words behind `run` give.
-use Rattle.std.proofs.Common.{◌≡◌, ◌∙◌, ◌||◌, Bool, cond, true, false, true≢false, refl, sym, ap, ap₂, subst, List, [], ◌∷◌, ◌++◌, Option, Some, None, inl, inr, codes}
+use Rattle.std.proofs.Common.{◌≡◌, ◌∙◌, ◌||◌, Bool, cond, true, false, true≢false, refl, sym, ap, subst, List, [], ◌∷◌, ◌++◌, Option, Some, None, inl, inr}
 use Rattle.std.specs.Prelude.{◌⊎◌, bytes_eq}
 use Rattle.std.specs.Option.{is_some}
 use Rattle.std.specs.List.{list_any}
 use Rattle.std.proofs.lemmas.Slice.Eq.{bytes_eq-Decides}
 use Rattle.clap.specs.Walk.{Row, Text, has_row}
 use Rattle.command_words.specs.declared.command.Command.{Command}
-use Rattle.command_words.specs.Commands.{Options, joined as option_joined, no_options, options_of, parted, retry_with, run_with, stop_with}
+use Rattle.command_words.specs.Commands.{Options, is_jobs_name, is_parted, is_stop_name, jobs_with, joined as option_joined, no_options, options_of, parted, retry_with, run_with, stop_with}
 use Rattle.command_words.specs.Program.{run_by}
 use Rattle.command_words.proofs.FoundRows.{AreRows, Values, no_rows, no_values, row, rows_more, value_at, with_value}
-use Rattle.command_words.proofs.OptionWords.{Flag, IsAlone, IsJoined, IsOther, Stop, Retry, alone, joined, name_of, option_or_other}
-use Rattle.command_words.proofs.RunTurns.{IsClean, all_read, answer, begun, further, other_none, waits, waits_ended}
-use Rattle.command_words.proofs.RunWords.{alone_read, joined_read, value_read}
+use Rattle.command_words.proofs.OptionWords.{Flag, IsAlone, IsJoined, IsOther, Jobs, Joined, Retry, Stop, alone, flag_in, joined, name_of, option_or_other, value_in}
+use Rattle.command_words.proofs.RunEnds.{all_read, waits_ended}
+use Rattle.command_words.proofs.RunTurns.{IsClean, answer, begun, further, other_none, waits}
+use Rattle.command_words.proofs.RunWords.{ValueRead, alone_read, joined_read, value_read}
 use Rattle.command_words.proofs.Turns.{Begins, dashes}
 use Rattle.command_words.proofs.OptionValues.{and_then, itself, none_all, regrouped, same_next, with_option, begins_none, twice_none, joined_options, alone_options, alone_none, other_options, options_by, run_by_options, said, said_more}
 
@@ -48,20 +49,20 @@ one_more f v rest says rows values are clean false none =
 module _ (rows : List Row) (values : Values) (are : AreRows rows values) where
   no_words : answer (begun rows) [] ≡ said_by values []
   no_words =
-      all_read rows ∙ ap₂ run_by (are.found Stop) (are.found Retry) ∙ run_by_options values
+      all_read rows ∙ (λ i. run_by (are.found Jobs i) (are.found Stop i) (are.found Retry i)) ∙ run_by_options values
       ∙ ap run_with (sym (itself (options_by values)))
 
-  at_joined : (f : Flag) (v : Text) (rest : List Text) → Says rest → IsClean rest → answer (begun rows) (joined f v ∷ rest) ≡ said_by values (joined f v ∷ rest)
-  at_joined f v rest says clean =
-      joined_read f v rows rest (has_row (name_of f) rows) refl ∙ one_more f v rest says rows values are clean (has_row (name_of f) rows) refl
-      ∙ ap run_with (same_next (options_by values) _ _ (λ options. sym (joined_options f options v rest)))
+  at_joined : (g : Joined) (rest : List Text) → Says rest → IsClean rest → answer (begun rows) (joined g ∷ rest) ≡ said_by values (joined g ∷ rest)
+  at_joined g rest says clean =
+      joined_read g rows rest (has_row (name_of (flag_in g)) rows) refl ∙ one_more (flag_in g) (value_in g) rest says rows values are clean (has_row (name_of (flag_in g)) rows) refl
+      ∙ ap run_with (same_next (options_by values) _ _ (λ options. sym (joined_options g options rest)))
 
   at_alone : (f : Flag) (v : Text) (rest : List Text) → Says rest → IsClean (v ∷ rest) → answer (begun rows) (alone f ∷ v ∷ rest) ≡ said_by values (alone f ∷ v ∷ rest)
   at_alone f v rest says clean =
       alone_read f rows (v ∷ rest) ∙ go (value_read f v rows rest clean (has_row (name_of f) rows) refl)
       ∙ ap run_with (same_next (options_by values) _ _ (λ options. sym (alone_options f options v rest)))
     where
-      go : ((answer (waits f rows) (v ∷ rest) ≡ None) × Begins v) ⊎ (answer (waits f rows) (v ∷ rest) ≡ further (has_row (name_of f) rows) (rows ++ row f v ∷ []) rest)
+      go : ValueRead f v rows rest (has_row (name_of f) rows)
           → answer (waits f rows) (v ∷ rest) ≡ run_with (and_then (options_by values) (λ options. and_then (with_option f options v) (λ next. options_of next rest)))
       go (inl r) = r.0 ∙ sym (ap run_with (none_all (options_by values) _ (λ options e. ap (λ (o : Option Options). and_then o (λ next. options_of next rest)) (begins_none f options v r.1))))
       go (inr e) = e ∙ one_more f v rest says rows values are clean.1 (has_row (name_of f) rows) refl
@@ -74,18 +75,18 @@ module _ (rows : List Row) (values : Values) (are : AreRows rows values) where
 
 says_all : (words : List Text) → Says words
 says_all [] rows values are clean = no_words rows values are
-says_all (word ∷ []) rows values are clean = go (option_or_other word)
+says_all (word ∷ []) rows values are clean = go (option_or_other word clean.0.text)
   where
     go : IsAlone word ⊎ (IsJoined word ⊎ IsOther word) → answer (begun rows) (word ∷ []) ≡ said_by values (word ∷ [])
     go (inl is) = subst (λ x. answer (begun rows) (x ∷ []) ≡ said_by values (x ∷ [])) (sym is.1) (at_last rows values are is.0)
-    go (inr (inl is)) = subst (λ x. answer (begun rows) (x ∷ []) ≡ said_by values (x ∷ [])) (sym is.2) (at_joined rows values are is.0 is.1 [] (λ rs vs a c. no_words rs vs a) clean.1)
-    go (inr (inr other)) = at_other rows values are word [] other clean.0
-says_all (word ∷ v ∷ more) rows values are clean = go (says_all more) (says_all (v ∷ more)) (option_or_other word)
+    go (inr (inl is)) = subst (λ x. answer (begun rows) (x ∷ []) ≡ said_by values (x ∷ [])) (sym is.1) (at_joined rows values are is.0 [] (λ rs vs a c. no_words rs vs a) clean.1)
+    go (inr (inr other)) = at_other rows values are word [] other clean.0.no_dashes
+says_all (word ∷ v ∷ more) rows values are clean = go (says_all more) (says_all (v ∷ more)) (option_or_other word clean.0.text)
   where
     go : Says more → Says (v ∷ more) → IsAlone word ⊎ (IsJoined word ⊎ IsOther word) → answer (begun rows) (word ∷ v ∷ more) ≡ said_by values (word ∷ v ∷ more)
     go one two (inl is) = subst (λ x. answer (begun rows) (x ∷ v ∷ more) ≡ said_by values (x ∷ v ∷ more)) (sym is.1) (at_alone rows values are is.0 v more one clean.1)
-    go one two (inr (inl is)) = subst (λ x. answer (begun rows) (x ∷ v ∷ more) ≡ said_by values (x ∷ v ∷ more)) (sym is.2) (at_joined rows values are is.0 is.1 (v ∷ more) two clean.1)
-    go one two (inr (inr other)) = at_other rows values are word (v ∷ more) other clean.0
+    go one two (inr (inl is)) = subst (λ x. answer (begun rows) (x ∷ v ∷ more) ≡ said_by values (x ∷ v ∷ more)) (sym is.1) (at_joined rows values are is.0 (v ∷ more) two clean.1)
+    go one two (inr (inr other)) = at_other rows values are word (v ∷ more) other clean.0.no_dashes
 
 -- the words behind `run` give the command of the options that they give
 pub run_words : (words : List Text) → IsClean words → answer (begun []) words ≡ run_with (options_of no_options words)
@@ -109,12 +110,13 @@ dashes_none options (word ∷ value ∷ more) e = go (λ next h. dashes_none nex
     begins : bytes_eq value dashes ≡ true → Begins value
     begins same = (45 ∷ [], (bytes_eq-Decides value dashes).0 same)
 
-    parted_none : bytes_eq value dashes ≡ true → (b : Bool) → cond b (stop_with options value) (retry_with options value) ≡ None
-    parted_none same true = begins_none Stop options value (begins same)
-    parted_none same false = begins_none Retry options value (begins same)
+    parted_none : bytes_eq value dashes ≡ true → (a b : Bool) → cond a (jobs_with options value) (cond b (stop_with options value) (retry_with options value)) ≡ None
+    parted_none same true b = begins_none Jobs options value (begins same)
+    parted_none same false true = begins_none Stop options value (begins same)
+    parted_none same false false = begins_none Retry options value (begins same)
 
     at_value : GivesNone more → (b : Bool) → bytes_eq value dashes ≡ b → (b || list_any (λ x. bytes_eq x dashes) more) ≡ true → and_then (parted options word value) (λ next. options_of next more) ≡ None
-    at_value none true same h = ap (λ (o : Option Options). and_then o (λ next. options_of next more)) (parted_none same (bytes_eq word (codes "--stop-after")))
+    at_value none true same h = ap (λ (o : Option Options). and_then o (λ next. options_of next more)) (parted_none same (is_jobs_name word) (is_stop_name word))
     at_value none false other h = none_all (parted options word value) (λ next. options_of next more) (λ next e. none next h)
 
     behind : GivesNone more → GivesNone (value ∷ more) → (b : Bool) → list_any (λ x. bytes_eq x dashes) (value ∷ more) ≡ true
@@ -124,4 +126,4 @@ dashes_none options (word ∷ value ∷ more) e = go (λ next h. dashes_none nex
 
     go : GivesNone more → GivesNone (value ∷ more) → (b : Bool) → bytes_eq word dashes ≡ b → (b || list_any (λ x. bytes_eq x dashes) (value ∷ more)) ≡ true → options_of options (word ∷ value ∷ more) ≡ None
     go one two true same h = subst (λ x. options_of options (x ∷ value ∷ more) ≡ None) (sym ((bytes_eq-Decides word dashes).0 same)) refl
-    go one two false other h = behind one two (bytes_eq word (codes "--stop-after") || bytes_eq word (codes "--retry")) h
+    go one two false other h = behind one two (is_parted word) h

@@ -1,148 +1,188 @@
 -- How a word that is an option of `run` looks to the lexer, and how no other word does.
-use Rattle.std.proofs.Common.{◌≡◌, ◌∙◌, ◌==◌, ℕ, Bool, true, false, true≢false, refl, sym, ap, [], ◌∷◌, ◌++◌, drop, take, length, arith, ◌+◌, suc, Option, Some, None, inl, inr, codes, nat_eq, append_assoc}
-use Rattle.std.specs.Prelude.{◌⊎◌, bytes_eq, option_and_then}
-use Rattle.std.specs.Option.{is_some, option_map_or}
-use Rattle.std.specs.List.{before_first, position_or_len, starts_with}
+use Rattle.std.proofs.Common.{◌≡◌, ◌∙◌, ◌==◌, ℕ, Bool, true, false, true≢false, refl, sym, ap, subst, [], ◌∷◌, ◌++◌, drop, length, arith, Option, Some, inl, inr, codes, nat_eq, append_assoc, IsUtf8, chars}
+use Rattle.std.specs.Prelude.{◌⊎◌, bytes_eq, slice_get}
+use Rattle.std.specs.List.{before_first, starts_with}
 use Rattle.std.proofs.lemmas.Bool.{false_from_ne_true}
 use Rattle.std.proofs.lemmas.Bool.Decides.{Decides-eqb}
 use Rattle.std.proofs.lemmas.Slice.Eq.{bytes_eq-Decides, starts_is}
-use Rattle.clap.specs.Lexer.{long_of, long_of_rest, short_of, short_of_rest, strip_byte}
+use Rattle.clap.specs.Lexer.{long_of, short_of}
 use Rattle.clap.specs.Walk.{Text}
+use Rattle.command_words.proofs.WordParts.{cut_as, first_byte, long_parts, past_hyphen, short_parts}
 
 -- the options of `run`
 pub data Flag : Type 0 where
+  Jobs : Flag
   Stop : Flag
   Retry : Flag
 
 abbrev pub name_of : Flag → Text
+name_of Jobs = codes "jobs"
 name_of Stop = codes "stop-after"
 name_of Retry = codes "retry"
 
--- the option without a value, what stands before a value that is joined to it, and the option with such a value
+-- a long flag without a value, and what stands before a value that is joined to it
+abbrev pub long_alone : Text → Text
+long_alone name = 45 ∷ 45 ∷ name
+
+abbrev pub long_prefix : Text → Text
+long_prefix name = 45 ∷ 45 ∷ (name ++ (61 ∷ []))
+
+-- the option without a value
 abbrev pub alone : Flag → Text
-alone f = 45 ∷ 45 ∷ name_of f
+alone Jobs = 45 ∷ 106 ∷ []
+alone Stop = long_alone (name_of Stop)
+alone Retry = long_alone (name_of Retry)
 
-abbrev pub prefix : Flag → Text
-prefix f = 45 ∷ 45 ∷ (name_of f ++ (61 ∷ []))
+-- an option with its value in one word: `-j=N`, `-jN`, `--stop-after=N` or `--retry=N`
+pub data Joined : Type 0 where
+  JobsBy : Text → Joined
+  JobsIn : (x : ℕ) → (x == 61) ≡ false → Text → Joined
+  StopBy : Text → Joined
+  RetryBy : Text → Joined
 
-abbrev pub joined : Flag → Text → Text
-joined f value = prefix f ++ value
+abbrev pub flag_in : Joined → Flag
+flag_in (JobsBy value) = Jobs
+flag_in (JobsIn x other xs) = Jobs
+flag_in (StopBy value) = Stop
+flag_in (RetryBy value) = Retry
 
--- the word is not this option, with a value or without
-pub record IsNot (f : Flag) (word : Text) : Type 0 where
-  pub long : (p : Text × Option Text) → long_of word ≡ Some p → bytes_eq (name_of f) p.0 ≡ false
-  pub not_alone : bytes_eq word (alone f) ≡ false
-  pub not_joined : starts_with nat_eq word (prefix f) ≡ false
+abbrev pub value_in : Joined → Text
+value_in (JobsBy value) = value
+value_in (JobsIn x other xs) = x ∷ xs
+value_in (StopBy value) = value
+value_in (RetryBy value) = value
 
--- the word is neither option
-pub record IsOther (word : Text) : Type 0 where
-  pub stop : IsNot Stop word
-  pub retry : IsNot Retry word
+abbrev pub joined : Joined → Text
+joined (JobsBy value) = 45 ∷ 106 ∷ 61 ∷ value
+joined (JobsIn x other xs) = 45 ∷ 106 ∷ x ∷ xs
+joined (StopBy value) = long_prefix (name_of Stop) ++ value
+joined (RetryBy value) = long_prefix (name_of Retry) ++ value
 
-none_is_no_some : {X : Type 0} (x : X) → None ≡ Some x → ⊥
-none_is_no_some x e = true≢false (sym (ap is_some e))
+-- each begins with a hyphen
+pub alone_begins : (f : Flag) → (rest : Text) × (alone f ≡ 45 ∷ rest)
+alone_begins Jobs = (106 ∷ [], refl)
+alone_begins Stop = (45 ∷ name_of Stop, refl)
+alone_begins Retry = (45 ∷ name_of Retry, refl)
 
-some_is : {X : Type 0} (x y : X) → Some x ≡ Some y → x ≡ y
-some_is x y e = ap (λ o. option_map_or (λ z. z) o x) e
+pub joined_begins : (g : Joined) → (rest : Text) × (joined g ≡ 45 ∷ rest)
+joined_begins (JobsBy value) = (106 ∷ 61 ∷ value, refl)
+joined_begins (JobsIn x other xs) = (106 ∷ x ∷ xs, refl)
+joined_begins (StopBy value) = (drop 1 (long_prefix (name_of Stop)) ++ value, refl)
+joined_begins (RetryBy value) = (drop 1 (long_prefix (name_of Retry)) ++ value, refl)
 
-same_byte : (x c : ℕ) → (x == c) ≡ true → x ≡ c
-same_byte x c e = (Decides-eqb x c).0 e
+-- ---- a long flag
 
-stripped : (c : ℕ) (word rest : Text) → strip_byte c word ≡ Some rest → word ≡ c ∷ rest
-stripped c [] rest e = absurd (none_is_no_some rest e)
-stripped c (x ∷ xs) rest e = go (x == c) refl
-  where
-    go : (b : Bool) → (x == c) ≡ b → x ∷ xs ≡ c ∷ rest
-    go true same = let tail : xs ≡ rest = some_is xs rest (rw same at e) in ap (λ y. y ∷ xs) (same_byte x c same) ∙ ap (λ ys. c ∷ ys) tail
-    go false other = absurd (none_is_no_some rest (rw other at e))
+-- the word is not this flag, with a value or without
+pub record IsNotLong (name word : Text) : Type 0 where
+  pub long : (p : Text × Option Text) → long_of word ≡ Some p → bytes_eq name p.0 ≡ false
+  pub not_alone : bytes_eq word (long_alone name) ≡ false
+  pub not_joined : starts_with nat_eq word (long_prefix name) ≡ false
 
--- a word that the lexer takes for a long flag is two hyphens and a text that begins with the flag's name
-pub long_parts : (word : Text) (p : Text × Option Text) → long_of word ≡ Some p → (rest : Text) × (word ≡ 45 ∷ 45 ∷ rest) × (p.0 ≡ before_first (λ x. x == 61) rest)
-long_parts word p e = first (strip_byte 45 word) refl e
-  where
-    last : (rest : Text) → word ≡ 45 ∷ 45 ∷ rest → long_of_rest rest ≡ Some p → (rest : Text) × (word ≡ 45 ∷ 45 ∷ rest) × (p.0 ≡ before_first (λ x. x == 61) rest)
-    last [] is none = absurd (none_is_no_some p none)
-    last (x ∷ xs) is some = (x ∷ xs, is, ap (λ o. option_map_or (λ q. q.0) o p.0) (sym some))
+abbrev pub LongOrNot : Text → Text → Type 0
+LongOrNot name word = (word ≡ long_alone name) ⊎ (((value : Text) × (word ≡ long_prefix name ++ value)) ⊎ IsNotLong name word)
 
-    second : (one : Text) → word ≡ 45 ∷ one → (a : Option Text) → strip_byte 45 one ≡ a → option_and_then long_of_rest a ≡ Some p
-        → (rest : Text) × (word ≡ 45 ∷ 45 ∷ rest) × (p.0 ≡ before_first (λ x. x == 61) rest)
-    second one is None s none = absurd (none_is_no_some p none)
-    second one is (Some rest) s some = last rest (is ∙ ap (λ xs. 45 ∷ xs) (stripped 45 one rest s)) some
-
-    first : (a : Option Text) → strip_byte 45 word ≡ a → option_and_then long_of_rest (option_and_then (strip_byte 45) a) ≡ Some p
-        → (rest : Text) × (word ≡ 45 ∷ 45 ∷ rest) × (p.0 ≡ before_first (λ x. x == 61) rest)
-    first None s none = absurd (none_is_no_some p none)
-    first (Some one) s some = second one (stripped 45 word one s) (strip_byte 45 one) refl some
-
--- a word that the lexer takes for short flags begins with a hyphen
-pub short_parts : (word flags : Text) → short_of word ≡ Some flags → (rest : Text) × (word ≡ 45 ∷ rest)
-short_parts word flags e = first (strip_byte 45 word) refl e
-  where
-    first : (a : Option Text) → strip_byte 45 word ≡ a → option_and_then short_of_rest a ≡ Some flags → (rest : Text) × (word ≡ 45 ∷ rest)
-    first None s none = absurd (none_is_no_some flags none)
-    first (Some rest) s some = (rest, stripped 45 word rest s)
-
--- a byte that is no `=` stands before the first one
-before_more : (x : ℕ) (xs : Text) → (x == 61) ≡ false → before_first (λ y. y == 61) (x ∷ xs) ≡ x ∷ before_first (λ y. y == 61) xs
-before_more x xs e =
-    let one_more : 1 + position_or_len (λ y. y == 61) xs ≡ suc (position_or_len (λ y. y == 61) xs) = omega arith in
-    rw e (ap (λ n. take n (x ∷ xs)) one_more)
-
--- a text is what stands before its first `=`, or that and `=` and more
-cut_as : (t : Text) → (t ≡ before_first (λ x. x == 61) t) ⊎ ((rest : Text) × (t ≡ before_first (λ x. x == 61) t ++ 61 ∷ rest))
-cut_as [] = inl refl
-cut_as (x ∷ xs) = go (x == 61) refl (cut_as xs)
-  where
-    go : (b : Bool) → (x == 61) ≡ b → (xs ≡ before_first (λ y. y == 61) xs) ⊎ ((rest : Text) × (xs ≡ before_first (λ y. y == 61) xs ++ 61 ∷ rest))
-        → (x ∷ xs ≡ before_first (λ y. y == 61) (x ∷ xs)) ⊎ ((rest : Text) × (x ∷ xs ≡ before_first (λ y. y == 61) (x ∷ xs) ++ 61 ∷ rest))
-    go true e h = inr (xs, rw e (ap (λ y. y ∷ xs) (same_byte x 61 e)))
-    go false e (inl h) = inl (ap (λ ys. x ∷ ys) h ∙ sym (before_more x xs e))
-    go false e (inr h) = inr (h.0, ap (λ ys. x ∷ ys) h.1 ∙ ap (λ front. front ++ 61 ∷ h.0) (sym (before_more x xs e)))
-
-module _ (f : Flag) (word : Text) where
-  -- a long flag with the option's name is the option
-  named : (p : Text × Option Text) → long_of word ≡ Some p → bytes_eq (name_of f) p.0 ≡ true → (word ≡ alone f) ⊎ ((value : Text) × (word ≡ joined f value))
+module _ (name word : Text) where
+  -- a long flag with the name is the flag
+  named : (p : Text × Option Text) → long_of word ≡ Some p → bytes_eq name p.0 ≡ true → (word ≡ long_alone name) ⊎ ((value : Text) × (word ≡ long_prefix name ++ value))
   named p e same =
       let parts = long_parts word p e in
-      let name : before_first (λ x. x == 61) parts.0 ≡ name_of f = sym parts.2 ∙ sym ((bytes_eq-Decides (name_of f) p.0).0 same) in
-      go parts.0 parts.1 name (cut_as parts.0)
+      let is_name : before_first (λ x. x == 61) parts.0 ≡ name = sym parts.2 ∙ sym ((bytes_eq-Decides name p.0).0 same) in
+      go parts.0 parts.1 is_name (cut_as parts.0)
     where
-      go : (rest : Text) → word ≡ 45 ∷ 45 ∷ rest → before_first (λ x. x == 61) rest ≡ name_of f
-          → (rest ≡ before_first (λ x. x == 61) rest) ⊎ ((more : Text) × (rest ≡ before_first (λ x. x == 61) rest ++ 61 ∷ more)) → (word ≡ alone f) ⊎ ((value : Text) × (word ≡ joined f value))
-      go rest is name (inl h) = inl (is ∙ ap (λ t. 45 ∷ 45 ∷ t) (h ∙ name))
-      go rest is name (inr h) =
-          inr (h.0, is ∙ ap (λ t. 45 ∷ 45 ∷ t) (h.1 ∙ ap (λ t. t ++ (61 ∷ h.0)) name ∙ sym (append_assoc (name_of f) (61 ∷ []) h.0)))
+      go : (rest : Text) → word ≡ 45 ∷ 45 ∷ rest → before_first (λ x. x == 61) rest ≡ name
+          → (rest ≡ before_first (λ x. x == 61) rest) ⊎ ((more : Text) × (rest ≡ before_first (λ x. x == 61) rest ++ 61 ∷ more)) → (word ≡ long_alone name) ⊎ ((value : Text) × (word ≡ long_prefix name ++ value))
+      go rest is is_name (inl h) = inl (is ∙ ap (λ t. 45 ∷ 45 ∷ t) (h ∙ is_name))
+      go rest is is_name (inr h) =
+          inr (h.0, is ∙ ap (λ t. 45 ∷ 45 ∷ t) (h.1 ∙ ap (λ t. t ++ (61 ∷ h.0)) is_name ∙ sym (append_assoc name (61 ∷ []) h.0)))
 
-  pub flag_or_not : (word ≡ alone f) ⊎ (((value : Text) × (word ≡ joined f value)) ⊎ IsNot f word)
-  flag_or_not = go (bytes_eq word (alone f)) refl (starts_with nat_eq word (prefix f)) refl
+  long_or_not : LongOrNot name word
+  long_or_not = go (bytes_eq word (long_alone name)) refl (starts_with nat_eq word (long_prefix name)) refl
     where
-      go : (a : Bool) → bytes_eq word (alone f) ≡ a → (b : Bool) → starts_with nat_eq word (prefix f) ≡ b → (word ≡ alone f) ⊎ (((value : Text) × (word ≡ joined f value)) ⊎ IsNot f word)
-      go true e b g = inl ((bytes_eq-Decides word (alone f)).0 e)
-      go false e true g = inr (inl (drop (length (prefix f)) word, (starts_is Decides-eqb word (prefix f) _ refl).0 g))
+      go : (a : Bool) → bytes_eq word (long_alone name) ≡ a → (b : Bool) → starts_with nat_eq word (long_prefix name) ≡ b → LongOrNot name word
+      go true e b g = inl ((bytes_eq-Decides word (long_alone name)).0 e)
+      go false e true g = inr (inl (drop (length (long_prefix name)) word, (starts_is Decides-eqb word (long_prefix name) _ refl).0 g))
       go false e false g = inr (inr (record {
         long = λ p is. false_from_ne_true _ (λ same. either (named p is same));
         not_alone = e;
         not_joined = g;
       }))
         where
-          either : (word ≡ alone f) ⊎ ((value : Text) × (word ≡ joined f value)) → ⊥
-          either (inl h) = true≢false (sym ((bytes_eq-Decides word (alone f)).1 h) ∙ e)
-          either (inr h) = true≢false (sym ((starts_is Decides-eqb word (prefix f) _ refl).1 h.0 h.1) ∙ g)
+          either : (word ≡ long_alone name) ⊎ ((value : Text) × (word ≡ long_prefix name ++ value)) → ⊥
+          either (inl h) = true≢false (sym ((bytes_eq-Decides word (long_alone name)).1 h) ∙ e)
+          either (inr h) = true≢false (sym ((starts_is Decides-eqb word (long_prefix name) _ refl).1 h.0 h.1) ∙ g)
+
+-- ---- the short flag
+
+-- the word is not `-j`, with a value or without
+pub record IsNotJobs (word : Text) : Type 0 where
+  pub short : (flags : Text) → short_of word ≡ Some flags → (x : ℕ) → slice_get (chars flags) 0 ≡ Some x → (106 == x) ≡ false
+  pub not_alone : bytes_eq word (codes "-j") ≡ false
+  pub not_begun : starts_with nat_eq word (codes "-j") ≡ false
+
+abbrev pub JobsOrNot : Text → Type 0
+JobsOrNot word = (word ≡ alone Jobs) ⊎ (((g : Joined) × (word ≡ joined g)) ⊎ IsNotJobs word)
+
+-- what follows `-j` is its value
+jobs_by : (word value : Text) → word ≡ 45 ∷ 106 ∷ value → JobsOrNot word
+jobs_by word [] is = inl is
+jobs_by word (x ∷ xs) is = go (x == 61) refl
+  where
+    go : (b : Bool) → (x == 61) ≡ b → JobsOrNot word
+    go true e = inr (inl (JobsBy xs, is ∙ ap (λ y. 45 ∷ 106 ∷ y ∷ xs) ((Decides-eqb x 61).0 e)))
+    go false e = inr (inl (JobsIn x e xs, is))
+
+module _ (word : Text) (text : IsUtf8 word) (other : starts_with nat_eq word (codes "-j") ≡ false) where
+  begun_never : (value : Text) → word ≡ 45 ∷ 106 ∷ value → ⊥
+  begun_never value is = true≢false (sym ((starts_is Decides-eqb word (codes "-j") _ refl).1 value is) ∙ other)
+
+  -- the characters of a text are those that its bytes spell
+  no_short : (flags : Text) → short_of word ≡ Some flags → (x : ℕ) → slice_get (chars flags) 0 ≡ Some x → (106 == x) ≡ false
+  no_short flags e x first = false_from_ne_true (106 == x) (λ same. by (sym ((Decides-eqb 106 x).0 same)))
+    where
+      is : word ≡ 45 ∷ flags
+      is = short_parts word flags e
+
+      by : x ≡ 106 → ⊥
+      by j =
+          let begins = first_byte flags (past_hyphen flags (subst IsUtf8 is text)) 106 (omega arith) (first ∙ ap (λ y. Some y) j) in
+          begun_never begins.0 (is ∙ ap (λ t. 45 ∷ t) begins.1)
+
+  not_alone : bytes_eq word (codes "-j") ≡ false
+  not_alone = false_from_ne_true (bytes_eq word (codes "-j")) (λ same. begun_never [] ((bytes_eq-Decides word (codes "-j")).0 same))
+
+  no_jobs : IsNotJobs word
+  no_jobs = record { short = no_short; not_alone = not_alone; not_begun = other }
+
+jobs_or_not : (word : Text) → IsUtf8 word → JobsOrNot word
+jobs_or_not word text = go (starts_with nat_eq word (codes "-j")) refl
+  where
+    go : (b : Bool) → starts_with nat_eq word (codes "-j") ≡ b → JobsOrNot word
+    go true e = jobs_by word (drop 2 word) ((starts_is Decides-eqb word (codes "-j") _ refl).0 e)
+    go false e = inr (inr (no_jobs word text e))
+
+-- ---- an option
+
+-- the word is no option
+pub record IsOther (word : Text) : Type 0 where
+  pub jobs : IsNotJobs word
+  pub stop : IsNotLong (name_of Stop) word
+  pub retry : IsNotLong (name_of Retry) word
 
 -- a word is an option without a value, one with a value, or neither
 abbrev pub IsAlone : Text → Type 0
 IsAlone word = (f : Flag) × (word ≡ alone f)
 
 abbrev pub IsJoined : Text → Type 0
-IsJoined word = (f : Flag) × (value : Text) × (word ≡ joined f value)
+IsJoined word = (g : Joined) × (word ≡ joined g)
 
-pub option_or_other : (word : Text) → IsAlone word ⊎ (IsJoined word ⊎ IsOther word)
-option_or_other word = go (flag_or_not Stop word) (flag_or_not Retry word)
+pub option_or_other : (word : Text) → IsUtf8 word → IsAlone word ⊎ (IsJoined word ⊎ IsOther word)
+option_or_other word text = go (jobs_or_not word text) (long_or_not (name_of Stop) word) (long_or_not (name_of Retry) word)
   where
-    go : (word ≡ alone Stop) ⊎ (((value : Text) × (word ≡ joined Stop value)) ⊎ IsNot Stop word) → (word ≡ alone Retry) ⊎ (((value : Text) × (word ≡ joined Retry value)) ⊎ IsNot Retry word)
-        → IsAlone word ⊎ (IsJoined word ⊎ IsOther word)
-    go (inl is) retry = inl (Stop, is)
-    go (inr (inl v)) retry = inr (inl (Stop, v.0, v.1))
-    go (inr (inr no_stop)) (inl is) = inl (Retry, is)
-    go (inr (inr no_stop)) (inr (inl v)) = inr (inl (Retry, v.0, v.1))
-    go (inr (inr no_stop)) (inr (inr no_retry)) = inr (inr (record { stop = no_stop; retry = no_retry }))
+    go : JobsOrNot word → LongOrNot (name_of Stop) word → LongOrNot (name_of Retry) word → IsAlone word ⊎ (IsJoined word ⊎ IsOther word)
+    go (inl is) stop retry = inl (Jobs, is)
+    go (inr (inl is)) stop retry = inr (inl is)
+    go (inr (inr other)) (inl is) retry = inl (Stop, is)
+    go (inr (inr other)) (inr (inl v)) retry = inr (inl (StopBy v.0, v.1))
+    go (inr (inr other)) (inr (inr no_stop)) (inl is) = inl (Retry, is)
+    go (inr (inr other)) (inr (inr no_stop)) (inr (inl v)) = inr (inl (RetryBy v.0, v.1))
+    go (inr (inr other)) (inr (inr no_stop)) (inr (inr no_retry)) = inr (inr (record { jobs = other; stop = no_stop; retry = no_retry }))

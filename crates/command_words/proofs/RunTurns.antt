@@ -1,23 +1,29 @@
 -- The words behind `run`: what the parse holds after each. There are few places in which it can be: between two options, behind an
 -- option that waits for its value, and behind a value that is not taken over yet.
-use Rattle.std.proofs.Common.{◌≡◌, ◌∙◌, ◌&&◌, ◌||◌, Bool, cond, true, false, refl, sym, ap, ap₂, subst, List, [], ◌∷◌, ◌++◌, Option, Some, None}
-use Rattle.std.specs.Prelude.{⊤, bytes_eq, fold}
-use Rattle.clap.specs.Walk.{Row, Rule, Text, Walk, first_of, has_row, idle, next, option, plain_word, used, walked, with_default}
+use Rattle.std.proofs.Common.{◌≡◌, ◌∙◌, ◌&&◌, ◌||◌, ◌==◌, ℕ, Bool, cond, true, false, refl, sym, ap, ap₂, subst, List, [], ◌∷◌, ◌++◌, Option, Some, None, IsUtf8}
+use Rattle.std.specs.Prelude.{⊤, bytes_eq}
+use Rattle.std.specs.Option.{option_map_or}
+use Rattle.clap.specs.Walk.{Held, Row, Rule, Step, Text, Waiting, Walk, after_flag, after_step, attached_value, first_of, has_row, idle, next, option, option_met, plain_word, positional, settled, used, walked}
 use Rattle.clap.specs.Simple.{Shape, built_leaf, filled, inherited, marked_built, with_index, with_leaf_noted}
 use Rattle.clap.specs.Kinds.{Kinds, or_else}
-use Rattle.clap.specs.Faults.{check_fault, default_fault, defaults_fault, given_default_fault, turn_fault, use_fault}
+use Rattle.clap.specs.Faults.{option_fault, settle_fault, step_fault, turn_fault, use_fault}
 use Rattle.clap.specs.declared.error.kind.ErrorKind.TheVariants.{ArgumentConflict}
 use Rattle.clap.proofs.OnLiterals.{clap_on_literals}
 use Rattle.command_words.specs.declared.command.Command.{Command}
-use Rattle.command_words.specs.Program.{command_line, retry_rule, run_by, run_shape, stop_rule}
+use Rattle.command_words.specs.Program.{command_line, jobs_rule, retry_rule, run_by, run_shape, stop_rule}
 use Rattle.command_words.proofs.FoundRows.{first_value, row}
-use Rattle.command_words.proofs.OptionWords.{Flag, IsOther, Stop, Retry, alone, joined, name_of}
-use Rattle.command_words.proofs.Turns.{IsRefused, KnowsNot, at, dashes, holding, refused_at, stray, taken, verdict}
+use Rattle.command_words.proofs.OptionWords.{Flag, IsOther, Jobs, Joined, JobsBy, JobsIn, Retry, RetryBy, Stop, StopBy, alone, flag_in, joined, name_of, value_in}
+use Rattle.command_words.proofs.Turns.{IsRefused, KnowsNot, at, dashes, holding, or_refused, refused_at, stray, verdict}
 
--- no word is `--`
+-- the word is a text and not `--`
+pub record IsWord (word : Text) : Type 0 where
+  pub no_dashes : bytes_eq word dashes ≡ false
+  pub text : IsUtf8 word
+
+-- and so is each word
 abbrev pub IsClean : List Text → Type 0
 IsClean [] = ⊤
-IsClean (word ∷ rest) = (bytes_eq word dashes ≡ false) × IsClean rest
+IsClean (word ∷ rest) = IsWord word × IsClean rest
 
 -- a subcommand of the program, as it is built
 abbrev pub below : Shape → Shape
@@ -27,11 +33,12 @@ abbrev pub run : Shape
 run = below run_shape
 
 abbrev pub rule_of : Flag → Rule
+rule_of Jobs = with_index 1 (filled jobs_rule)
 rule_of Stop = with_index 1 (filled stop_rule)
 rule_of Retry = with_index 1 (filled retry_rule)
 
 abbrev pub by_rows : List Row → Option Command
-by_rows rows = run_by (first_of (name_of Stop) rows) (first_of (name_of Retry) rows)
+by_rows rows = run_by (first_of (name_of Jobs) rows) (first_of (name_of Stop) rows) (first_of (name_of Retry) rows)
 
 abbrev pub answer : Walk → List Text → Option Command
 answer = verdict run by_rows
@@ -40,15 +47,15 @@ answer = verdict run by_rows
 
 -- between two options
 abbrev pub begun : List Row → Walk
-begun rows = at (holding rows None) idle
+begun rows = at 1 (holding rows None) idle
 
 -- an option waits for its value
 abbrev pub waits : Flag → List Row → Walk
-waits f rows = at (holding rows (Some (name_of f, []))) (option (name_of f))
+waits f rows = at 1 (holding rows (Some (name_of f, []))) (option (name_of f))
 
 -- a word was its value
 abbrev pub given : Flag → List Row → Text → Walk
-given f rows value = at (holding rows (Some (name_of f, value ∷ []))) idle
+given f rows value = at 1 (holding rows (Some (name_of f, value ∷ []))) idle
 
 -- what is answered with one value more: none where the option has one
 abbrev pub further : Bool → List Row → List Text → Option Command
@@ -60,13 +67,13 @@ further false rows words = answer (begun rows) words
 pub knows_not : (word : Text) → IsOther word → KnowsNot run word
 knows_not word other = record {
   long = λ p e. ap₂ (λ (a b : Bool). cond (a || false) (Some (rule_of Stop)) (cond (b || false) (Some (rule_of Retry)) None)) (other.stop.long p e) (other.retry.long p e);
-  short = λ c. refl;
+  short = λ flags e c first. ap (λ (b : Bool). cond (b || false) (Some (rule_of Jobs)) None) (other.jobs.short flags e c first);
 }
 
 pub other_refused : (rows : List Row) (pending : Option (Text × List Text)) (word : Text) (rest : List Text) → IsOther word → bytes_eq word dashes ≡ false
-    → answer (at (holding rows pending) idle) (word ∷ rest) ≡ None
+    → answer (at 1 (holding rows pending) idle) (word ∷ rest) ≡ None
 other_refused rows pending word rest other dash =
-    refused_at run by_rows (at (holding rows pending) idle) word rest (stray run [] word rows pending (knows_not word other) refl refl dash)
+    refused_at run by_rows (at 1 (holding rows pending) idle) word rest (stray run [] word rows pending 1 (knows_not word other) refl dash refl)
 
 -- a word that is no option gives no command
 pub other_none : (rows : List Row) (word : Text) (rest : List Text) → IsOther word → bytes_eq word dashes ≡ false → answer (begun rows) (word ∷ rest) ≡ None
@@ -79,17 +86,14 @@ abbrev conflict : Bool → Kinds
 conflict true = ArgumentConflict ∷ []
 conflict false = []
 
+conflict_is : (b : Bool) → or_else (cond (b && true) (ArgumentConflict ∷ []) []) [] ≡ conflict b
+conflict_is true = refl
+conflict_is false = refl
+
 use_once : (f : Flag) (value : Text) (rows : List Row) → use_fault false (rule_of f) (value ∷ []) rows ≡ conflict (has_row (name_of f) rows)
-use_once Stop value rows = go (has_row (name_of Stop) rows)
-  where
-    go : (b : Bool) → or_else (cond (b && true) (ArgumentConflict ∷ []) []) [] ≡ conflict b
-    go true = refl
-    go false = refl
-use_once Retry value rows = go (has_row (name_of Retry) rows)
-  where
-    go : (b : Bool) → or_else (cond (b && true) (ArgumentConflict ∷ []) []) [] ≡ conflict b
-    go true = refl
-    go false = refl
+use_once Jobs value rows = conflict_is (has_row (name_of Jobs) rows)
+use_once Stop value rows = conflict_is (has_row (name_of Stop) rows)
+use_once Retry value rows = conflict_is (has_row (name_of Retry) rows)
 
 pub use_refused : (f : Flag) (value : Text) (rows : List Row) → has_row (name_of f) rows ≡ true → IsRefused (use_fault false (rule_of f) (value ∷ []) rows)
 use_refused f value rows there = subst IsRefused (sym (use_once f value rows ∙ ap conflict there)) tt
@@ -98,134 +102,117 @@ pub use_taken : (f : Flag) (value : Text) (rows : List Row) → has_row (name_of
 use_taken f value rows none = use_once f value rows ∙ ap conflict none
 
 pub used_first : (f : Flag) (value : Text) (rows : List Row) → has_row (name_of f) rows ≡ false → used (rule_of f) (value ∷ []) rows ≡ rows ++ row f value ∷ []
+used_first Jobs value rows none = first_value Jobs value rows none
 used_first Stop value rows none = first_value Stop value rows none
 used_first Retry value rows none = first_value Retry value rows none
 
--- ---- the turns, from the fault and the rows of what is taken over before
+-- ---- an option, whatever is pending: that is taken over first
 
+-- the fault of an option with its value, from that of what is taken over and the rows behind it
 abbrev pub joined_fault : Flag → Text → Kinds → List Row → Kinds
 joined_fault f value before rows = or_else (or_else before (use_fault false (rule_of f) (value ∷ []) rows)) []
 
-pub joined_turn : (f : Flag) (value : Text) (rows : List Row) → turn_fault run [] (begun rows) (joined f value) ≡ joined_fault f value [] rows
-unfolding clap_on_literals
-joined_turn Stop value rows = refl
-joined_turn Retry value rows = refl
+-- `-j` and more, by the value that is found behind it
+abbrev short_met : List Row → Option (Text × List Text) → Waiting → Text → Option Text → Held × Step
+short_met rows pending waiting word value =
+    after_flag run.rules waiting word (option_met run.rules (rule_of Jobs) value (holding rows pending)).0 (option_met run.rules (rule_of Jobs) value (holding rows pending)).1
 
-pub joined_walk : (f : Flag) (value : Text) (rows : List Row) → walked run.rules [] (begun rows) (joined f value) ≡ begun (used (rule_of f) (value ∷ []) rows)
-unfolding clap_on_literals
-joined_walk Stop value rows = refl
-joined_walk Retry value rows = refl
+abbrev short_fault : List Row → Option (Text × List Text) → Waiting → Text → Option Text → Kinds
+short_fault rows pending waiting word value =
+    or_else (option_fault run.rules false (rule_of Jobs) value (holding rows pending)) (step_fault run 1 (short_met rows pending waiting word value).0 (short_met rows pending waiting word value).1)
 
-pub alone_turn : (f : Flag) (rows : List Row) → turn_fault run [] (begun rows) (alone f) ≡ []
+short_turn : (rows : List Row) (pending : Option (Text × List Text)) (waiting : Waiting) (x : ℕ) (xs : Text)
+    → turn_fault run [] (at 1 (holding rows pending) waiting) (45 ∷ 106 ∷ x ∷ xs) ≡ short_fault rows pending waiting (45 ∷ 106 ∷ x ∷ xs) (attached_value (x ∷ xs))
 unfolding clap_on_literals
-alone_turn Stop rows = refl
-alone_turn Retry rows = refl
+short_turn rows pending idle x xs = refl
+short_turn rows pending (option id) x xs = refl
+short_turn rows pending positional x xs = refl
 
-pub alone_walk : (f : Flag) (rows : List Row) → walked run.rules [] (begun rows) (alone f) ≡ waits f rows
+short_walk : (rows : List Row) (pending : Option (Text × List Text)) (x : ℕ) (xs : Text)
+    → walked run.rules [] (at 1 (holding rows pending) idle) (45 ∷ 106 ∷ x ∷ xs)
+    ≡ after_step run.rules (45 ∷ 106 ∷ x ∷ xs) (at 1 (holding rows pending) idle) (short_met rows pending idle (45 ∷ 106 ∷ x ∷ xs) (attached_value (x ∷ xs))).0 (short_met rows pending idle (45 ∷ 106 ∷ x ∷ xs) (attached_value (x ∷ xs))).1
 unfolding clap_on_literals
-alone_walk Stop rows = refl
-alone_walk Retry rows = refl
+short_walk rows pending x xs = refl
 
-pub given_joined_turn : (f g : Flag) (v u : Text) (rows : List Row) → turn_fault run [] (given f rows v) (joined g u) ≡ joined_fault g u (use_fault false (rule_of f) (v ∷ []) rows) (used (rule_of f) (v ∷ []) rows)
-unfolding clap_on_literals
-given_joined_turn Stop Stop v u rows = refl
-given_joined_turn Stop Retry v u rows = refl
-given_joined_turn Retry Stop v u rows = refl
-given_joined_turn Retry Retry v u rows = refl
+attached : (x : ℕ) (xs : Text) → (x == 61) ≡ false → attached_value (x ∷ xs) ≡ Some (x ∷ xs)
+attached x xs other = ap (λ (b : Bool). option_map_or (λ (v : Text). Some v) (cond b (Some xs) None) (Some (x ∷ xs))) other
 
-pub given_joined_walk : (f g : Flag) (v u : Text) (rows : List Row) → walked run.rules [] (given f rows v) (joined g u) ≡ begun (used (rule_of g) (u ∷ []) (used (rule_of f) (v ∷ []) rows))
+pub joined_turn : (rows : List Row) (pending : Option (Text × List Text)) (waiting : Waiting) (g : Joined) → turn_fault run [] (at 1 (holding rows pending) waiting) (joined g)
+    ≡ joined_fault (flag_in g) (value_in g) (settle_fault run.rules false (holding rows pending)) (settled run.rules (holding rows pending)).rows
 unfolding clap_on_literals
-given_joined_walk Stop Stop v u rows = refl
-given_joined_walk Stop Retry v u rows = refl
-given_joined_walk Retry Stop v u rows = refl
-given_joined_walk Retry Retry v u rows = refl
+joined_turn rows pending waiting (JobsIn x other xs) = short_turn rows pending waiting x xs ∙ ap (short_fault rows pending waiting (45 ∷ 106 ∷ x ∷ xs)) (attached x xs other)
+joined_turn rows pending waiting (JobsBy value) = short_turn rows pending waiting 61 value
+joined_turn rows pending idle (StopBy value) = refl
+joined_turn rows pending (option id) (StopBy value) = refl
+joined_turn rows pending positional (StopBy value) = refl
+joined_turn rows pending idle (RetryBy value) = refl
+joined_turn rows pending (option id) (RetryBy value) = refl
+joined_turn rows pending positional (RetryBy value) = refl
 
-pub given_alone_turn : (f g : Flag) (v : Text) (rows : List Row) → turn_fault run [] (given f rows v) (alone g) ≡ or_else (use_fault false (rule_of f) (v ∷ []) rows) []
+pub joined_walk : (rows : List Row) (pending : Option (Text × List Text)) (g : Joined)
+    → walked run.rules [] (at 1 (holding rows pending) idle) (joined g) ≡ begun (used (rule_of (flag_in g)) (value_in g ∷ []) (settled run.rules (holding rows pending)).rows)
 unfolding clap_on_literals
-given_alone_turn Stop Stop v rows = refl
-given_alone_turn Stop Retry v rows = refl
-given_alone_turn Retry Stop v rows = refl
-given_alone_turn Retry Retry v rows = refl
+joined_walk rows pending (JobsIn x other xs) =
+    short_walk rows pending x xs
+    ∙ ap (λ (v : Option Text). after_step run.rules (45 ∷ 106 ∷ x ∷ xs) (at 1 (holding rows pending) idle) (short_met rows pending idle (45 ∷ 106 ∷ x ∷ xs) v).0 (short_met rows pending idle (45 ∷ 106 ∷ x ∷ xs) v).1) (attached x xs other)
+joined_walk rows pending (JobsBy value) = short_walk rows pending 61 value
+joined_walk rows pending (StopBy value) = refl
+joined_walk rows pending (RetryBy value) = refl
 
-pub given_alone_walk : (f g : Flag) (v : Text) (rows : List Row) → walked run.rules [] (given f rows v) (alone g) ≡ waits g (used (rule_of f) (v ∷ []) rows)
+pub alone_turn : (rows : List Row) (pending : Option (Text × List Text)) (waiting : Waiting) (f : Flag)
+    → turn_fault run [] (at 1 (holding rows pending) waiting) (alone f) ≡ or_else (settle_fault run.rules false (holding rows pending)) []
 unfolding clap_on_literals
-given_alone_walk Stop Stop v rows = refl
-given_alone_walk Stop Retry v rows = refl
-given_alone_walk Retry Stop v rows = refl
-given_alone_walk Retry Retry v rows = refl
+alone_turn rows pending idle Jobs = refl
+alone_turn rows pending idle Stop = refl
+alone_turn rows pending idle Retry = refl
+alone_turn rows pending (option id) Jobs = refl
+alone_turn rows pending (option id) Stop = refl
+alone_turn rows pending (option id) Retry = refl
+alone_turn rows pending positional Jobs = refl
+alone_turn rows pending positional Stop = refl
+alone_turn rows pending positional Retry = refl
+
+pub alone_walk : (rows : List Row) (pending : Option (Text × List Text)) (f : Flag) → walked run.rules [] (at 1 (holding rows pending) idle) (alone f) ≡ waits f (settled run.rules (holding rows pending)).rows
+unfolding clap_on_literals
+alone_walk rows pending Jobs = refl
+alone_walk rows pending Stop = refl
+alone_walk rows pending Retry = refl
+
+-- ---- what is pending
+
+-- a value that is pending is taken over
+pub settle_given : (f : Flag) (v : Text) (rows : List Row) → settle_fault run.rules false (holding rows (Some (name_of f, v ∷ []))) ≡ use_fault false (rule_of f) (v ∷ []) rows
+settle_given Jobs v rows = refl
+settle_given Stop v rows = refl
+settle_given Retry v rows = refl
+
+pub settled_given : (f : Flag) (v : Text) (rows : List Row) → (settled run.rules (holding rows (Some (name_of f, v ∷ [])))).rows ≡ used (rule_of f) (v ∷ []) rows
+settled_given Jobs v rows = refl
+settled_given Stop v rows = refl
+settled_given Retry v rows = refl
+
+-- an option that waits may not be left
+settle_waits : (f : Flag) (rows : List Row) → IsRefused (settle_fault run.rules false (holding rows (Some (name_of f, []))))
+settle_waits Jobs rows = tt
+settle_waits Stop rows = tt
+settle_waits Retry rows = tt
 
 pub waits_alone_refused : (f g : Flag) (rows : List Row) → IsRefused (turn_fault run [] (waits f rows) (alone g))
-unfolding clap_on_literals
-waits_alone_refused Stop Stop rows = tt
-waits_alone_refused Stop Retry rows = tt
-waits_alone_refused Retry Stop rows = tt
-waits_alone_refused Retry Retry rows = tt
+waits_alone_refused f g rows =
+    subst IsRefused (sym (alone_turn rows (Some (name_of f, [])) (option (name_of f)) g)) (or_refused (settle_fault run.rules false (holding rows (Some (name_of f, [])))) [] (settle_waits f rows))
 
-pub waits_joined_refused : (f g : Flag) (u : Text) (rows : List Row) → IsRefused (turn_fault run [] (waits f rows) (joined g u))
-unfolding clap_on_literals
-waits_joined_refused Stop Stop u rows = tt
-waits_joined_refused Stop Retry u rows = tt
-waits_joined_refused Retry Stop u rows = tt
-waits_joined_refused Retry Retry u rows = tt
+pub joined_refused : (f : Flag) (value : Text) (before : Kinds) (rows : List Row) → IsRefused before → IsRefused (joined_fault f value before rows)
+joined_refused f value before rows refused =
+    or_refused (or_else before (use_fault false (rule_of f) (value ∷ []) rows)) [] (or_refused before (use_fault false (rule_of f) (value ∷ []) rows) refused)
 
+pub waits_joined_refused : (f : Flag) (g : Joined) (rows : List Row) → IsRefused (turn_fault run [] (waits f rows) (joined g))
+waits_joined_refused f g rows =
+    subst IsRefused (sym (joined_turn rows (Some (name_of f, [])) (option (name_of f)) g))
+    (joined_refused (flag_in g) (value_in g) (settle_fault run.rules false (holding rows (Some (name_of f, [])))) (settled run.rules (holding rows (Some (name_of f, [])))).rows (settle_waits f rows))
+
+-- a plain word is its value
 pub waits_plain : (f : Flag) (word : Text) (rows : List Row) → plain_word run.rules (option (name_of f)) word (holding rows (Some (name_of f, []))) ≡ (holding rows (Some (name_of f, word ∷ [])), next idle)
 unfolding clap_on_literals
+waits_plain Jobs word rows = refl
 waits_plain Stop word rows = refl
 waits_plain Retry word rows = refl
-
--- ---- the end
-
--- the answer at the end, from the fault and the rows of what is taken over there
-abbrev pub ended : Kinds → List Row → Option Command
-ended before rows =
-    taken (or_else before (or_else (defaults_fault rows run.rules) (check_fault run (fold with_default rows run.rules) false))) (by_rows (fold with_default rows run.rules))
-
-pub begun_ended : (rows : List Row) → answer (begun rows) [] ≡ ended [] rows
-unfolding clap_on_literals
-begun_ended rows = refl
-
-pub given_ended : (f : Flag) (v : Text) (rows : List Row) → answer (given f rows v) [] ≡ ended (use_fault false (rule_of f) (v ∷ []) rows) (used (rule_of f) (v ∷ []) rows)
-unfolding clap_on_literals
-given_ended Stop v rows = refl
-given_ended Retry v rows = refl
-
--- an option without a value gives no command
-pub waits_ended : (f : Flag) (rows : List Row) → answer (waits f rows) [] ≡ None
-unfolding clap_on_literals
-waits_ended Stop rows = refl
-waits_ended Retry rows = refl
-
-same_if : {X : Type 0} (b : Bool) (x : X) → cond b x x ≡ x
-same_if true x = refl
-same_if false x = refl
-
-no_default : (f : Flag) (rows : List Row) → with_default rows (rule_of f) ≡ rows
-no_default Stop rows = same_if (has_row (name_of Stop) rows) rows
-no_default Retry rows = same_if (has_row (name_of Retry) rows) rows
-
-no_fault : (f : Flag) (rows : List Row) → default_fault rows (rule_of f) ≡ []
-no_fault Stop rows = go (has_row (name_of Stop) rows)
-  where
-    go : (b : Bool) → cond (b || true) [] (given_default_fault (rule_of Stop) []) ≡ []
-    go true = refl
-    go false = refl
-no_fault Retry rows = go (has_row (name_of Retry) rows)
-  where
-    go : (b : Bool) → cond (b || true) [] (given_default_fault (rule_of Retry) []) ≡ []
-    go true = refl
-    go false = refl
-
--- the rows as they are
-defaults_none : (rows : List Row) → fold with_default rows run.rules ≡ rows
-defaults_none rows = ap (λ (rs : List Row). with_default rs (rule_of Retry)) (no_default Stop rows) ∙ no_default Retry rows
-
--- and no fault
-no_faults : (rows : List Row) → defaults_fault rows run.rules ≡ []
-unfolding clap_on_literals
-no_faults rows = ap₂ or_else (no_fault Stop rows) (ap (λ (f : Kinds). or_else f []) (no_fault Retry (with_default rows (rule_of Stop))))
-
--- the words end between two options: what was found gives the command
-pub all_read : (rows : List Row) → answer (begun rows) [] ≡ by_rows rows
-all_read rows =
-    begun_ended rows
-    ∙ ap₂ (λ (f : Kinds) (rs : List Row). taken (or_else f (check_fault run rs false)) (by_rows rs)) (no_faults rows) (defaults_none rows)

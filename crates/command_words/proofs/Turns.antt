@@ -5,13 +5,13 @@ use Rattle.std.specs.Option.{option_map_or}
 use Rattle.std.specs.List.{fold}
 use Rattle.std.specs.Str.{chars}
 use Rattle.clap.specs.Lexer.{long_of, short_of}
-use Rattle.clap.specs.Walk.{Held, Names, Row, Step, Text, Waiting, Walk, after_flag, arg_by_index, arg_by_long, arg_by_short, bundle_met, bundle_step, finished, idle, long_or_other, plain, plain_word, settled, short_or_plain, subcommand_met, subcommand_or_other, trailing, walked, word_met}
+use Rattle.clap.specs.Walk.{Held, Names, Row, Step, Text, Waiting, Walk, after_flag, after_step, arg_by_index, arg_by_long, arg_by_short, bundle_met, bundle_step, finished, idle, long_or_other, plain, plain_word, settled, short_or_plain, subcommand_met, subcommand_or_other, to_positional, trailing, value, walked, word_met}
 use Rattle.clap.specs.Simple.{Shape}
 use Rattle.clap.specs.Kinds.{Kinds, or_else}
 use Rattle.clap.specs.Faults.{bundle_fault, bundle_step_fault, check_fault, defaults_fault, flag_word_fault, flags_fault, long_fault, other_fault, positional_fault, settle_fault, short_fault, step_fault, stray_fault, turn_fault, walk_fault, word_fault}
 use Rattle.clap.specs.declared.error.ErrorKind.TheVariants.{UnknownArgument, InvalidSubcommand}
 use Rattle.command_words.specs.declared.command.Command.{Command}
-use Rattle.command_words.proofs.OptionWords.{long_parts, short_parts}
+use Rattle.command_words.proofs.WordParts.{long_parts, short_parts}
 
 abbrev pub dashes : Text
 dashes = 45 ∷ 45 ∷ []
@@ -51,7 +51,7 @@ stray_refused s = go s.is_leaf
 -- the command has no flag of the word's name
 pub record KnowsNot (s : Shape) (word : Text) : Type 0 where
   pub long : (p : Text × Option Text) → long_of word ≡ Some p → arg_by_long s.rules p.0 ≡ None
-  pub short : (c : ℕ) → arg_by_short s.rules c ≡ None
+  pub short : (flags : Text) → short_of word ≡ Some flags → (c : ℕ) → slice_get (chars flags) 0 ≡ Some c → arg_by_short s.rules c ≡ None
 
 abbrev pub Begins : Text → Type 0
 Begins word = (rest : Text) × (word ≡ 45 ∷ rest)
@@ -59,8 +59,8 @@ Begins word = (rest : Text) × (word ≡ 45 ∷ rest)
 abbrev pub holding : List Row → Option (Text × List Text) → Held
 holding rows pending = record { rows = rows; pending = pending; skip = 0 }
 
-abbrev pub at : Held → Waiting → Walk
-at h waiting = record { held = h; waiting = waiting; position = 1; is_trailing = false; stopped = None }
+abbrev pub at : ℕ → Held → Waiting → Walk
+at position h waiting = record { held = h; waiting = waiting; position = position; is_trailing = false; stopped = None }
 
 module _ (s : Shape) (waiting : Waiting) (word : Text) (rows : List Row) (pending : Option (Text × List Text)) (knows : KnowsNot s word) where
   abbrev h : Held
@@ -69,22 +69,27 @@ module _ (s : Shape) (waiting : Waiting) (word : Text) (rows : List Row) (pendin
   abbrev IsMet : Kinds → Held × Step → Type 0
   IsMet fault met = (IsRefused fault × Begins word) ⊎ ((fault ≡ []) × (met ≡ plain_word s.rules waiting word h))
 
-  flag_met : (begins : Begins word) (k : ℕ) (flags : Text) (c : Option ℕ) → IsMet (bundle_step_fault s.rules s.args_override_self c flags 0 h (flags_fault s.rules s.args_override_self k))
-      (after_flag s.rules waiting word (bundle_step s.rules c flags 0 plain h (bundle_met s.rules k)).0 (bundle_step s.rules c flags 0 plain h (bundle_met s.rules k)).1)
-  flag_met begins k flags None = inr (refl, refl)
-  flag_met begins k flags (Some x) =
-      let rest = drop (length (encode_utf8 x)) flags in
-      inl (subst (λ a. IsRefused (short_fault s.rules s.args_override_self a rest h (flags_fault s.rules s.args_override_self k rest 0))) (sym (knows.short x)) tt, begins)
+  abbrev NoShort : Option ℕ → Type 0
+  NoShort c = (x : ℕ) → c ≡ Some x → arg_by_short s.rules x ≡ None
 
-  flags_met : (begins : Begins word) (n : ℕ) (flags : Text) → IsMet (flags_fault s.rules s.args_override_self n flags 0 h)
+  flag_met : (begins : Begins word) (k : ℕ) (flags : Text) (c : Option ℕ) → NoShort c
+      → IsMet (bundle_step_fault s.rules s.args_override_self c flags 0 h (flags_fault s.rules s.args_override_self k))
+      (after_flag s.rules waiting word (bundle_step s.rules c flags 0 plain h (bundle_met s.rules k)).0 (bundle_step s.rules c flags 0 plain h (bundle_met s.rules k)).1)
+  flag_met begins k flags None none = inr (refl, refl)
+  flag_met begins k flags (Some x) none =
+      let rest = drop (length (encode_utf8 x)) flags in
+      inl (subst (λ a. IsRefused (short_fault s.rules s.args_override_self a rest h (flags_fault s.rules s.args_override_self k rest 0))) (sym (none x refl)) tt, begins)
+
+  flags_met : (begins : Begins word) (n : ℕ) (flags : Text) → NoShort (slice_get (chars flags) 0)
+      → IsMet (flags_fault s.rules s.args_override_self n flags 0 h)
       (after_flag s.rules waiting word (bundle_met s.rules n flags 0 plain h).0 (bundle_met s.rules n flags 0 plain h).1)
   unfolding flags_fault bundle_met
-  flags_met begins zero flags = inr (refl, refl)
-  flags_met begins (suc k) flags = flag_met begins k flags (slice_get (chars flags) 0)
+  flags_met begins zero flags none = inr (refl, refl)
+  flags_met begins (suc k) flags none = flag_met begins k flags (slice_get (chars flags) 0) none
 
   short_met : (o : Option Text) → short_of word ≡ o → IsMet (option_map_or (λ flags. bundle_fault s.rules s.args_override_self flags h) o []) (short_or_plain s.rules waiting word o h)
   short_met None e = inr (refl, refl)
-  short_met (Some flags) e = flags_met (short_parts word flags e) (length flags) flags
+  short_met (Some flags) e = flags_met (flags, short_parts word flags e) (length flags) flags (knows.short flags e)
 
   long_met : (o : Option (Text × Option Text)) → long_of word ≡ o → IsMet (flag_word_fault s.rules s.args_override_self o word h) (long_or_other s.rules waiting word o h)
   long_met None e = short_met (short_of word) refl
@@ -92,27 +97,63 @@ module _ (s : Shape) (waiting : Waiting) (word : Text) (rows : List Row) (pendin
       let parts = long_parts word p e in
       inl (subst (λ a. IsRefused (long_fault s.rules s.args_override_self a p.1 h)) (sym (knows.long p e)) tt, (45 ∷ parts.0, parts.1))
 
-  pub word_is_met : (names : Names) → subcommand_met names waiting word ≡ None → bytes_eq word dashes ≡ false
-      → IsMet (word_fault s names false waiting word h) (word_met s.rules names false waiting 1 word h)
-  word_is_met names none dash =
-      subst (λ m. IsMet (other_fault s m word h) (subcommand_or_other s.rules m waiting 1 word h)) (sym none)
-      (subst (λ b. IsMet (cond b [] (flag_word_fault s.rules s.args_override_self (long_of word) word h)) (cond b (h, trailing 1) (long_or_other s.rules waiting word (long_of word) h))) (sym dash)
+  pub word_is_met : (names : Names) (position : ℕ) → subcommand_met names waiting word ≡ None → bytes_eq word dashes ≡ false
+      → IsMet (word_fault s names false waiting word h) (word_met s.rules names false waiting position word h)
+  word_is_met names position none dash =
+      subst (λ m. IsMet (other_fault s m word h) (subcommand_or_other s.rules m waiting position word h)) (sym none)
+      (subst (λ b. IsMet (cond b [] (flag_word_fault s.rules s.args_override_self (long_of word) word h)) (cond b (h, trailing position) (long_or_other s.rules waiting word (long_of word) h))) (sym dash)
       (long_met (long_of word) refl))
 
--- where nothing waits for a value and there is no positional, it is refused
-met_idle : (s : Shape) (word : Text) (h : Held) (fault : Kinds) (met : Held × Step) → (IsRefused fault × Begins word) ⊎ ((fault ≡ []) × (met ≡ plain_word s.rules idle word h))
-    → arg_by_index s.rules 1 ≡ None → IsRefused (or_else fault (step_fault s 1 met.0 met.1))
-met_idle s word h fault met (inl r) index = or_refused fault (step_fault s 1 met.0 met.1) r.0
-met_idle s word h fault met (inr r) index =
-    subst (λ f. IsRefused (or_else f (step_fault s 1 met.0 met.1))) (sym r.0)
-    (subst (λ (m : Held × Step). IsRefused (step_fault s 1 m.0 m.1)) (sym r.1)
-    (subst (λ a. IsRefused (option_map_or (λ x. positional_fault s.rules s.args_override_self x h) a (stray_fault s))) (sym index) (stray_refused s)))
+-- ---- a word where nothing waits for a value
 
-pub stray : (s : Shape) (names : Names) (word : Text) (rows : List Row) (pending : Option (Text × List Text)) → KnowsNot s word → arg_by_index s.rules 1 ≡ None
-    → subcommand_met names idle word ≡ None → bytes_eq word dashes ≡ false → IsRefused (turn_fault s names (at (holding rows pending) idle) word)
-stray s names word rows pending knows index none dash =
-    met_idle s word (holding rows pending) (word_fault s names false idle word (holding rows pending)) (word_met s.rules names false idle 1 word (holding rows pending))
-    (word_is_met s idle word rows pending knows names none dash) index
+module _ (s : Shape) (word : Text) (h : Held) (position : ℕ) (fault : Kinds) (met : Held × Step) where
+  abbrev all_fault : Kinds
+  all_fault = or_else fault (step_fault s position met.0 met.1)
+
+  abbrev pub IsIdleMet : Type 0
+  IsIdleMet = (IsRefused all_fault × Begins word) ⊎ ((all_fault ≡ step_fault s position h value) × (met ≡ (h, value)))
+
+  -- it is refused, or goes to the positional of its place
+  idle_met : (IsRefused fault × Begins word) ⊎ ((fault ≡ []) × (met ≡ plain_word s.rules idle word h)) → IsIdleMet
+  idle_met (inl r) = inl (or_refused fault (step_fault s position met.0 met.1) r.0, r.1)
+  idle_met (inr r) = inr (ap₂ (λ (f : Kinds) (m : Held × Step). or_else f (step_fault s position m.0 m.1)) r.0 r.1, r.1)
+
+  -- and it is refused where there is none
+  met_none : IsIdleMet → arg_by_index s.rules position ≡ None → IsRefused all_fault
+  met_none (inl r) index = r.0
+  met_none (inr r) index =
+      subst IsRefused (sym r.0)
+      (subst (λ a. IsRefused (option_map_or (λ x. positional_fault s.rules s.args_override_self x h) a (stray_fault s))) (sym index) (stray_refused s))
+
+module _ (s : Shape) (names : Names) (word : Text) (rows : List Row) (pending : Option (Text × List Text)) (position : ℕ) (knows : KnowsNot s word) (none : subcommand_met names idle word ≡ None) (dash : bytes_eq word dashes ≡ false) where
+  abbrev here : Held
+  here = holding rows pending
+
+  abbrev word_here : Kinds
+  word_here = word_fault s names false idle word here
+
+  abbrev met_here : Held × Step
+  met_here = word_met s.rules names false idle position word here
+
+  is_met : IsIdleMet s word here position word_here met_here
+  is_met = idle_met s word here position word_here met_here (word_is_met s idle word rows pending knows names position none dash)
+
+  pub stray : arg_by_index s.rules position ≡ None → IsRefused (turn_fault s names (at position here idle) word)
+  stray index = met_none s word here position word_here met_here is_met index
+
+  abbrev pub IsPlaced : Type 0
+  IsPlaced = (IsRefused (turn_fault s names (at position here idle) word) × Begins word)
+      ⊎ ((turn_fault s names (at position here idle) word ≡ step_fault s position here value)
+      × (walked s.rules names (at position here idle) word ≡ to_positional s.rules (arg_by_index s.rules position) word (at position here idle) here))
+
+  by_place : IsIdleMet s word here position word_here met_here → IsPlaced
+  unfolding walked
+  by_place (inl r) = inl r
+  by_place (inr r) = inr (r.0, ap (λ (m : Held × Step). after_step s.rules word (at position here idle) m.0 m.1) r.1)
+
+  -- it is refused, or a value of the positional of its place
+  pub placed : IsPlaced
+  placed = by_place is_met
 
 -- ---- a level of the parse, word by word
 

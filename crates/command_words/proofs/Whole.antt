@@ -15,12 +15,15 @@ use Rattle.clap.proofs.FaultLemmas.{stopped_fault}
 use Rattle.clap.proofs.WalkLemmas.{walk_stopped}
 use Rattle.command_words.specs.declared.command.Command.{Command}
 use Rattle.command_words.specs.declared.command.Command.TheVariants.{Init, List as Listing, Status, Source}
-use Rattle.command_words.specs.Commands.{alone, command_of, no_options, one_word, options_of, run_with}
+use Rattle.command_words.specs.Commands.{alone, command_of, demo_of, no_options, one_word, options_of, run_with}
 use Rattle.command_words.specs.Program.{command_by, command_line, leaf}
-use Rattle.command_words.proofs.Turns.{IsRefused, dashes, end_fault, or_refused, refused_at, stray, taken, taken_last, taken_refused, verdict}
+use Rattle.command_words.proofs.DemoWords.{demo, demo_words}
+use Rattle.command_words.proofs.DemoWords as demos
 use Rattle.command_words.proofs.OptionList.{dashes_none, run_words}
 use Rattle.command_words.proofs.RunTurns.{IsClean, below, by_rows, run}
 use Rattle.command_words.proofs.RunTurns as places
+use Rattle.command_words.proofs.Turns.{IsRefused, dashes, end_fault, or_refused, refused_at, stray, taken, taken_last, taken_refused, verdict}
+use Rattle.command_words.proofs.WordParts.{AreTexts}
 
 -- no word is read yet
 abbrev begun : Walk
@@ -61,99 +64,108 @@ unfolding clap_on_literals
 run_named rest clean = enters (codes "run") rest refl refl
     ∙ taken_last (level_fault run [] nothing_held rest false []) (by_rows (finished run.rules (fold (walked run.rules []) begun rest).held)) ∙ run_words rest clean
 
+demo_named : (rest : List Text) → IsClean rest → whole (codes "demo" ∷ rest) ≡ command_of (codes "demo" ∷ rest)
+unfolding clap_on_literals
+demo_named rest clean = enters (codes "demo") rest refl refl
+    ∙ taken_last (level_fault demo [] nothing_held rest false []) (demos.by_rows (finished demo.rules (fold (walked demo.rules []) begun rest).held)) ∙ demo_words rest clean
+
+-- the command that a word names with these behind it, where it is neither `run` nor `demo`
+named : (name : Text) (rest : List Text) → bytes_eq name (codes "run") ≡ false → bytes_eq name (codes "demo") ≡ false → command_of (name ∷ rest) ≡ alone name rest
+named name rest no_run no_demo =
+    ap (λ (b : Bool). cond b (run_with (options_of no_options rest)) (cond (bytes_eq name (codes "demo")) (demo_of rest) (alone name rest))) no_run
+    ∙ ap (λ (b : Bool). cond b (demo_of rest) (alone name rest)) no_demo
+
 -- behind a command without options nothing may stand
-bare : (name : Text) (command : Command) → bytes_eq name (codes "run") ≡ false → one_word name ≡ Some command → (rest : List Text) → IsClean rest
+bare : (name : Text) (command : Command) → bytes_eq name (codes "run") ≡ false → bytes_eq name (codes "demo") ≡ false → one_word name ≡ Some command → (rest : List Text) → IsClean rest
     → verdict (below (leaf name)) (λ rows. Some command) begun rest ≡ command_of (name ∷ rest)
 unfolding clap_on_literals
-bare name command other is [] clean = sym (ap (λ (b : Bool). cond b (run_with (options_of no_options [])) (one_word name)) other ∙ is)
-bare name command other is (x ∷ rest) clean = refused ∙ sym (go rest)
+bare name command no_run no_demo is [] clean = sym (named name [] no_run no_demo ∙ is)
+bare name command no_run no_demo is (x ∷ rest) clean = refused ∙ sym (named name (x ∷ rest) no_run no_demo)
   where
     refused : verdict (below (leaf name)) (λ rows. Some command) begun (x ∷ rest) ≡ None
     refused = refused_at (below (leaf name)) (λ rows. Some command) begun x rest
-        (stray (below (leaf name)) [] x [] None (record { long = λ p e. refl; short = λ c. refl }) refl refl clean.0)
-
-    go : (more : List Text) → command_of (name ∷ x ∷ more) ≡ None
-    go more = ap (λ (b : Bool). cond b (run_with (options_of no_options (x ∷ more))) None) other
+        (stray (below (leaf name)) [] x [] None 1 (record { long = λ p e. refl; short = λ flags e c first. refl }) refl clean.0.no_dashes refl)
 
 init_named : (rest : List Text) → IsClean rest → whole (codes "init" ∷ rest) ≡ command_of (codes "init" ∷ rest)
 unfolding clap_on_literals
 init_named rest clean = enters (codes "init") rest refl refl
-    ∙ taken_last (level_fault (below (leaf (codes "init"))) [] nothing_held rest false []) (Some Init) ∙ bare (codes "init") Init refl refl rest clean
+    ∙ taken_last (level_fault (below (leaf (codes "init"))) [] nothing_held rest false []) (Some Init) ∙ bare (codes "init") Init refl refl refl rest clean
 
 list_named : (rest : List Text) → IsClean rest → whole (codes "list" ∷ rest) ≡ command_of (codes "list" ∷ rest)
 unfolding clap_on_literals
 list_named rest clean = enters (codes "list") rest refl refl
-    ∙ taken_last (level_fault (below (leaf (codes "list"))) [] nothing_held rest false []) (Some Listing) ∙ bare (codes "list") Listing refl refl rest clean
+    ∙ taken_last (level_fault (below (leaf (codes "list"))) [] nothing_held rest false []) (Some Listing) ∙ bare (codes "list") Listing refl refl refl rest clean
 
 status_named : (rest : List Text) → IsClean rest → whole (codes "status" ∷ rest) ≡ command_of (codes "status" ∷ rest)
 unfolding clap_on_literals
 status_named rest clean = enters (codes "status") rest refl refl
-    ∙ taken_last (level_fault (below (leaf (codes "status"))) [] nothing_held rest false []) (Some Status) ∙ bare (codes "status") Status refl refl rest clean
+    ∙ taken_last (level_fault (below (leaf (codes "status"))) [] nothing_held rest false []) (Some Status) ∙ bare (codes "status") Status refl refl refl rest clean
 
 source_named : (rest : List Text) → IsClean rest → whole (codes "source" ∷ rest) ≡ command_of (codes "source" ∷ rest)
 unfolding clap_on_literals
 source_named rest clean = enters (codes "source") rest refl refl
-    ∙ taken_last (level_fault (below (leaf (codes "source"))) [] nothing_held rest false []) (Some Source) ∙ bare (codes "source") Source refl refl rest clean
+    ∙ taken_last (level_fault (below (leaf (codes "source"))) [] nothing_held rest false []) (Some Source) ∙ bare (codes "source") Source refl refl refl rest clean
 
 -- ---- no command
 
 turned : (a b : Text) → bytes_eq a b ≡ false → bytes_eq b a ≡ false
 turned a b e = false_from_ne_true _ (λ same. true≢false (sym ((bytes_eq-Decides a b).1 (sym ((bytes_eq-Decides b a).0 same))) ∙ e))
 
-abbrev met_by : Bool → Bool → Bool → Bool → Bool → Option Text
-met_by a b c d e = option_map (λ (s : Text × List Text). s.0)
+abbrev met_by : Bool → Bool → Bool → Bool → Bool → Bool → Option Text
+met_by a b c d e f = option_map (λ (s : Text × List Text). s.0)
     (cond (a || false) (Some (codes "init", [])) (cond (b || false) (Some (codes "run", []))
     (cond (c || false) (Some (codes "list", [])) (cond (d || false) (Some (codes "status", []))
-    (cond (e || false) (Some (codes "source", [])) None)))))
+    (cond (e || false) (Some (codes "source", [])) (cond (f || false) (Some (codes "demo", [])) None))))))
 
-no_name : (word : Text) (rest : List Text) → IsClean (word ∷ rest) → bytes_eq word (codes "init") ≡ false → bytes_eq word (codes "run") ≡ false
-    → bytes_eq word (codes "list") ≡ false → bytes_eq word (codes "status") ≡ false → bytes_eq word (codes "source") ≡ false → whole (word ∷ rest) ≡ command_of (word ∷ rest)
-no_name word rest clean no_init no_run no_list no_status no_source = refused ∙ sym (go rest)
+-- the word is no command's name
+record NoName (word : Text) : Type 0 where
+  no_init : bytes_eq word (codes "init") ≡ false
+  no_run : bytes_eq word (codes "run") ≡ false
+  no_list : bytes_eq word (codes "list") ≡ false
+  no_status : bytes_eq word (codes "status") ≡ false
+  no_source : bytes_eq word (codes "source") ≡ false
+  no_demo : bytes_eq word (codes "demo") ≡ false
+
+no_name : (word : Text) (rest : List Text) → IsClean (word ∷ rest) → NoName word → whole (word ∷ rest) ≡ command_of (word ∷ rest)
+no_name word rest clean other = refused ∙ sym (named word rest other.no_run other.no_demo ∙ go rest)
   where
     none : subcommand_met names idle word ≡ None
-    none = λ i. met_by (turned word (codes "init") no_init i) (turned word (codes "run") no_run i) (turned word (codes "list") no_list i) (turned word (codes "status") no_status i) (turned word (codes "source") no_source i)
+    none = λ i. met_by (turned word (codes "init") other.no_init i) (turned word (codes "run") other.no_run i) (turned word (codes "list") other.no_list i) (turned word (codes "status") other.no_status i)
+        (turned word (codes "source") other.no_source i) (turned word (codes "demo") other.no_demo i)
 
     strays : IsRefused (turn_fault line.top names begun word)
-    strays = stray line.top names word [] None (record { long = λ p e. refl; short = λ c. refl }) refl none clean.0
+    strays = stray line.top names word [] None 1 (record { long = λ p e. refl; short = λ flags e c first. refl }) none clean.0.no_dashes refl
 
     refused : whole (word ∷ rest) ≡ None
     refused = first_word word rest
         ∙ taken_refused (or_else (turn_fault line.top names begun word) (walk_fault line.top names (walked line.top.rules names begun word) rest)) _ _
         (or_refused (turn_fault line.top names begun word) _ strays)
 
-    go : (more : List Text) → command_of (word ∷ more) ≡ None
-    go [] = rw (no_run, no_init, no_list, no_status, no_source) refl
-    go (x ∷ more) = ap (λ (b : Bool). cond b (run_with (options_of no_options (x ∷ more))) None) no_run
+    go : (more : List Text) → alone word more ≡ None
+    go [] = rw (other.no_init, other.no_list, other.no_status, other.no_source) refl
+    go (x ∷ more) = refl
 
 -- ---- all words
+
+at_name : (word name : Text) (rest : List Text) → bytes_eq word name ≡ true → whole (name ∷ rest) ≡ command_of (name ∷ rest) → whole (word ∷ rest) ≡ command_of (word ∷ rest)
+at_name word name rest same h = subst (λ x. whole (x ∷ rest) ≡ command_of (x ∷ rest)) (sym ((bytes_eq-Decides word name).0 same)) h
 
 words_are : (words : List Text) → IsClean words → whole words ≡ command_of words
 unfolding clap_on_literals
 words_are [] clean = refl
-words_are (word ∷ rest) clean = first (bytes_eq word (codes "init")) refl
+words_are (word ∷ rest) clean = by_name (bytes_eq word (codes "init")) refl (bytes_eq word (codes "run")) refl (bytes_eq word (codes "list")) refl (bytes_eq word (codes "status")) refl
+    (bytes_eq word (codes "source")) refl (bytes_eq word (codes "demo")) refl
   where
-    at_name : (name : Text) → bytes_eq word name ≡ true → whole (name ∷ rest) ≡ command_of (name ∷ rest) → whole (word ∷ rest) ≡ command_of (word ∷ rest)
-    at_name name same h = subst (λ x. whole (x ∷ rest) ≡ command_of (x ∷ rest)) (sym ((bytes_eq-Decides word name).0 same)) h
-
-    fifth : (b : Bool) → bytes_eq word (codes "source") ≡ b → bytes_eq word (codes "init") ≡ false → bytes_eq word (codes "run") ≡ false → bytes_eq word (codes "list") ≡ false → bytes_eq word (codes "status") ≡ false → whole (word ∷ rest) ≡ command_of (word ∷ rest)
-    fifth true e no_init no_run no_list no_status = at_name (codes "source") e (source_named rest clean.1)
-    fifth false e no_init no_run no_list no_status = no_name word rest clean no_init no_run no_list no_status e
-
-    fourth : (b : Bool) → bytes_eq word (codes "status") ≡ b → bytes_eq word (codes "init") ≡ false → bytes_eq word (codes "run") ≡ false → bytes_eq word (codes "list") ≡ false → whole (word ∷ rest) ≡ command_of (word ∷ rest)
-    fourth true e no_init no_run no_list = at_name (codes "status") e (status_named rest clean.1)
-    fourth false e no_init no_run no_list = fifth (bytes_eq word (codes "source")) refl no_init no_run no_list e
-
-    third : (b : Bool) → bytes_eq word (codes "list") ≡ b → bytes_eq word (codes "init") ≡ false → bytes_eq word (codes "run") ≡ false → whole (word ∷ rest) ≡ command_of (word ∷ rest)
-    third true e no_init no_run = at_name (codes "list") e (list_named rest clean.1)
-    third false e no_init no_run = fourth (bytes_eq word (codes "status")) refl no_init no_run e
-
-    second : (b : Bool) → bytes_eq word (codes "run") ≡ b → bytes_eq word (codes "init") ≡ false → whole (word ∷ rest) ≡ command_of (word ∷ rest)
-    second true e no_init = at_name (codes "run") e (run_named rest clean.1)
-    second false e no_init = third (bytes_eq word (codes "list")) refl no_init e
-
-    first : (b : Bool) → bytes_eq word (codes "init") ≡ b → whole (word ∷ rest) ≡ command_of (word ∷ rest)
-    first true e = at_name (codes "init") e (init_named rest clean.1)
-    first false e = second (bytes_eq word (codes "run")) refl e
+    by_name : (a : Bool) → bytes_eq word (codes "init") ≡ a → (b : Bool) → bytes_eq word (codes "run") ≡ b → (c : Bool) → bytes_eq word (codes "list") ≡ c → (d : Bool) → bytes_eq word (codes "status") ≡ d
+        → (e : Bool) → bytes_eq word (codes "source") ≡ e → (f : Bool) → bytes_eq word (codes "demo") ≡ f → whole (word ∷ rest) ≡ command_of (word ∷ rest)
+    by_name true is b hb c hc d hd e he f hf = at_name word (codes "init") rest is (init_named rest clean.1)
+    by_name false ha true is c hc d hd e he f hf = at_name word (codes "run") rest is (run_named rest clean.1)
+    by_name false ha false hb true is d hd e he f hf = at_name word (codes "list") rest is (list_named rest clean.1)
+    by_name false ha false hb false hc true is e he f hf = at_name word (codes "status") rest is (status_named rest clean.1)
+    by_name false ha false hb false hc false hd true is f hf = at_name word (codes "source") rest is (source_named rest clean.1)
+    by_name false ha false hb false hc false hd false he true is = at_name word (codes "demo") rest is (demo_named rest clean.1)
+    by_name false ha false hb false hc false hd false he false hf =
+        no_name word rest clean (record { no_init = ha; no_run = hb; no_list = hc; no_status = hd; no_source = he; no_demo = hf })
 
 -- a parse that succeeds gives the command of the words
 pub accepted : (words : List Text) → IsClean words → fault_of command_line words ≡ [] → command_by (subcommand_of command_line words) ≡ command_of words
@@ -169,14 +181,14 @@ refused words clean k among = go (fault_of command_line words) among (words_are 
 
 -- ---- words with `--`
 
-pub clean_from : (words : List Text) → list_any (λ word. bytes_eq word dashes) words ≡ false → IsClean words
-clean_from [] e = tt
-clean_from (word ∷ rest) e = go (bytes_eq word dashes) refl e (clean_from rest)
+pub clean_from : (words : List Text) → AreTexts words → list_any (λ word. bytes_eq word dashes) words ≡ false → IsClean words
+clean_from [] texts e = tt
+clean_from (word ∷ rest) texts e = go (bytes_eq word dashes) refl e (clean_from rest texts.1)
   where
     go : (b : Bool) → bytes_eq word dashes ≡ b → (b || list_any (λ x. bytes_eq x dashes) rest) ≡ false → (list_any (λ x. bytes_eq x dashes) rest ≡ false → IsClean rest)
         → IsClean (word ∷ rest)
     go true same bad more = absurd (true≢false bad)
-    go false other h more = (other, more h)
+    go false other h more = (record { no_dashes = other; text = texts.0 }, more h)
 
 -- they give no command
 pub with_dashes : (words : List Text) → list_any (λ word. bytes_eq word dashes) words ≡ true → None ≡ command_of words
@@ -191,10 +203,11 @@ with_dashes (word ∷ rest) e = go (bytes_eq word dashes) refl e
     dash_alone [] = refl
     dash_alone (x ∷ xs) = refl
 
-    behind : (b : Bool) → list_any (λ x. bytes_eq x dashes) rest ≡ true → None ≡ cond b (run_with (options_of no_options rest)) (alone word rest)
-    behind true h = sym (ap run_with (dashes_none no_options rest h))
-    behind false h = more rest h
+    behind : (a b : Bool) → list_any (λ x. bytes_eq x dashes) rest ≡ true → None ≡ cond a (run_with (options_of no_options rest)) (cond b (demo_of rest) (alone word rest))
+    behind true b h = sym (ap run_with (dashes_none no_options rest h))
+    behind false true h = demos.dashes_none rest h
+    behind false false h = more rest h
 
     go : (b : Bool) → bytes_eq word dashes ≡ b → (b || list_any (λ x. bytes_eq x dashes) rest) ≡ true → None ≡ command_of (word ∷ rest)
     go true same h = subst (λ x. None ≡ command_of (x ∷ rest)) (sym ((bytes_eq-Decides word dashes).0 same)) (dash_alone rest)
-    go false other h = behind (bytes_eq word (codes "run")) h
+    go false other h = behind (bytes_eq word (codes "run")) (bytes_eq word (codes "demo")) h

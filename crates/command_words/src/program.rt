@@ -1,9 +1,9 @@
-//! The command line as `clap` knows it: a subcommand for each command, and the two options of `run`. `clap`'s own help is
-//! switched off, so that `help`, `-h` and `--help` are words that it does not know.
+//! The command line as `clap` knows it: a subcommand for each command, the three options of `run`, and the two words behind `demo`.
+//! `clap`'s own help is switched off, so that `help`, `-h` and `--help` are words that it does not know.
 ghost use Rattle.std.specs.Prelude.{◌≡◌, IfOk, false};
 ghost use Rattle.clap.specs.Words.{app_of};
 ghost use Rattle.clap.specs.declared.builder.command.Command.TheViews.{out-Command as fields_of};
-ghost use Rattle.command_words.specs.Program.{command_line, run_line};
+ghost use Rattle.command_words.specs.Program.{command_line, demo_line, run_line};
 
 use clap::{Arg, ArgAction};
 use std::alloc::{AllocError, Global};
@@ -13,6 +13,7 @@ pub(crate) fn command_line<'a>(alloc: Global) -> Result<clap::Command<'a>, Alloc
     ensures { IfOk result (λ line. app_of line ≡ command_line) }
 {
     let run = run_line(alloc)?;
+    let demo = demo_line(alloc)?;
     clap::Command::new(alloc, "mcy")
         .no_binary_name(true)
         .disable_help_flag(true)
@@ -21,7 +22,8 @@ pub(crate) fn command_line<'a>(alloc: Global) -> Result<clap::Command<'a>, Alloc
         .subcommand(run)?
         .subcommand(clap::Command::new(alloc, "list"))?
         .subcommand(clap::Command::new(alloc, "status"))?
-        .subcommand(clap::Command::new(alloc, "source"))
+        .subcommand(clap::Command::new(alloc, "source"))?
+        .subcommand(demo)
 }
 
 /// `run` with its options.
@@ -29,11 +31,25 @@ fn run_line<'a>(alloc: Global) -> Result<clap::Command<'a>, AllocError>
     ensures shape { IfOk result (λ line. app_of line ≡ run_line) }
     ensures local { IfOk result (λ line. (fields_of line).has_globals ≡ false) }
 {
+    let jobs = Arg::new(alloc, "jobs").short('j').action(ArgAction::Set);
     let stop_after = Arg::new(alloc, "stop-after")
         .long("stop-after")
         .action(ArgAction::Set);
     let retry = Arg::new(alloc, "retry")
         .long("retry")
         .action(ArgAction::Set);
-    clap::Command::new(alloc, "run").arg(stop_after)?.arg(retry)
+    clap::Command::new(alloc, "run")
+        .arg(jobs)?
+        .arg(stop_after)?
+        .arg(retry)
+}
+
+/// `demo` with its two words.
+fn demo_line<'a>(alloc: Global) -> Result<clap::Command<'a>, AllocError>
+    ensures shape { IfOk result (λ line. app_of line ≡ demo_line) }
+    ensures local { IfOk result (λ line. (fields_of line).has_globals ≡ false) }
+{
+    let seed = Arg::new(alloc, "seed").action(ArgAction::Set);
+    let cells = Arg::new(alloc, "cells").action(ArgAction::Set);
+    clap::Command::new(alloc, "demo").arg(seed)?.arg(cells)
 }

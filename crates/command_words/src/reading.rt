@@ -1,12 +1,13 @@
 //! Reading the words after the program's name: `init`, `run`, `list`, `status` or `source`, alone, or `run` with its options, each at
-//! most once and in any order: `--stop-after N` or `--stop-after=N`, and `--retry N` or `--retry=N`.
+//! most once and in any order: `-j N`, `-jN` or `-j=N`, `--stop-after N` or `--stop-after=N`, and `--retry N` or `--retry=N`; or `demo`
+//! with two numbers.
 ghost use Rattle.std.specs.Prelude.{◌≡◌, IfOk, bytes_eq, codes, map, string_bytes};
 ghost use Rattle.std.specs.List.{list_any};
 ghost use Rattle.clap.specs.Words.{subcommand_rows_of};
 ghost use Rattle.command_words.specs.Commands.{command_of};
 ghost use Rattle.command_words.specs.Program.{command_by};
 
-use crate::command::{Command, run_by};
+use crate::command::{Command, demo_by, run_by};
 use crate::program::command_line;
 use clap::ArgMatches;
 use clap::error::ErrorKind;
@@ -46,10 +47,15 @@ fn matched(matches: &ArgMatches<'_>) -> Option<Command>
     let (name, inner) = matches.subcommand()?;
     match name {
         "init" => Some(Command::Init),
-        "run" => run_by(inner.get_str("stop-after"), inner.get_str("retry")),
+        "run" => run_by(
+            inner.get_str("jobs"),
+            inner.get_str("stop-after"),
+            inner.get_str("retry"),
+        ),
         "list" => Some(Command::List),
         "status" => Some(Command::Status),
         "source" => Some(Command::Source),
+        "demo" => demo_by(inner.get_str("seed"), inner.get_str("cells")),
         _ => None,
     }
 }

@@ -9,7 +9,7 @@ use Rattle.command_words.specs.declared.command.Command.{Command}
 use Rattle.keeper_file.specs.Contents.{HasOnly}
 use Rattle.keeper_file.proofs.Reopened.{empty_found}
 use Rattle.mcy_top.specs.Complete.{IsReady, NoneRose}
-use Rattle.mcy_top.specs.Life.{Early, HasCause, Life}
+use Rattle.mcy_top.specs.Life.{Early, HasCause, Life, Unloaded}
 use Rattle.mcy_top.specs.Histories.{AllFindBooks, AreTurns, IsNew, Left, Turn}
 use Rattle.mcy_top.proofs.Histories.{calls_find, calls_history, calls_safe, calls_tell}
 use Rattle.file_calls.specs.Turns.{AreOnFiles, CallsOnFilesAreSafe, EmptyFilesAreBlank, HaveBooks}
@@ -19,6 +19,10 @@ module _ (words : List (List ℕ)) (held : Option Held) (holds : Book → Type 0
   early_on : (new : Option Book → Type 0) (taken taken' : ℕ) (outcome : Outcome) → Early old new taken taken' outcome → Early found new taken taken' outcome
   early_on new taken taken' outcome early = record { early = early.early; leaves_is = λ left is. only left (early.leaves_is left is); steps_is = early.steps_is }
 
+  unloaded_on : (new : Option Book → Type 0) (taken taken' : ℕ) (outcome : Outcome) → Unloaded words old new taken taken' outcome → Unloaded words found new taken taken' outcome
+  unloaded_on new taken taken' outcome (inl early) = inl (early_on new taken taken' outcome early)
+  unloaded_on new taken taken' outcome (inr aside) = inr (record { seed = aside.seed; cells = aside.cells; asked = aside.asked; leaves_is = λ left is. only left (aside.leaves_is left is) })
+
   life_on : (new : Option Book → Type 0) (written written' : Option (List ℕ)) (taken taken' : ℕ) (outcome : Outcome)
       → Life words held holds old new written written' taken taken' outcome → Life words held (λ _. ⊥) found new written written' taken taken' outcome
   life_on new written written' taken taken' outcome life = record {
@@ -26,6 +30,7 @@ module _ (words : List (List ℕ)) (held : Option Held) (holds : Book → Type 0
     prepared = life.prepared;
     loaded = life.loaded;
     asked = life.asked;
+    on_book = life.on_book;
     made = life.made;
     found = λ was none. absurd none;
     allowed = only (Some life.loaded) life.allowed;
@@ -33,14 +38,15 @@ module _ (words : List (List ℕ)) (held : Option Held) (holds : Book → Type 0
   }
 
   pub lived_on : (new : Option Book → Type 0) (written written' : Option (List ℕ)) (outcome : Outcome)
-      → (n : ℕ) × (Early old new 0 n outcome ⊎ Life words held holds old new written written' 0 n outcome)
-      → (n : ℕ) × (Early found new 0 n outcome ⊎ Life words held (λ _. ⊥) found new written written' 0 n outcome)
-  lived_on new written written' outcome (n, (inl early)) = (n, inl (early_on new 0 n outcome early))
+      → (n : ℕ) × (Unloaded words old new 0 n outcome ⊎ Life words held holds old new written written' 0 n outcome)
+      → (n : ℕ) × (Unloaded words found new 0 n outcome ⊎ Life words held (λ _. ⊥) found new written written' 0 n outcome)
+  lived_on new written written' outcome (n, (inl unloaded)) = (n, inl (unloaded_on new 0 n outcome unloaded))
   lived_on new written written' outcome (n, (inr life)) = (n, inr (life_on new written written' 0 n outcome life))
 
   pub ready_on : (command : Command) → IsReady words held (λ _. ⊥) found command → IsReady words held holds old command
   ready_on command ready = record {
     asked = ready.asked;
+    on_book = ready.on_book;
     readable = ready.readable;
     takes = λ c book made left told. ready.takes c book made (only (Some book) left) (λ was none. absurd none);
   }

@@ -2,12 +2,15 @@
 //!
 //! It is generic over `S`, which stands for what the file and its log hold: what is proved here is so for every content, also for
 //! that which an earlier call has left.
-ghost use Rattle.std.specs.Prelude.{◌⊎◌, ℕ, map, string_bytes};
+ghost use Rattle.std.specs.Prelude.{◌≡◌, ◌↔◌, ◌⊎◌, ℕ, Option, map, string_bytes};
 ghost use Rattle.sqlite_wal.specs.Files.{image_at};
 ghost use Rattle.command_words.specs.declared.command.Command.{Command as Asked};
 ghost use Rattle.keeper_file.specs.Contents.{Found};
+ghost use Rattle.mcy_keeper.specs.declared.book.Book.{Book as Pages};
+ghost use Rattle.mcy_top.specs.Commands.{AsksDemo, AsksNoDemo};
 ghost use Rattle.mcy_top.specs.Complete.{Completes, IsReady, NoneRose};
-ghost use Rattle.mcy_top.specs.Life.{Answered, Early, HasCause, IsQuiet, Life};
+ghost use Rattle.mcy_top.specs.Life.{Answered, HasCause, IsQuiet, Life, Unloaded};
+ghost use Rattle.mcy_top.specs.Shown.{Shown};
 
 use campaign_outcomes::Outcome;
 use keeper_file::Database;
@@ -23,7 +26,7 @@ use watched_keeper::{WatchedKeeper, Watcher};
 /// loads the book, and no more than once. The keeper and its watcher are given back, to be ended.
 ///
 /// No book is told as the call begins. The one that it loads is found in the file (`Found`): the clauses are those of `mcy_main` of
-/// `mcy_top`, with what the file holds in place of what a keeper leaves.
+/// `mcy_top`, with what the file holds in place of what a keeper leaves. A demo opens no file and tells the watcher nothing.
 pub fn call_on_file<S: Start, F: SourceFiles, W: Watcher, O: Sink>(
     alloc: Global,
     database: Database<S>,
@@ -36,12 +39,14 @@ pub fn call_on_file<S: Start, F: SourceFiles, W: Watcher, O: Sink>(
     OpeningKeeper<FileStore<FileFrom<S>>, Database<S>>,
     W,
 )
-    ensures answer { Answered (map string_bytes words.now) (F.held files.old) result.0 }
+    ensures answer { AsksNoDemo (map string_bytes words.now) → Answered (map string_bytes words.now) (F.held files.old) result.0 }
     ensures cause { HasCause (F.faults files.old) (F.faults files.new) 0 (⟦<OpeningKeeper<FileStore<FileFrom<S>>, Database<S>> as Keeper>⟧.faults result.1) (O.faults out.old) (O.faults out.new) result.0 }
     ensures quiet { IsQuiet (O.written out.old) (O.written out.new) result.0 }
     ensures life { ⟦<OpeningKeeper<FileStore<FileFrom<S>>, Database<S>> as Keeper>⟧.tells result.1 → (n : ℕ)
-        × (Early (Found (image_at S.Start)) (⟦<OpeningKeeper<FileStore<FileFrom<S>>, Database<S>> as Keeper>⟧.leaves result.1) 0 n result.0
+        × (Unloaded (map string_bytes words.now) (Found (image_at S.Start)) (⟦<OpeningKeeper<FileStore<FileFrom<S>>, Database<S>> as Keeper>⟧.leaves result.1) 0 n result.0
         ⊎ Life (map string_bytes words.now) (F.held files.old) (λ _. ⊥) (Found (image_at S.Start)) (⟦<OpeningKeeper<FileStore<FileFrom<S>>, Database<S>> as Keeper>⟧.leaves result.1) (O.written out.old) (O.written out.new) 0 n result.0) }
+    ensures demo { (seed cells : ℕ) → AsksDemo (map string_bytes words.now) seed cells → (n : ℕ) × Shown seed cells (O.written out.old) (O.written out.new) 0 n result.0 × (files.new ≡ files.old) × (result.2 ≡ watcher)
+        × ((left : Option Pages) → ⟦<OpeningKeeper<FileStore<FileFrom<S>>, Database<S>> as Keeper>⟧.leaves result.1 left ↔ Found (image_at S.Start) left) }
     ensures complete { ⟦<OpeningKeeper<FileStore<FileFrom<S>>, Database<S>> as Keeper>⟧.tells result.1 → (command : Asked) → IsReady (map string_bytes words.now) (F.held files.old) (λ _. ⊥) (Found (image_at S.Start)) command
         → NoneRose (F.faults files.old) (F.faults files.new) 0 (⟦<OpeningKeeper<FileStore<FileFrom<S>>, Database<S>> as Keeper>⟧.faults result.1) (O.faults out.old) (O.faults out.new) → Completes command result.0 }
 {

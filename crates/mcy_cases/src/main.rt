@@ -7,17 +7,20 @@
 //! | `call WORD ..` | Makes the call, and prints its exit status and line, the text, and what the book has then. |
 //! | `book` | Prints the items of the book. |
 //! | `command WORD ..` | Prints the command that the words give. |
+//! | `events SLOTS WORD ..` | Makes the call over an empty book, and drives the same campaign in so many slots by the events of a core. Prints how many rows the call left and how many the events, and how many are the same from the first one on. |
 //!
 //! `call_stage` has the statements that prepare the next call. `''` is the empty word. A line that begins with `#` is printed, and an empty one is left out.
 #![tactic(auto)]
 
+mod events;
 mod telling;
 
 use call_stage::{Stage, World, tell_book, tell_items, tell_text};
-use mcy_top::{Outcome, mcy_call, read_words};
+use events::run_by_events;
+use mcy_top::{Outcome, exit_status, mcy_call, read_words};
 use std::alloc::{AllocError, Global};
 use std::io;
-use telling::tell_outcome;
+use telling::{tell_alike, tell_outcome};
 
 /// The words of a line.
 fn words_of(alloc: Global, line: &str) -> Result<Vec<String>, AllocError> {
@@ -56,6 +59,29 @@ fn make_on<R: Print + AllocGlobal>(rt: &R, stage: &mut Stage, words: &[String]) 
     Ok(())
 }
 
+/// Makes the call that a line gives behind a number of slots, and drives the campaign in so many by events. Prints how alike they are.
+fn compare_events<R: Print + AllocGlobal>(rt: &R, stage: &Stage, line: &str) -> io::Result<()> {
+    let (slots, words) = line.split_once(' ').unwrap_or((line, ""));
+    let words = words_of(rt.alloc(), words)?;
+    let mut called = stage.world()?;
+    let outcome = mcy_call(
+        rt.alloc(),
+        words.as_slice(),
+        &mut called.files,
+        &mut called.keeper,
+        &mut called.out,
+    );
+    let mut driven = stage.world()?;
+    let end = run_by_events(
+        rt.alloc(),
+        &mut driven.files,
+        &mut driven.keeper,
+        slots.parse::<u32>().unwrap_or(0),
+    );
+    println!(rt; "> events {line}: {} {end:?}", exit_status(&outcome))?;
+    tell_alike(rt, called.keeper.held(), driven.keeper.held())
+}
+
 /// Makes the call that a line gives.
 fn make_call<R: Print + AllocGlobal>(rt: &R, stage: &mut Stage, line: &str) -> io::Result<()> {
     let words = words_of(rt.alloc(), line)?;
@@ -79,6 +105,7 @@ fn carry_out<R: Print + AllocGlobal>(rt: &R, stage: &mut Stage, line: &str) -> i
         "call" => make_call(rt, stage, rest),
         "book" => tell_items(rt, stage.book()),
         "command" => tell_command(rt, rest),
+        "events" => compare_events(rt, stage, rest),
         _ => {
             if !stage.prepare(verb, rest)? {
                 println!(rt; "no statement: {line}")?;

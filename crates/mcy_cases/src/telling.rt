@@ -1,6 +1,7 @@
-//! What is printed of the outcome of a call.
+//! What is printed of the outcome of a call, and of two books.
 use call_stage::{tell_bytes, tell_row};
 use mcy_base::Bytes;
+use mcy_keeper::Book;
 use mcy_top::{Outcome, exit_status, fault_line};
 use result_book::BookError;
 use std::io;
@@ -41,4 +42,24 @@ fn tell_item<R: Print + AllocGlobal>(rt: &R, name: &str, item: &Option<Bytes>) -
         Some(bytes) => tell_bytes(rt, bytes.as_slice()),
         None => Ok(()),
     }
+}
+
+/// Prints how many rows two books have, and how many from the first one on are the same.
+pub(crate) fn tell_alike<R: Print + AllocGlobal>(
+    rt: &R,
+    called: &Book,
+    driven: &Book,
+) -> io::Result<()> {
+    let rows = called.journal.as_slice();
+    let others = driven.journal.as_slice();
+    let alike = rows
+        .iter()
+        .zip(others)
+        .take_while(|(row, other)| row == other)
+        .count();
+    println!(rt;
+        "{} rows, {} by events, {alike} alike",
+        rows.len(),
+        others.len()
+    )
 }

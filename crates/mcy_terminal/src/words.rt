@@ -17,7 +17,15 @@ pub fn words_of<R: Env + Alloc<A = Global>>(rt: &R) -> io::Result<Vec<String>> {
 /// What a call with these words tells, when it stops and what it asks again.
 pub fn asked_of(alloc: Global, words: &[String]) -> Asked {
     let (is_of_status, stop_after, retry) = match read_words(alloc, words) {
-        Ok(Some(Command::Run { stop_after, retry })) => (true, stop_after, retry.unwrap_or(0)),
+        Ok(
+            Some(
+                Command::Run {
+                    stop_after,
+                    retry,
+                    ..
+                },
+            ),
+        ) => (true, stop_after, retry.unwrap_or(0)),
         Ok(Some(Command::Status)) => (true, None, 0),
         _ => (false, None, 0),
     };

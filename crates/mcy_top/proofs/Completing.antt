@@ -7,7 +7,7 @@ use Rattle.result_book.specs.declared.check.BookError.{BookError}
 use Rattle.result_book.specs.declared.check.BookError.TheVariants.{Stray, Memory as NoMemoryFor}
 use Rattle.result_book.specs.Rows.{meta_in_second, IsWellFormed}
 use Rattle.command_words.specs.declared.command.Command.{Command}
-use Rattle.command_words.specs.declared.command.Command.TheVariants.{Init, Run, List as Listing, Status, Source}
+use Rattle.command_words.specs.declared.command.Command.TheVariants.{Init, Run, List as Listing, Status, Source, Demo}
 use Rattle.campaign_plan.specs.declared.prepared.Prepared.{Prepared}
 use Rattle.campaign_reading.specs.declared.refusal.Refusal.{Refusal}
 use Rattle.campaign_reading.specs.declared.refusal.Refusal.TheVariants.{ProjectBad as RefusedProject, ScriptBad as RefusedScript, SourceBad as RefusedSource, Missing as RefusedMissing, TooLarge as RefusedTooLarge}
@@ -15,13 +15,14 @@ use Rattle.mcy_top.specs.declared.refusal.BookRefusal.{BookRefusal}
 use Rattle.mcy_top.specs.declared.refusal.BookRefusal.TheVariants.{NoCampaign as RefusedNone, AlreadyBegun as RefusedBegun, BookBad as RefusedBook, Memory as NoMemory}
 use Rattle.campaign_outcomes.specs.declared.outcome.Outcome.{Outcome}
 use Rattle.campaign_outcomes.specs.declared.outcome.Outcome.TheVariants.{Done, Unfinished, Usage, ProjectBad, ScriptBad, SourceBad, Missing, TooLarge, NoCampaign, AlreadyBegun, BookBad, ReadFault, KeeperFault, WriteFault, Memory}
-use Rattle.mcy_top.specs.Commands.{stop_of}
+use Rattle.command_words.specs.Commands.{command_of}
+use Rattle.mcy_top.specs.Commands.{stop_of, AsksNoDemo, OnBook}
 use Rattle.campaign_choice.specs.Campaigns.{meta_of}
 use Rattle.campaign_plan.specs.Campaigns.{IsPlan}
 use Rattle.campaign_reading.specs.Reads.{IsUnmade}
 use Rattle.campaign_reading.specs.Laws.{IsByFiles}
 use Rattle.mcy_top.specs.BookRefusals.{IsBookBad, RefusesBook}
-use Rattle.mcy_top.specs.Life.{Answered, Answers, Early, EndsEarly, HasCause, Life, Takes}
+use Rattle.mcy_top.specs.Life.{Answered, Answers, EndsEarly, HasCause, Life, Takes, Unloaded}
 use Rattle.mcy_top.specs.Complete.{Completes, IsReady, NoneRose}
 use Rattle.campaign_plan.proofs.Plans.{plan_meta}
 use Rattle.campaign_reading.proofs.OneCause.{unmade_not}
@@ -38,10 +39,11 @@ form_meta c book plan form none = let is : meta_of plan.config plan.files ≡ []
 -- what a command takes is blank, or is the campaign's book
 taken_as : (command : Command) (c : Prepared) (book : Book) → Takes command c book → IsBlank book ⊎ IsWellFormed c.campaign book
 taken_as Init c book takes = inl takes
-taken_as (Run stop retry) c book takes = takes
+taken_as (Run jobs stop retry) c book takes = takes
 taken_as Listing c book takes = inr takes
 taken_as Status c book takes = inr takes
 taken_as Source c book takes = inr takes
+taken_as (Demo seed cells) c book takes = absurd takes
 
 -- a blank book is not bad, and neither is the campaign's, nor one that a command finds begun already
 pub blank_not_bad : (c : Prepared) (book : Book) (error : BookError) → IsBlank book → ¬ IsBookBad c book error
@@ -65,10 +67,11 @@ bad_not c book error plan (inr form) bad = form_not_bad c book error plan form b
 
 none_not : (command : Command) (c : Prepared) (book : Book) → IsPlan c → Takes command c book → ¬ RefusesBook command c book RefusedNone
 none_not Init c book plan takes refuses = refuses.1
-none_not (Run stop retry) c book plan takes refuses = refuses.1
+none_not (Run jobs stop retry) c book plan takes refuses = refuses.1
 none_not Listing c book plan form refuses = form_meta c book plan form (blank_meta book refuses.0)
 none_not Status c book plan form refuses = form_meta c book plan form (blank_meta book refuses.0)
 none_not Source c book plan form refuses = form_meta c book plan form (blank_meta book refuses.0)
+none_not (Demo seed cells) c book plan takes refuses = takes
 
 begun_not : (command : Command) (c : Prepared) (book : Book) → Takes command c book → ¬ RefusesBook command c book RefusedBegun
 begun_not command c book takes refuses = refuses.0 (blank_meta book (subst (λ (d : Command). Takes d c book) refuses.1 takes))
@@ -79,10 +82,17 @@ taken_not_refused command c book RefusedBegun plan takes refuses = absurd (begun
 taken_not_refused command c book (RefusedBook error) plan takes refuses = absurd (bad_not c book error plan (taken_as command c book takes) refuses.0)
 taken_not_refused command c book NoMemory plan takes refuses = refl
 
+-- words that give a command on the book ask for no demo
+no_demo : (words : List (List ℕ)) (command : Command) → command_of words ≡ Some command → OnBook command → AsksNoDemo words
+no_demo words command asked on seed cells demo =
+    let is : Some command ≡ Some (Demo seed cells) = sym asked ∙ demo in
+    let same : command ≡ Demo seed cells = cc in
+    subst OnBook same on
+
 pub completes : (words : List (List ℕ)) (held : Option Held) (holds : Book → Type 0) (leaves leaves' : Option Book → Type 0) (written written' : Option (List ℕ)) (taken taken' f f' k k' s s' : ℕ) (command : Command) (o : Outcome)
-    → IsReady words held holds leaves command → NoneRose f f' k k' s s' → Answered words held o → HasCause f f' k k' s s' o
-    → Early leaves leaves' taken taken' o ⊎ Life words held holds leaves leaves' written written' taken taken' o → Completes command o
-completes words held holds leaves leaves' written written' taken taken' f f' k k' s s' command o ready none answer cause (inl early) = go o answer cause early.early
+    → IsReady words held holds leaves command → NoneRose f f' k k' s s' → (AsksNoDemo words → Answered words held o) → HasCause f f' k k' s s' o
+    → Unloaded words leaves leaves' taken taken' o ⊎ Life words held holds leaves leaves' written written' taken taken' o → Completes command o
+completes words held holds leaves leaves' written written' taken taken' f f' k k' s s' command o ready none answer cause (inl (inl early)) = go o (answer (no_demo words command ready.asked ready.on_book)) cause early.early
   where
     bad : (r : Refusal) → IsByFiles r → ¬ IsUnmade held r
     bad r whole why = unmade_not held ready.readable r whole (subst (λ (h : Option Held). IsUnmade h r) ready.readable.told why)
@@ -98,6 +108,7 @@ completes words held holds leaves leaves' written written' taken taken' f f' k k
     go KeeperFault a h e = absurd (none.keeps h)
     go Memory a h e = tt
     go o a h e = absurd e
+completes words held holds leaves leaves' written written' taken taken' f f' k k' s s' command o ready none answer cause (inl (inr aside)) = absurd (no_demo words command ready.asked ready.on_book aside.seed aside.cells aside.asked)
 completes words held holds leaves leaves' written written' taken taken' f f' k k' s s' command o ready none answer cause (inr life) = go o cause life.work.answer
   where
     same : life.command ≡ command

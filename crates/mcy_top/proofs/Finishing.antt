@@ -63,7 +63,7 @@ equality_of c (Some site) (Some (Simulation bench pass fail)) bound word given =
 equality_of c (Some site) None bound word given = absurd given
 equality_of c None trial bound word given = absurd given
 
-unknown_equality : (c : Prepared) (m t bound word : ℕ) → IsRightWord c m t bound word → word ≡ 3 → is_equality (slice_get c.trials t) ≡ true
+pub unknown_equality : (c : Prepared) (m t bound word : ℕ) → IsRightWord c m t bound word → word ≡ 3 → is_equality (slice_get c.trials t) ≡ true
 unknown_equality c m t bound word (inl right) is = absurd (true_known c t (slice_get c.sites m) (slice_get c.trials t) word right is)
 unknown_equality c m t bound word (inr given) is = equality_of c (slice_get c.sites m) (slice_get c.trials t) bound word given
 
@@ -110,7 +110,7 @@ last_right c (e ∷ rows) m t word right is = elim (eqb_tells e.mutation m) [
 abbrev answered : ℕ → ℕ → Answer
 answered test word = record { test = test; word = word }
 
-known_word_at : (words : List (Option ℕ)) (tests : List ℕ) (done : List Answer) (a : Answer) (more : List Answer) → known_of words tests ≡ done ++ a ∷ more → word_at words a.test ≡ Some a.word
+pub known_word_at : (words : List (Option ℕ)) (tests : List ℕ) (done : List Answer) (a : Answer) (more : List Answer) → known_of words tests ≡ done ++ a ∷ more → word_at words a.test ≡ Some a.word
 known_word_at words [] [] a more is = absurd (let never : [] ≡ a ∷ more = is in cc)
 known_word_at words [] (x ∷ done) a more is = absurd (let never : [] ≡ x ∷ (done ++ a ∷ more) = is in cc)
 known_word_at words (t ∷ tests) done a more is = by (λ before. known_word_at words tests before a more) (word_at words t) refl is
@@ -144,12 +144,12 @@ told_word answers t word is = elim (leb_tells 16 t) [
   | inr h ↦ sym (word_at-words_of answers t h.1) ∙ is
 ]
 
-read_word : (c : Campaign) (answers done : List Answer) (a : Answer) (more : List Answer) → read_answers c answers ≡ done ++ a ∷ more → word_in answers a.test ≡ Some a.word
+pub read_word : (c : Campaign) (answers done : List Answer) (a : Answer) (more : List Answer) → read_answers c answers ≡ done ++ a ∷ more → word_in answers a.test ≡ Some a.word
 read_word c answers done a more is = told_word answers a.test a.word (known_word_at (words_of answers) (asked_on c (words_of answers)) done a more is)
 
 -- The read tests of a mutation are the answers that the campaign defines.
 
-read_right : (c : Prepared) (book : Book) (m : ℕ) → AreRight c (history c.campaign book).journal → (done : List Answer) (a : Answer) (more : List Answer) → read_on c.campaign m book.journal ≡ done ++ a ∷ more → IsWordOf c (given_up book.journal) m a.test a.word
+pub read_right : (c : Prepared) (book : Book) (m : ℕ) → AreRight c (history c.campaign book).journal → (done : List Answer) (a : Answer) (more : List Answer) → read_on c.campaign m book.journal ≡ done ++ a ∷ more → IsWordOf c (given_up book.journal) m a.test a.word
 read_right c book m right done a more is =
     let word : word_in (answers_of m book.journal) a.test ≡ Some a.word = read_word c.campaign (answers_of m book.journal) done a more is in
     let same : answers_of m (history c.campaign book).journal ≡ answers_of m book.journal = ap (answers_of m) (history_rows c.campaign book) ∙ seconds_answers (is_first book) c.campaign m book.journal in
@@ -171,7 +171,7 @@ all_answers c pairs rows m zero whole each = let e : m ≡ length c.campaign.mut
 all_answers c pairs rows m (suc n) whole each = (each m (omega (arith, whole)), all_answers c pairs rows (m + 1) n (omega (arith, whole)) each)
 
 -- the answers by mutations are those that the campaign defines
-groups_are : (c : Prepared) (book : Book) → IsPlan c → AreRight c (history c.campaign book).journal → IsFinished c.campaign book → AreAllAnswers c (given_up book.journal) 0 (groups c.campaign book.journal)
+pub groups_are : (c : Prepared) (book : Book) → IsPlan c → AreRight c (history c.campaign book).journal → IsFinished c.campaign book → AreAllAnswers c (given_up book.journal) 0 (groups c.campaign book.journal)
 groups_are c book plan right finished =
     all_answers c (given_up book.journal) book.journal 0 (length c.campaign.mutations) (omega arith) (λ k below. answers_are c book k plan right (finished k below) [] (read_on c.campaign k book.journal) refl)
 

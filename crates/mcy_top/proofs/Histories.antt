@@ -1,7 +1,7 @@
 -- Lists of calls over one keeper.
 use Rattle.std.proofs.Common.{◌≡◌, inl, inr, ℕ, zero, suc, List, [], ◌∷◌, take, refl, sym, subst, Option, Some, IsSomeAnd}
 use Rattle.mcy_keeper.specs.declared.book.Book.{Book}
-use Rattle.mcy_keeper.specs.Books.{LeavesSome}
+use Rattle.mcy_keeper.specs.Books.{LeavesNothingNew, LeavesSome}
 use Rattle.result_book.specs.Rows.{history}
 use Rattle.campaign_plan.specs.declared.prepared.Prepared.{Prepared}
 use Rattle.campaign_outcomes.specs.declared.outcome.Outcome.TheVariants.{Done}
@@ -12,10 +12,10 @@ use Rattle.campaign_run.specs.Crashes.{LeavesBooks}
 use Rattle.mcy_top.specs.Texts.{text_of}
 use Rattle.mcy_top.specs.Life.{Answers, Wrote}
 use Rattle.mcy_top.specs.Lives.{AreSafe, IsHistory, IsStart}
-use Rattle.mcy_top.specs.Histories.{AllFindBooks, AllTellTrue, AreTurns, Call, Cut, CutEarly, Ended, entry_of, IsNew, IsTurn, last_of, Left, lives_of, Loads, TellsFinal, TellsTrue, Turn}
+use Rattle.mcy_top.specs.Histories.{AllFindBooks, AllTellTrue, AreTurns, Call, Cut, CutEarly, Ended, entry_of, IsNew, IsTurn, last_of, Left, lives_of, Loads, LoadsNone, TellsFinal, TellsTrue, Turn}
 use Rattle.campaign_run.proofs.Crashes.{weaker_books}
 use Rattle.mcy_top.proofs.Finishing.{final_is}
-use Rattle.mcy_top.proofs.Living.{course_good, lives_safe, near_good, start_good}
+use Rattle.mcy_top.proofs.Living.{course_good, lives_safe, near_good, start_good, unloaded_left}
 use Rattle.mcy_top.proofs.Once.{right_of}
 
 -- the changes up to a cut lead to the book at that moment
@@ -23,6 +23,10 @@ cut_course : (c : Prepared) (start : Book) (changes : List Book) (end : Book) (c
 cut_course c start changes end zero course = refl
 cut_course c start [] end (suc count) course = refl
 cut_course c start (next ∷ more) end (suc count) course = (course.0, cut_course c next more end count course.1)
+
+-- a call that has loaded no book leaves nothing new
+none_left : {K : Type 0} (leaves : K → Option Book → Type 0) (call : Call K) → LoadsNone leaves call → LeavesNothingNew (leaves call.before) (leaves call.after)
+none_left leaves call unloaded = unloaded_left call.words (leaves call.before) (leaves call.after) call.taken_before call.taken_after call.outcome unloaded
 
 -- the plan of a call that has loaded a book
 plan_of : {K : Type 0} (holds : K → Book → Type 0) (leaves : K → Option Book → Type 0) (call : Call K) (life : Loads holds leaves call) → IsPlan life.prepared
@@ -32,8 +36,8 @@ plan_of holds leaves call life = record { config = life.made.config; files = lif
 goes_on : {K : Type 0} (holds : K → Book → Type 0) (leaves : K → Option Book → Type 0) (P : Book → Type 0) (some : Book) → P some → (found : Option Book → Type 0) → LeavesBooks found P
     → (turns : List (Turn K)) (are : AreTurns holds leaves found turns) → (next : Book) × P next × IsHistory next (lives_of holds leaves found turns are)
 goes_on holds leaves P some has found within [] are = (some, has, tt)
-goes_on holds leaves P some has found within (Ended call ∷ more) (old, (inl early, rest)) =
-    goes_on holds leaves P some has (leaves call.after) (λ left is. within left (old left (early.leaves_is left is))) more rest
+goes_on holds leaves P some has found within (Ended call ∷ more) (old, (inl unloaded, rest)) =
+    goes_on holds leaves P some has (leaves call.after) (λ left is. within left (old left (none_left leaves call unloaded left is))) more rest
 goes_on holds leaves P some has found within (Ended call ∷ more) (old, (inr life, rest)) = (
   life.loaded,
   within (Some life.loaded) (old (Some life.loaded) life.allowed),
@@ -90,7 +94,7 @@ tells_final holds leaves call life was done =
     }
 
 turn_tells : {K : Type 0} (holds : K → Book → Type 0) (leaves : K → Option Book → Type 0) (turn : Turn K) (is : IsTurn holds leaves turn) → LeavesBooks (leaves (entry_of turn)) IsBlankOrGood → TellsTrue holds leaves turn is
-turn_tells holds leaves (Ended call) (inl early) was = tt
+turn_tells holds leaves (Ended call) (inl unloaded) was = tt
 turn_tells holds leaves (Ended call) (inr life) was = tells_final holds leaves call life (was (Some life.loaded) life.allowed)
 turn_tells holds leaves (CutEarly call) cut was = tt
 turn_tells holds leaves (Cut call count) life was = tt
@@ -103,7 +107,7 @@ cut_good holds leaves call count life was =
     course_good life.prepared life.loaded changes (last_of life.loaded changes) (plan_of holds leaves call life) (cut_course life.prepared life.loaded life.work.book.changes life.work.sure count life.work.book.course) was
 
 left_good : {K : Type 0} (holds : K → Book → Type 0) (leaves : K → Option Book → Type 0) (turn : Turn K) (is : IsTurn holds leaves turn) → LeavesBooks (leaves (entry_of turn)) IsBlankOrGood → LeavesBooks (Left holds leaves turn is) IsBlankOrGood
-left_good holds leaves (Ended call) (inl early) was = λ left is. was left (early.leaves_is left is)
+left_good holds leaves (Ended call) (inl unloaded) was = λ left is. was left (none_left leaves call unloaded left is)
 left_good holds leaves (Ended call) (inr life) was =
     let end : IsBlankOrGood life.work.sure = end_good holds leaves call life (was (Some life.loaded) life.allowed) in
     weaker_books (leaves call.after) (IsNear life.prepared life.work.sure) IsBlankOrGood (λ book near. near_good life.prepared life.work.sure book (plan_of holds leaves call life) near end) life.work.book.near

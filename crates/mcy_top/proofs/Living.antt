@@ -6,7 +6,7 @@ use Rattle.std.proofs.lemmas.List.Kept.{AllPairs-cons}
 use Rattle.mcy_keeper.specs.declared.book.Entry.{Entry}
 use Rattle.mcy_keeper.specs.declared.book.Book.{Book}
 use Rattle.std.proofs.lemmas.List.{map-append}
-use Rattle.mcy_keeper.specs.Books.{begins_with, first_number, is_first, with_entry}
+use Rattle.mcy_keeper.specs.Books.{begins_with, first_number, is_first, with_entry, LeavesNothingNew}
 use Rattle.mcy_outside.specs.Files.{Held}
 use Rattle.campaign_plan.specs.declared.prepared.Prepared.{Prepared}
 use Rattle.campaign_outcomes.specs.declared.outcome.Outcome.{Outcome}
@@ -18,7 +18,7 @@ use Rattle.result_book.proofs.Formats.{history_rows, seconds}
 use Rattle.result_book.proofs.Growing.{rows_first}
 use Rattle.campaign_run.specs.Rows.{AreRight, GoesOn, IsBlankOrGood, IsGood, IsPrefix, IsWithinOne}
 use Rattle.campaign_run.specs.Crashes.{LeavesBooks}
-use Rattle.mcy_top.specs.Life.{Life}
+use Rattle.mcy_top.specs.Life.{Life, Unloaded}
 use Rattle.mcy_top.specs.Lives.{books_of, AreSafe, HasFinalTexts, IsHistory, IsStart, Lived, RunsOnce}
 use Rattle.mcy_top.specs.Calls.{IsCovered, IsLived, IsSureBook}
 use Rattle.campaign_run.proofs.Crashes.{weaker_books}
@@ -179,3 +179,7 @@ lived_of words held holds leaves leaves' written written' taken taken' outcome l
   started = life.allowed;
   near = life.work.book.near;
 }
+
+pub unloaded_left : (words : List (List ℕ)) (leaves leaves' : Option Book → Type 0) (taken taken' : ℕ) (outcome : Outcome) → Unloaded words leaves leaves' taken taken' outcome → LeavesNothingNew leaves leaves'
+unloaded_left words leaves leaves' taken taken' outcome (inl early) = early.leaves_is
+unloaded_left words leaves leaves' taken taken' outcome (inr aside) = aside.leaves_is

@@ -92,7 +92,7 @@ true_word_once once c t None trial a b h k = absurd h
 abbrev SamePairs : List Pair → List Pair → ℕ → Type 0
 SamePairs pairs others m = (t : ℕ) → is_given_up pairs m t ≡ is_given_up others m t
 
-word_once : BenchesSayOnce → (c : Prepared) (pairs others : List Pair) (m t a b : ℕ) → is_given_up pairs m t ≡ is_given_up others m t → IsWordOf c pairs m t a → IsWordOf c others m t b → a ≡ b
+pub word_once : BenchesSayOnce → (c : Prepared) (pairs others : List Pair) (m t a b : ℕ) → is_given_up pairs m t ≡ is_given_up others m t → IsWordOf c pairs m t a → IsWordOf c others m t b → a ≡ b
 word_once once c pairs others m t a b same h k = go (is_equality (slice_get c.trials t) && is_given_up others m t) (subst (λ (x : Bool). MatchBool (is_equality (slice_get c.trials t) && x) (a ≡ 3) (IsTrueWord c m t a)) same h) k
   where
     go : (x : Bool) → MatchBool x (a ≡ 3) (IsTrueWord c m t a) → MatchBool x (b ≡ 3) (IsTrueWord c m t b) → a ≡ b
@@ -100,7 +100,7 @@ word_once once c pairs others m t a b same h k = go (is_equality (slice_get c.tr
     go false h k = true_word_once once c t (slice_get c.sites m) (slice_get c.trials t) a b h k
 
 -- a script that needs a test has not ended
-not_ended : (asked : Ask) (t : ℕ) → asked ≡ Need t → ¬ (is_ended asked ≡ true)
+pub not_ended : (asked : Ask) (t : ℕ) → asked ≡ Need t → ¬ (is_ended asked ≡ true)
 not_ended asked t needs ended = let is : is_ended (Need t) ≡ true = subst (λ (x : Ask). is_ended x ≡ true) needs ended in cc
 
 answers_once : BenchesSayOnce → (c : Prepared) (pairs others : List Pair) (m : ℕ) (earlier xs ys : List Answer) → SamePairs pairs others m → AreAnswers c pairs m earlier xs → AreAnswers c others m earlier ys → xs ≡ ys

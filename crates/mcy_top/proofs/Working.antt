@@ -13,7 +13,7 @@ use Rattle.result_book.specs.Rows.{groups, history, meta_in_second, IsFinished, 
 use Rattle.result_book.proofs.Formats.{has_history}
 use Rattle.source_report.specs.Texts.{status_text}
 use Rattle.command_words.specs.declared.command.Command.{Command}
-use Rattle.command_words.specs.declared.command.Command.TheVariants.{Init, Run, List as Listing, Status, Source}
+use Rattle.command_words.specs.declared.command.Command.TheVariants.{Init, Run, List as Listing, Status, Source, Demo}
 use Rattle.campaign_plan.specs.declared.prepared.Prepared.{Prepared}
 use Rattle.mcy_top.specs.declared.work.Ending.{Ending}
 use Rattle.mcy_top.specs.declared.work.Ending.TheVariants.{Written, Refused, NoMemory}
@@ -21,7 +21,7 @@ use Rattle.mcy_top.specs.declared.refusal.BookRefusal.{BookRefusal}
 use Rattle.mcy_top.specs.declared.refusal.BookRefusal.TheVariants.{NoCampaign as RefusedNone, AlreadyBegun as RefusedBegun, BookBad as RefusedBook, Memory as RefusedMemory}
 use Rattle.campaign_outcomes.specs.declared.outcome.Outcome.{Outcome}
 use Rattle.campaign_outcomes.specs.declared.outcome.Outcome.TheVariants.{Done, Unfinished, NoCampaign, AlreadyBegun, BookBad, KeeperFault, WriteFault, Memory}
-use Rattle.mcy_top.specs.Commands.{goal_of, run_goal, stop_of, OnlyReads, Runs}
+use Rattle.mcy_top.specs.Commands.{goal_of, run_goal, slots_of, stop_of, OnlyReads, Runs}
 use Rattle.campaign_plan.specs.Campaigns.{IsPlan}
 use Rattle.campaign_run.specs.Rows.{AreRight, IsBlankOrGood, IsGood, IsNextRow, IsPrefix, IsWithinOne}
 use Rattle.campaign_run.specs.Changes.{Course, IsNear, opened}
@@ -31,11 +31,14 @@ use Rattle.result_book.specs.Goals.{is_in, wanted, IsGoal}
 use Rattle.result_book.proofs.Wanting.{unwanted_ended}
 use Rattle.mcy_top.proofs.Gaining.{gains_none, gains_opened, gains_ran}
 use Rattle.mcy_top.proofs.Prefixes.{prefix_on}
+use Rattle.mcy_top.proofs.InOrder.{none_in_order, order_from}
+use Rattle.campaign_run.specs.Crashes.{LeavesBooks}
 use Rattle.mcy_top.specs.Texts.{answers_text, init_text, text_of}
 use Rattle.mcy_top.specs.Outcomes.{book_outcome}
 use Rattle.mcy_top.specs.BookRefusals.{IsBookBad, RefusesBook}
 use Rattle.mcy_top.specs.Endings.{ended_outcome, failed_outcome, run_outcome, Delivers, Ends}
-use Rattle.mcy_top.specs.Life.{wanting, Answers, Carried, GainsWanted, Grew, Takes, Work, Wrote}
+use Rattle.mcy_top.specs.Life.{wanting, Answers, Carried, GainsWanted, Grew, IsCounted, StartsFew, Takes, Work, Wrote}
+use Rattle.mcy_top.specs.ProgramOrder.{IsInOrder}
 use Rattle.mcy_top.proofs.Advancing.{good_more, good_rows, history_second, opened_form, within_itself, within_more}
 use Rattle.mcy_top.proofs.Counting.{counted_none, none_counted}
 use Rattle.campaign_run.proofs.Crashes.{either_books, only_books, weaker_books}
@@ -53,8 +56,9 @@ form_meta c book plan form none = plan_begun c plan (sym form.meta ∙ ap meta_i
 
 -- a crash leaves the sure book and nothing else
 grew_exact : (leaves : Option Book → Type 0) (command : Command) (c : Prepared) (loaded sure : Book) (changes : List Book) (outcome : Outcome) → Course c loaded changes sure → LeavesOnly leaves sure → IsPrefix loaded sure
-    → (IsBlankOrGood loaded → IsGood sure ⊎ (IsBlank sure × IsBlank loaded)) → (OnlyReads command → sure ≡ loaded) → (¬ Runs command → sure.journal ≡ loaded.journal) → IsWithin (stop_of command) (length loaded.journal) (length sure.journal) → (Carried outcome → sure.meta ≢ []) → GainsWanted c (goal_of command) loaded sure → (Carried outcome → Runs command → IsSecond sure) → Grew leaves command c loaded sure outcome
-grew_exact leaves command c loaded sure changes outcome course only grown good reads idle within meta wants second = record {
+    → (IsBlankOrGood loaded → IsGood sure ⊎ (IsBlank sure × IsBlank loaded)) → (OnlyReads command → sure ≡ loaded) → (¬ Runs command → sure.journal ≡ loaded.journal) → IsWithin (stop_of command) (length loaded.journal) (length sure.journal) → (Carried outcome → sure.meta ≢ []) → GainsWanted c (goal_of command) loaded sure
+    → (Runs command → IsInOrder c (goal_of command) (slots_of command) loaded sure) → (Carried outcome → Runs command → IsSecond sure) → Grew leaves command c loaded sure outcome
+grew_exact leaves command c loaded sure changes outcome course only grown good reads idle within meta wants order second = record {
   grown = grown;
   within_one = only_books leaves (IsWithinOne sure) sure only (within_itself sure);
   good = λ was. only_books leaves (λ b. IsGood b ⊎ (IsBlank b × IsBlank loaded)) sure only (good was);
@@ -62,6 +66,7 @@ grew_exact leaves command c loaded sure changes outcome course only grown good r
   no_entry = λ h. only_books leaves (λ b. b.journal ≡ loaded.journal) sure only (idle h);
   gained = within;
   wanted_only = wants;
+  order = λ runs. only_books leaves (IsInOrder c (goal_of command) (slots_of command) loaded) sure only (order runs);
   stops = only_books leaves (λ b. IsWithin (stop_of command) (length loaded.journal) (length b.journal)) sure only within;
   exact = λ h. only;
   is_begun = meta;
@@ -75,13 +80,24 @@ pub within_same : (stop : Option ℕ) (n : ℕ) → IsWithin stop n n
 within_same None n = tt
 within_same (Some stop) n = omega arith
 
+-- no test was started
+pub few_kept : (stop : Option ℕ) (slots n : ℕ) → 1 ≤ slots → StartsFew stop slots n n
+few_kept None slots n some = tt
+few_kept (Some stop) slots n some = omega (arith, some)
+
+-- a row was to be added still
+few_broke : (stop : Option ℕ) (slots start rows before now : ℕ) → IsWithin stop start (rows + 1) → now + start ≤ before + rows + slots → StartsFew stop slots before now
+few_broke None slots start rows before now within bound = tt
+few_broke (Some stop) slots start rows before now within bound = omega (arith, within, bound)
+
 -- the loaded book stays
 pub work_kept : (holds : Book → Type 0) (leaves : Option Book → Type 0) (written written' : Option (List ℕ)) (n : ℕ) (command : Command) (c : Prepared) (loaded : Book) (outcome : Outcome) → Keeps holds leaves loaded
     → Wrote written written' (text_of command c loaded) outcome → Answers command c loaded loaded outcome → (Carried outcome → loaded.meta ≢ []) → (Carried outcome → Runs command → IsSecond loaded) → Work leaves written written' n n command c loaded outcome
 work_kept holds leaves written written' n command c loaded outcome kept wrote answer meta second = record {
   sure = loaded;
-  book = grew_exact leaves command c loaded loaded [] outcome refl kept.crash (within_itself loaded).prefix stays (λ h. refl) (λ h. refl) (within_same (stop_of command) (length loaded.journal)) meta (gains_none c (goal_of command) loaded) second;
-  steps = record { bound = omega arith; equal = λ is. refl; stops = within_same (stop_of command) n; idle = λ h. refl };
+  book = grew_exact leaves command c loaded loaded [] outcome refl kept.crash (within_itself loaded).prefix stays (λ h. refl) (λ h. refl) (within_same (stop_of command) (length loaded.journal)) meta (gains_none c (goal_of command) loaded)
+      (λ runs. none_in_order c (goal_of command) (slots_of command) loaded loaded refl) second;
+  steps = record { least = omega arith; bound = omega arith; wants = omega arith; stops = few_kept (stop_of command) (slots_of command) n; equal = λ is. refl; idle = λ h. refl };
   text = wrote;
   answer = answer;
 }
@@ -100,24 +116,27 @@ work_refused holds leaves written n command c loaded RefusedMemory kept why = wo
 -- what holds of a command that only reads the book
 reads_takes : (command : Command) (c : Prepared) (book : Book) → OnlyReads command → IsWellFormed c.campaign book → Takes command c book
 reads_takes Init c book reads form = absurd reads
-reads_takes (Run stop retry) c book reads form = absurd reads
+reads_takes (Run jobs stop retry) c book reads form = absurd reads
 reads_takes Listing c book reads form = form
 reads_takes Status c book reads form = form
 reads_takes Source c book reads form = form
+reads_takes (Demo seed cells) c book reads form = absurd reads
 
 reads_not_runs : (command : Command) → OnlyReads command → ¬ Runs command
 reads_not_runs Init reads runs = runs
-reads_not_runs (Run stop retry) reads runs = reads
+reads_not_runs (Run jobs stop retry) reads runs = reads
 reads_not_runs Listing reads runs = runs
 reads_not_runs Status reads runs = runs
 reads_not_runs Source reads runs = runs
+reads_not_runs (Demo seed cells) reads runs = runs
 
 pub reads_not_init : (command : Command) → OnlyReads command → command ≢ Init
 reads_not_init Init reads is = reads
-reads_not_init (Run stop retry) reads is = reads
+reads_not_init (Run jobs stop retry) reads is = reads
 reads_not_init Listing reads is = cc
 reads_not_init Status reads is = cc
 reads_not_init Source reads is = cc
+reads_not_init (Demo seed cells) reads is = reads
 
 -- the text of a command by the read tests of the book alone, which are those of its history
 text_by_groups : (command : Command) (c : Prepared) (book other : Book) → groups c.campaign other.journal ≡ groups c.campaign book.journal → text_of command c other ≡ text_of command c book
@@ -141,8 +160,8 @@ work_begun : (holds : Book → Type 0) (leaves : Option Book → Type 0) (writte
     → Wrote written written' (init_text c) outcome → Answers Init c blank (opened c) outcome → Work leaves written written' n n Init c blank outcome
 work_begun holds leaves written written' n c outcome plan kept wrote answer = record {
   sure = opened c;
-  book = grew_exact leaves Init c blank (opened c) (opened c ∷ []) outcome (inl (refl, refl), refl) kept.crash (inl refl) (λ was. inl (opened_good c plan)) (λ h. absurd h) (λ h. refl) tt (λ h. plan_begun c plan) (gains_opened c (goal_of Init)) (λ h runs. absurd runs);
-  steps = record { bound = omega arith; equal = λ is. refl; stops = tt; idle = λ h. refl };
+  book = grew_exact leaves Init c blank (opened c) (opened c ∷ []) outcome (inl (refl, refl), refl) kept.crash (inl refl) (λ was. inl (opened_good c plan)) (λ h. absurd h) (λ h. refl) tt (λ h. plan_begun c plan) (gains_opened c (goal_of Init)) (λ runs. absurd runs) (λ h runs. absurd runs);
+  steps = record { least = omega arith; bound = omega arith; wants = omega arith; stops = λ some. tt; equal = λ is. refl; idle = λ h. refl };
   text = wrote;
   answer = answer;
 }
@@ -160,6 +179,10 @@ begin_left holds leaves leaves' (Ok done) c kept either refused = tt
 begin_left holds leaves leaves' (Err KeepFault) c kept either refused = either refl blank kept.told
 begin_left holds leaves leaves' (Err KeepMemory) c kept either refused = λ left is. inl (kept.crash.nothing_else left (refused refl left is))
 
+-- the history of the book that has just begun has no rows
+opened_rows : (c : Prepared) → IsPlan c → (history c.campaign (opened c)).journal ≡ []
+opened_rows c plan = ap (λ (b : Book). b.journal) (history_second c (opened c) (book_second c [] plan))
+
 -- the begin was cut short
 grew_unopened : (leaves : Option Book → Type 0) (command : Command) (c : Prepared) (outcome : Outcome) → IsPlan c → ¬ OnlyReads command → ¬ Carried outcome → LeavesEither leaves blank (opened c) → Grew leaves command c blank blank outcome
 grew_unopened leaves command c outcome plan writes not either = record {
@@ -170,6 +193,8 @@ grew_unopened leaves command c outcome plan writes not either = record {
   no_entry = λ h. either_books leaves (λ b. b.journal ≡ []) blank (opened c) either refl refl;
   gained = within_same (stop_of command) 0;
   wanted_only = gains_none c (goal_of command) blank;
+  order = λ runs. either_books leaves (IsInOrder c (goal_of command) (slots_of command) blank) blank (opened c) either (none_in_order c (goal_of command) (slots_of command) blank blank refl)
+      (none_in_order c (goal_of command) (slots_of command) blank (opened c) (opened_rows c plan));
   stops = either_books leaves (λ b. IsWithin (stop_of command) 0 (length b.journal)) blank (opened c) either (within_same (stop_of command) 0) (within_same (stop_of command) 0);
   exact = λ h. absurd (not h);
   is_begun = λ h. absurd (not h);
@@ -183,14 +208,14 @@ pub work_unopened : (leaves : Option Book → Type 0) (written : Option (List �
 work_unopened leaves written n command c KeepFault plan writes takes either = record {
   sure = blank;
   book = grew_unopened leaves command c KeeperFault plan writes (λ h. h) either;
-  steps = record { bound = omega arith; equal = λ is. absurd is; stops = within_same (stop_of command) n; idle = λ h. refl };
+  steps = record { least = omega arith; bound = omega arith; wants = omega arith; stops = few_kept (stop_of command) (slots_of command) n; equal = λ is. absurd is; idle = λ h. refl };
   text = refl;
   answer = takes;
 }
 work_unopened leaves written n command c KeepMemory plan writes takes either = record {
   sure = blank;
   book = grew_unopened leaves command c Memory plan writes (λ h. h) either;
-  steps = record { bound = omega arith; equal = λ is. absurd is; stops = within_same (stop_of command) n; idle = λ h. refl };
+  steps = record { least = omega arith; bound = omega arith; wants = omega arith; stops = few_kept (stop_of command) (slots_of command) n; equal = λ is. absurd is; idle = λ h. refl };
   text = refl;
   answer = tt;
 }
@@ -198,11 +223,6 @@ work_unopened leaves written n command c KeepMemory plan writes takes either = r
 within_less : (stop : Option ℕ) (before now : ℕ) → IsWithin stop before (now + 1) → IsWithin stop before now
 within_less None before now within = tt
 within_less (Some stop) before now within = omega (arith, within)
-
--- as many steps as rows, or one more
-within_steps : (stop : Option ℕ) (start rows before now : ℕ) → now + start ≤ before + rows → IsWithin stop start rows → IsWithin stop before now
-within_steps None start rows before now steps within = tt
-within_steps (Some stop) start rows before now steps within = omega (arith, steps, within)
 
 -- the words of a book of the second format, and those of its history
 right_start : (c : Prepared) (rows : List Entry) → IsPlan c → IsWellFormed c.campaign (book_of c rows) → IsBlankOrGood (book_of c rows) → AreRight c rows
@@ -212,8 +232,9 @@ right_rows : (c : Prepared) (rows : List Entry) → IsPlan c → AreRight c rows
 right_rows c rows plan all = subst (λ (b : Book). AreRight c b.journal) (sym (history_second c (book_of c rows) (book_second c rows plan))) all
 
 -- a run that want of memory or an error of the keeper ended
-grew_broke : (leaves : Option Book → Type 0) (stop retry : Option ℕ) (c : Prepared) (start : List Entry) (before now : ℕ) (outcome : Outcome) → IsPlan c → IsWellFormed c.campaign (book_of c start) → (b : Broke leaves c (run_goal retry) stop start before now) → ¬ Carried outcome → Grew leaves (Run stop retry) c (book_of c start) (book_of c b.rows) outcome
-grew_broke leaves stop retry c start before now outcome plan form b not = record {
+grew_broke : (leaves : Option Book → Type 0) (jobs : ℕ) (stop retry : Option ℕ) (c : Prepared) (start : List Entry) (before now : ℕ) (outcome : Outcome) → IsPlan c → IsWellFormed c.campaign (book_of c start) → (b : Broke leaves c (run_goal retry) jobs stop start before now)
+    → LeavesBooks leaves (IsInOrder c (run_goal retry) jobs (book_of c start)) → ¬ Carried outcome → Grew leaves (Run jobs stop retry) c (book_of c start) (book_of c b.rows) outcome
+grew_broke leaves jobs stop retry c start before now outcome plan form b order not = record {
   grown = prefix_on (book_of c start) (book_of c b.rows) b.ran.goes_on;
   within_one = weaker_books leaves Next (IsWithinOne sure) within b.left;
   good = λ was. weaker_books leaves Next (λ x. IsGood x ⊎ (IsBlank x × IsBlank (book_of c start))) (λ other next. inl (good (b.ran.words_right (right_start c start plan form was)) other next)) b.left;
@@ -221,6 +242,7 @@ grew_broke leaves stop retry c start before now outcome plan form b not = record
   no_entry = λ h. absurd (h tt);
   gained = within_less stop (length start) (length b.rows) b.within;
   wanted_only = gains_ran c (run_goal retry) start b.rows plan b.ran;
+  order = λ runs. order;
   stops = weaker_books leaves Next (λ x. IsWithin stop (length start) (length x.journal)) stops b.left;
   exact = λ h. absurd (not h);
   is_begun = λ h. absurd (not h);
@@ -254,19 +276,19 @@ grew_broke leaves stop retry c start before now outcome plan form b not = record
     near other (inl same) = inl same
     near other (inr (e, next, more)) = inr (inr (inl (record { form = b.ran.form; row = e; may = next; is = more })))
 
-pub work_broke : (leaves : Option Book → Type 0) (written written' : Option (List ℕ)) (before now : ℕ) (stop retry : Option ℕ) (c : Prepared) (start : List Entry) (e : KeepError) → IsPlan c → IsWellFormed c.campaign (book_of c start)
-    → Broke leaves c (run_goal retry) stop start before now → written' ≡ written → Work leaves written written' before now (Run stop retry) c (book_of c start) (failed_outcome e)
-work_broke leaves written written' before now stop retry c start KeepFault plan form b same = record {
+pub work_broke : (leaves : Option Book → Type 0) (written written' : Option (List ℕ)) (before now : ℕ) (jobs : ℕ) (stop retry : Option ℕ) (c : Prepared) (start : List Entry) (e : KeepError) → IsPlan c → IsWellFormed c.campaign (book_of c start)
+    → (b : Broke leaves c (run_goal retry) jobs stop start before now) → LeavesBooks leaves (IsInOrder c (run_goal retry) jobs (book_of c start)) → now + length start ≤ before + length b.rows + wanting c (run_goal retry) b.rows → written' ≡ written → Work leaves written written' before now (Run jobs stop retry) c (book_of c start) (failed_outcome e)
+work_broke leaves written written' before now jobs stop retry c start KeepFault plan form b order wants same = record {
   sure = book_of c b.rows;
-  book = grew_broke leaves stop retry c start before now KeeperFault plan form b (λ h. h);
-  steps = record { bound = b.steps; equal = λ is. absurd is; stops = within_steps stop (length start) (length b.rows + 1) before now (omega (arith, b.steps)) b.within; idle = λ h. absurd (h tt) };
+  book = grew_broke leaves jobs stop retry c start before now KeeperFault plan form b order (λ h. h);
+  steps = record { least = b.least; bound = b.steps; wants = wants; stops = λ some. few_broke stop jobs (length start) (length b.rows) before now b.within b.steps; equal = λ is. absurd is; idle = λ h. absurd (h tt) };
   text = same;
   answer = inr form;
 }
-work_broke leaves written written' before now stop retry c start KeepMemory plan form b same = record {
+work_broke leaves written written' before now jobs stop retry c start KeepMemory plan form b order wants same = record {
   sure = book_of c b.rows;
-  book = grew_broke leaves stop retry c start before now Memory plan form b (λ h. h);
-  steps = record { bound = b.steps; equal = λ is. absurd is; stops = within_steps stop (length start) (length b.rows + 1) before now (omega (arith, b.steps)) b.within; idle = λ h. absurd (h tt) };
+  book = grew_broke leaves jobs stop retry c start before now Memory plan form b order (λ h. h);
+  steps = record { least = b.least; bound = b.steps; wants = wants; stops = λ some. few_broke stop jobs (length start) (length b.rows) before now b.within b.steps; equal = λ is. absurd is; idle = λ h. absurd (h tt) };
   text = same;
   answer = tt;
 }
@@ -279,6 +301,13 @@ pub record Went (c : Prepared) (aim : Goal) (stop : Option ℕ) (start rows : Li
   pub goal : IsGoal aim
   pub ends : WantsNone c aim rows ⊎ Reached stop start rows
   pub within : IsWithin stop (length start) (length rows)
+
+-- as many tests were started as rows were gained, or more, of which each is in a slot and is wanted still; and as many where none is wanted
+pub record Counts (c : Prepared) (aim : Goal) (jobs : ℕ) (start rows : List Entry) (before now : ℕ) : Type 0 where
+  pub least : before + length rows ≤ now + length start
+  pub bound : now + length start ≤ before + length rows + jobs
+  pub wants : now + length start ≤ before + length rows + wanting c aim rows
+  pub equal : WantsNone c aim rows → now + length start ≡ before + length rows
 
 -- how many mutations want a test still
 abbrev pub count : Prepared → Option ℕ → List Entry → ℕ
@@ -298,8 +327,8 @@ in_all retry m = let rest : m % 1 ≡ 0 = omega arith in rw rest refl
 finished_of : (c : Prepared) (retry : Option ℕ) (rows : List Entry) → IsGoal (run_goal retry) → WantsNone c (run_goal retry) rows → IsFinished c.campaign (book_of c rows)
 finished_of c retry rows goal none m below = unwanted_ended c.campaign rows m (run_goal retry) (in_all retry m) (none m below)
 
-whole : (c : Prepared) (stop retry : Option ℕ) (start rows : List Entry) → Went c (run_goal retry) stop start rows → WantsNone c (run_goal retry) rows → Answers (Run stop retry) c (book_of c start) (book_of c rows) Done
-whole c stop retry start rows went none = (
+whole : (c : Prepared) (jobs : ℕ) (stop retry : Option ℕ) (start rows : List Entry) → Went c (run_goal retry) stop start rows → WantsNone c (run_goal retry) rows → Answers (Run jobs stop retry) c (book_of c start) (book_of c rows) Done
+whole c jobs stop retry start rows went none = (
   inr went.form,
   went.ran.form,
   λ runs.
@@ -307,34 +336,38 @@ whole c stop retry start rows went none = (
       record {
         wants_none = none;
         finished = finished;
-        final = λ was. final_is (Run stop retry) c (book_of c rows) went.plan (right_rows c rows went.plan (went.ran.words_right (right_start c start went.plan went.form was))) finished;
+        final = λ was. final_is (Run jobs stop retry) c (book_of c rows) went.plan (right_rows c rows went.plan (went.ran.words_right (right_start c start went.plan went.form was))) finished;
       },
 )
 
-stopped : (c : Prepared) (stop retry : Option ℕ) (start rows : List Entry) → Went c (run_goal retry) stop start rows → (count c retry rows ≢ 0) → Reached stop start rows → Answers (Run stop retry) c (book_of c start) (book_of c rows) (Unfinished (count c retry rows))
-stopped c None retry start rows went some reached = absurd reached
-stopped c (Some k) retry start rows went some reached = (
+stopped : (c : Prepared) (jobs : ℕ) (stop retry : Option ℕ) (start rows : List Entry) → Went c (run_goal retry) stop start rows → (count c retry rows ≢ 0) → Reached stop start rows → Answers (Run jobs stop retry) c (book_of c start) (book_of c rows) (Unfinished (count c retry rows))
+stopped c jobs None retry start rows went some reached = absurd reached
+stopped c jobs (Some k) retry start rows went some reached = (
   inr went.form,
   went.ran.form,
   record { stop = k; asked = refl; gained = reached; left_is = refl; some = omega (arith, some) },
 )
 
-ran_answer : (c : Prepared) (stop retry : Option ℕ) (start rows : List Entry) → Went c (run_goal retry) stop start rows → Answers (Run stop retry) c (book_of c start) (book_of c rows) (run_outcome c (run_goal retry) rows)
-ran_answer c stop retry start rows went = elim (eqb_tells (count c retry rows) 0) [
-  | inl h ↦ rw h.0 (whole c stop retry start rows went (none_of c retry rows h.1))
-  | inr h ↦ rw h.0 (elim went.ends [ inl none ↦ absurd (h.1 (count_of c retry rows none)) | inr reached ↦ stopped c stop retry start rows went h.1 reached ])
+ran_answer : (c : Prepared) (jobs : ℕ) (stop retry : Option ℕ) (start rows : List Entry) → Went c (run_goal retry) stop start rows → Answers (Run jobs stop retry) c (book_of c start) (book_of c rows) (run_outcome c (run_goal retry) rows)
+ran_answer c jobs stop retry start rows went = elim (eqb_tells (count c retry rows) 0) [
+  | inl h ↦ rw h.0 (whole c jobs stop retry start rows went (none_of c retry rows h.1))
+  | inr h ↦ rw h.0 (elim went.ends [ inl none ↦ absurd (h.1 (count_of c retry rows none)) | inr reached ↦ stopped c jobs stop retry start rows went h.1 reached ])
 ]
 
 ran_wrote : (written written' : Option (List ℕ)) (c : Prepared) (retry : Option ℕ) (rows : List Entry) → Delivers written written' (status_text c.campaign rows) Written → Wrote written written' (status_text c.campaign rows) (run_outcome c (run_goal retry) rows)
 ran_wrote written written' c retry rows wrote = elim (eqb_tells (count c retry rows) 0) [ inl h ↦ rw h.0 wrote | inr h ↦ rw h.0 wrote ]
 
-pub work_ran : (holds : Book → Type 0) (leaves : Option Book → Type 0) (written written' : Option (List ℕ)) (before now : ℕ) (stop retry : Option ℕ) (c : Prepared) (start rows : List Entry) (ending : Ending) → Went c (run_goal retry) stop start rows → Keeps holds leaves (book_of c rows)
-    → now + length start ≡ before + length rows → Delivers written written' (status_text c.campaign rows) ending → Work leaves written written' before now (Run stop retry) c (book_of c start) (ended_outcome (run_outcome c (run_goal retry) rows) ending)
-work_ran holds leaves written written' before now stop retry c start rows ending went kept steps wrote = record {
+-- where the run is done each test has its row
+ran_equal : (c : Prepared) (retry : Option ℕ) (jobs : ℕ) (start rows : List Entry) (before now : ℕ) → Counts c (run_goal retry) jobs start rows before now → IsCounted (run_outcome c (run_goal retry) rows) → now + length start ≡ before + length rows
+ran_equal c retry jobs start rows before now counts = elim (eqb_tells (count c retry rows) 0) [ inl h ↦ rw h.0 (λ is. counts.equal (none_of c retry rows h.1)) | inr h ↦ rw h.0 (λ is. absurd is) ]
+
+pub work_ran : (holds : Book → Type 0) (leaves : Option Book → Type 0) (written written' : Option (List ℕ)) (before now : ℕ) (jobs : ℕ) (stop retry : Option ℕ) (c : Prepared) (start rows : List Entry) (ending : Ending) → Went c (run_goal retry) stop start rows → Keeps holds leaves (book_of c rows)
+    → Counts c (run_goal retry) jobs start rows before now → StartsFew stop jobs before now → IsInOrder c (run_goal retry) jobs (book_of c start) (book_of c rows) → Delivers written written' (status_text c.campaign rows) ending → Work leaves written written' before now (Run jobs stop retry) c (book_of c start) (ended_outcome (run_outcome c (run_goal retry) rows) ending)
+work_ran holds leaves written written' before now jobs stop retry c start rows ending went kept steps few order wrote = record {
   sure = book_of c rows;
-  book = grew_exact leaves (Run stop retry) c (book_of c start) (book_of c rows) went.ran.changes (ended_outcome (run_outcome c (run_goal retry) rows) ending) went.ran.course kept.crash (prefix_on (book_of c start) (book_of c rows) went.ran.goes_on)
-      (λ was. inl (good_rows c rows went.plan went.ran.form (went.ran.words_right (right_start c start went.plan went.form was)))) (λ h. absurd h) (λ h. absurd (h tt)) went.within (λ h. plan_begun c went.plan) (gains_ran c (run_goal retry) start rows went.plan went.ran) (λ h runs. book_second c rows went.plan);
-  steps = record { bound = omega (arith, steps); equal = λ is. steps; stops = within_steps stop (length start) (length rows) before now (omega (arith, steps)) went.within; idle = λ h. absurd (h tt) };
+  book = grew_exact leaves (Run jobs stop retry) c (book_of c start) (book_of c rows) went.ran.changes (ended_outcome (run_outcome c (run_goal retry) rows) ending) went.ran.course kept.crash (prefix_on (book_of c start) (book_of c rows) went.ran.goes_on)
+      (λ was. inl (good_rows c rows went.plan went.ran.form (went.ran.words_right (right_start c start went.plan went.form was)))) (λ h. absurd h) (λ h. absurd (h tt)) went.within (λ h. plan_begun c went.plan) (gains_ran c (run_goal retry) start rows went.plan went.ran) (λ runs. order) (λ h runs. book_second c rows went.plan);
+  steps = record { least = steps.least; bound = steps.bound; wants = steps.wants; stops = λ some. few; equal = equal ending; idle = λ h. absurd (h tt) };
   text = text ending wrote;
   answer = answer ending;
 }
@@ -344,8 +377,13 @@ work_ran holds leaves written written' before now stop retry c start rows ending
     text Refused w = w
     text NoMemory w = w
 
-    answer : (e : Ending) → Answers (Run stop retry) c (book_of c start) (book_of c rows) (ended_outcome (run_outcome c (run_goal retry) rows) e)
-    answer Written = ran_answer c stop retry start rows went
+    equal : (e : Ending) → IsCounted (ended_outcome (run_outcome c (run_goal retry) rows) e) → now + length start ≡ before + length rows
+    equal Written is = ran_equal c retry jobs start rows before now steps is
+    equal Refused is = absurd is
+    equal NoMemory is = absurd is
+
+    answer : (e : Ending) → Answers (Run jobs stop retry) c (book_of c start) (book_of c rows) (ended_outcome (run_outcome c (run_goal retry) rows) e)
+    answer Written = ran_answer c jobs stop retry start rows went
     answer Refused = inr went.form
     answer NoMemory = tt
 
@@ -357,25 +395,25 @@ opened_not_bad c (Meta place old new) plan bad = bad.1 (opened_form c plan)
 opened_not_bad c (Mutation place old new) plan bad = bad.1 (opened_form c plan)
 opened_not_bad c (Row e fault) plan bad = bad.1 (opened_form c plan)
 
-opened_answer : (stop retry : Option ℕ) (c : Prepared) (sure : Book) (outcome : Outcome) → IsPlan c → Answers (Run stop retry) c (opened c) sure outcome → Answers (Run stop retry) c blank sure outcome
-opened_answer stop retry c sure Done plan (takes, form, whole) = (inl refl, form, λ runs. record { wants_none = (whole runs).wants_none; finished = (whole runs).finished; final = λ was. (whole runs).final (inr (opened_good c plan)) })
-opened_answer stop retry c sure (Unfinished left) plan (takes, form, s) = (inl refl, form, record { stop = s.stop; asked = s.asked; gained = s.gained; left_is = s.left_is; some = s.some })
-opened_answer stop retry c sure NoCampaign plan answer = absurd answer.1
-opened_answer stop retry c sure AlreadyBegun plan answer = absurd (let is : Run stop retry ≡ Init = answer.1 in cc)
-opened_answer stop retry c sure (BookBad error) plan answer = absurd (opened_not_bad c error plan answer.0)
-opened_answer stop retry c sure KeeperFault plan answer = inl refl
-opened_answer stop retry c sure WriteFault plan answer = inl refl
-opened_answer stop retry c sure Memory plan answer = tt
-opened_answer stop retry c sure outcome plan answer = absurd answer
+opened_answer : (jobs : ℕ) (stop retry : Option ℕ) (c : Prepared) (sure : Book) (outcome : Outcome) → IsPlan c → Answers (Run jobs stop retry) c (opened c) sure outcome → Answers (Run jobs stop retry) c blank sure outcome
+opened_answer jobs stop retry c sure Done plan (takes, form, whole) = (inl refl, form, λ runs. record { wants_none = (whole runs).wants_none; finished = (whole runs).finished; final = λ was. (whole runs).final (inr (opened_good c plan)) })
+opened_answer jobs stop retry c sure (Unfinished left) plan (takes, form, s) = (inl refl, form, record { stop = s.stop; asked = s.asked; gained = s.gained; left_is = s.left_is; some = s.some })
+opened_answer jobs stop retry c sure NoCampaign plan answer = absurd answer.1
+opened_answer jobs stop retry c sure AlreadyBegun plan answer = absurd (let is : Run jobs stop retry ≡ Init = answer.1 in cc)
+opened_answer jobs stop retry c sure (BookBad error) plan answer = absurd (opened_not_bad c error plan answer.0)
+opened_answer jobs stop retry c sure KeeperFault plan answer = inl refl
+opened_answer jobs stop retry c sure WriteFault plan answer = inl refl
+opened_answer jobs stop retry c sure Memory plan answer = tt
+opened_answer jobs stop retry c sure outcome plan answer = absurd answer
 
 -- the rows beyond its history, which is itself
 opened_gains : (c : Prepared) (retry : Option ℕ) (sure : Book) → IsPlan c → GainsWanted c (run_goal retry) (opened c) sure → GainsWanted c (run_goal retry) blank sure
 opened_gains c retry sure plan gains =
     subst (λ (b : Book). (more : List Entry) → sure.journal ≡ b.journal ++ more → AreWanted c (run_goal retry) b.journal more) (history_second c (opened c) (book_second c [] plan)) gains
 
-pub work_opened : (leaves : Option Book → Type 0) (written written' : Option (List ℕ)) (before now : ℕ) (stop retry : Option ℕ) (c : Prepared) (outcome : Outcome) → IsPlan c
-    → Work leaves written written' before now (Run stop retry) c (opened c) outcome → Work leaves written written' before now (Run stop retry) c blank outcome
-work_opened leaves written written' before now stop retry c outcome plan w = record {
+pub work_opened : (leaves : Option Book → Type 0) (written written' : Option (List ℕ)) (before now : ℕ) (jobs : ℕ) (stop retry : Option ℕ) (c : Prepared) (outcome : Outcome) → IsPlan c
+    → Work leaves written written' before now (Run jobs stop retry) c (opened c) outcome → Work leaves written written' before now (Run jobs stop retry) c blank outcome
+work_opened leaves written written' before now jobs stop retry c outcome plan w = record {
   sure = w.sure;
   book = record {
     grown = inl refl;
@@ -385,6 +423,7 @@ work_opened leaves written written' before now stop retry c outcome plan w = rec
     no_entry = λ h. absurd (h tt);
     gained = w.book.gained;
     wanted_only = opened_gains c retry w.sure plan w.book.wanted_only;
+    order = λ runs. weaker_books leaves (IsInOrder c (run_goal retry) jobs (opened c)) (IsInOrder c (run_goal retry) jobs blank) (λ b is. order_from c (run_goal retry) jobs blank (opened c) b (opened_rows c plan) is) (w.book.order runs);
     stops = w.book.stops;
     exact = w.book.exact;
     is_begun = w.book.is_begun;
@@ -393,9 +432,9 @@ work_opened leaves written written' before now stop retry c outcome plan w = rec
     course = (inl (refl, refl), w.book.course);
     near = w.book.near;
   };
-  steps = record { bound = w.steps.bound; equal = w.steps.equal; stops = w.steps.stops; idle = λ h. absurd (h tt) };
+  steps = record { least = w.steps.least; bound = w.steps.bound; wants = w.steps.wants; stops = w.steps.stops; equal = w.steps.equal; idle = λ h. absurd (h tt) };
   text = w.text;
-  answer = opened_answer stop retry c w.sure outcome plan w.answer;
+  answer = opened_answer jobs stop retry c w.sure outcome plan w.answer;
 }
   where
     good : (other : Book) → IsGood other ⊎ (IsBlank other × IsBlank (opened c)) → IsGood other ⊎ (IsBlank other × IsBlank blank)
@@ -410,8 +449,8 @@ ending_ends written written' k k' s s' text o Written carried wrote rose = absur
 ending_ends written written' k k' s s' text o Refused carried wrote rose = record { quiet = tt; cause = rose refl }
 ending_ends written written' k k' s s' text o NoMemory carried wrote rose = record { quiet = wrote; cause = tt }
 
-pub run_carried : (c : Prepared) (retry : Option ℕ) (rows : List Entry) → Carried (run_outcome c (run_goal retry) rows)
-run_carried c retry rows = elim (eqb_tells (count c retry rows) 0) [ inl h ↦ rw h.0 tt | inr h ↦ rw h.0 tt ]
+pub run_carried : (c : Prepared) (aim : Goal) (rows : List Entry) → Carried (run_outcome c aim rows)
+run_carried c aim rows = elim (eqb_tells (wanting c aim rows) 0) [ inl h ↦ rw h.0 tt | inr h ↦ rw h.0 tt ]
 
-pub run_not_init : (stop retry : Option ℕ) → Run stop retry ≢ Init
-run_not_init stop retry is = cc
+pub run_not_init : (jobs : ℕ) (stop retry : Option ℕ) → Run jobs stop retry ≢ Init
+run_not_init jobs stop retry is = cc

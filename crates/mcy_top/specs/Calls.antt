@@ -8,7 +8,7 @@ use Rattle.campaign_outcomes.specs.declared.outcome.Outcome.{Outcome}
 use Rattle.campaign_run.specs.Rows.{IsPrefix}
 use Rattle.campaign_run.specs.Crashes.{LeavesBooks}
 use Rattle.campaign_run.specs.Changes.{IsNear}
-use Rattle.mcy_top.specs.Life.{Early, Life}
+use Rattle.mcy_top.specs.Life.{Life, Unloaded}
 use Rattle.mcy_top.specs.Lives.{IsLife}
 
 -- the longest book that is a first part of every book that a crash may leave, as they stand or upgraded
@@ -40,5 +40,5 @@ CallIsALife holds leaves leaves' = (words : List (List ℕ)) (held : Option Held
     → (life : Life words held holds leaves leaves' written written' taken taken' outcome) → IsLived leaves leaves' life.prepared life.loaded life.work.sure
 
 -- and a call that has loaded none leaves nothing new.
-abbrev pub EarlyCallLeavesNothingNew : (leaves leaves' : Option Book → Type 0) → Type 0
-EarlyCallLeavesNothingNew leaves leaves' = (taken taken' : ℕ) (outcome : Outcome) → Early leaves leaves' taken taken' outcome → LeavesNothingNew leaves leaves'
+abbrev pub UnloadedCallLeavesNothingNew : (leaves leaves' : Option Book → Type 0) → Type 0
+UnloadedCallLeavesNothingNew leaves leaves' = (words : List (List ℕ)) (taken taken' : ℕ) (outcome : Outcome) → Unloaded words leaves leaves' taken taken' outcome → LeavesNothingNew leaves leaves'

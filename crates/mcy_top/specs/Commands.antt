@@ -1,25 +1,57 @@
--- What the commands do: the tests that they may have under way, when they are to stop, what they aim at, and which of them change the
--- book.
-use Rattle.std.specs.Prelude.{ℕ, Option, None, unwrap_or, ⊤}
+-- What the commands do: which of them work on the book of a campaign, the tests that they may have under way, when they are to stop,
+-- what they aim at, and which of them change the book.
+use Rattle.std.specs.Prelude.{◌≡◌, ℕ, ◌≤◌, List, Option, None, Some, unwrap_or, ⊤}
 use Rattle.result_book.specs.declared.goal.Goal.{Goal}
 use Rattle.command_words.specs.declared.command.Command.{Command}
-use Rattle.command_words.specs.declared.command.Command.TheVariants.{Init, Run, List as Listing, Status, Source}
+use Rattle.command_words.specs.declared.command.Command.TheVariants.{Init, Run, List as Listing, Status, Source, Demo}
+use Rattle.command_words.specs.Commands.{command_of}
+
+-- the words ask for the demo that two numbers make
+abbrev pub AsksDemo : List (List ℕ) → ℕ → ℕ → Type 0
+AsksDemo words seed cells = command_of words ≡ Some (Demo seed cells)
+
+-- they ask for none
+abbrev pub AsksNoDemo : List (List ℕ) → Type 0
+AsksNoDemo words = (seed cells : ℕ) → ¬ AsksDemo words seed cells
+
+-- the command works on the book of a campaign, as each does but a demo
+abbrev pub OnBook : Command → Type 0
+OnBook Init = ⊤
+OnBook (Run jobs stop_after retry) = ⊤
+OnBook Listing = ⊤
+OnBook Status = ⊤
+OnBook Source = ⊤
+OnBook (Demo seed cells) = ⊥
 
 -- how many tests a command may have under way at once
 abbrev pub slots_of : Command → ℕ
 slots_of Init = 0
-slots_of (Run stop_after retry) = 1
+slots_of (Run jobs stop_after retry) = jobs
 slots_of Listing = 0
 slots_of Status = 0
 slots_of Source = 0
+slots_of (Demo seed cells) = 4
 
--- the number of tests after which a command is to stop, if it has one
+-- and a run may have at least one, and at most 64
+abbrev pub AreSlots : ℕ → Type 0
+AreSlots jobs = (1 ≤ jobs) × (jobs ≤ 64)
+
+abbrev pub HasSlots : Command → Type 0
+HasSlots Init = ⊤
+HasSlots (Run jobs stop_after retry) = AreSlots jobs
+HasSlots Listing = ⊤
+HasSlots Status = ⊤
+HasSlots Source = ⊤
+HasSlots (Demo seed cells) = ⊤
+
+-- the number of rows after which a command is to stop, if it has one
 abbrev pub stop_of : Command → Option ℕ
 stop_of Init = None
-stop_of (Run stop_after retry) = stop_after
+stop_of (Run jobs stop_after retry) = stop_after
 stop_of Listing = None
 stop_of Status = None
 stop_of Source = None
+stop_of (Demo seed cells) = None
 
 -- all mutations are aimed at, and the pairs that were given up under less than the number of the option; without it none
 abbrev pub run_goal : Option ℕ → Goal
@@ -28,23 +60,26 @@ run_goal retry = record { retry = unwrap_or retry 0; part = 0; parts = 1 }
 -- what a command aims at
 abbrev pub goal_of : Command → Goal
 goal_of Init = run_goal None
-goal_of (Run stop_after retry) = run_goal retry
+goal_of (Run jobs stop_after retry) = run_goal retry
 goal_of Listing = run_goal None
 goal_of Status = run_goal None
 goal_of Source = run_goal None
+goal_of (Demo seed cells) = run_goal None
 
--- the command runs tests
+-- the command runs tests of the book's campaign
 abbrev pub Runs : Command → Type 0
 Runs Init = ⊥
-Runs (Run stop retry) = ⊤
+Runs (Run jobs stop retry) = ⊤
 Runs Listing = ⊥
 Runs Status = ⊥
 Runs Source = ⊥
+Runs (Demo seed cells) = ⊥
 
 -- the command only reads the book
 abbrev pub OnlyReads : Command → Type 0
 OnlyReads Init = ⊥
-OnlyReads (Run stop retry) = ⊥
+OnlyReads (Run jobs stop retry) = ⊥
 OnlyReads Listing = ⊤
 OnlyReads Status = ⊤
 OnlyReads Source = ⊤
+OnlyReads (Demo seed cells) = ⊥

@@ -8,14 +8,15 @@ use Rattle.campaign_plan.specs.declared.prepared.Prepared.{Prepared}
 use Rattle.campaign_outcomes.specs.declared.outcome.Outcome.{Outcome}
 use Rattle.campaign_outcomes.specs.declared.outcome.Outcome.TheVariants.{Done, Unfinished, Memory}
 use Rattle.command_words.specs.Commands.{command_of}
-use Rattle.mcy_top.specs.Commands.{stop_of}
+use Rattle.mcy_top.specs.Commands.{stop_of, OnBook}
 use Rattle.campaign_reading.specs.Files.{IsMade}
 use Rattle.campaign_reading.specs.Readable.{IsReadable}
 use Rattle.mcy_top.specs.Life.{Takes}
 
--- the command is given, the files are there, and each book that a load may give is one that the command takes
+-- the command is given and works on the book, the files are there, and each book that a load may give is one that the command takes
 pub record IsReady (words : List (List ℕ)) (held : Option Held) (holds : Book → Type 0) (leaves : Option Book → Type 0) (command : Command) : Type 0 where
   pub asked : command_of words ≡ Some command
+  pub on_book : OnBook command
   pub readable : IsReadable held
   pub takes : (c : Prepared) (book : Book) → IsMade held c → leaves (Some book) → ((was : Book) → holds was → book ≡ was) → Takes command c book
 

@@ -4,6 +4,8 @@ use Rattle.mcy_base.specs.Causes.{Rose}
 use Rattle.mcy_keeper.specs.declared.book.Entry.{Entry}
 use Rattle.mcy_keeper.specs.declared.keeper.KeepError.{KeepError}
 use Rattle.mcy_keeper.specs.declared.keeper.KeepError.TheVariants.{Fault as KeepFault, Memory as KeepMemory}
+use Rattle.campaign_core.specs.declared.event.CoreError.{CoreError}
+use Rattle.campaign_core.specs.declared.event.CoreError.TheVariants.{Keeper as CoreFault, Memory as CoreMemory}
 use Rattle.mcy_outside.specs.Written.{Appends, AppendsPart}
 use Rattle.mcy_top.specs.declared.work.Ending.{Ending}
 use Rattle.mcy_top.specs.declared.work.Ending.TheVariants.{Written, Refused, NoMemory}
@@ -23,6 +25,11 @@ ended_outcome outcome NoMemory = Memory
 abbrev pub failed_outcome : KeepError → Outcome
 failed_outcome KeepFault = KeeperFault
 failed_outcome KeepMemory = Memory
+
+-- the outcome of a run whose core was refused
+abbrev pub broken_outcome : CoreError → Outcome
+broken_outcome CoreFault = KeeperFault
+broken_outcome CoreMemory = Memory
 
 -- a text was written, a part of it, or nothing for want of memory
 abbrev pub Delivers : Option (List ℕ) → Option (List ℕ) → List ℕ → Ending → Type 0

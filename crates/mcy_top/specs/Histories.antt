@@ -16,7 +16,7 @@ use Rattle.campaign_run.specs.Crashes.{LeavesBooks}
 use Rattle.campaign_run.specs.Changes.{IsNear}
 use Rattle.campaign_run.specs.Running.{WantsNone}
 use Rattle.mcy_top.specs.Defined.{given_up, IsFinalText}
-use Rattle.mcy_top.specs.Life.{Early, Life}
+use Rattle.mcy_top.specs.Life.{Life, Unloaded}
 use Rattle.mcy_top.specs.Lives.{AreSafe, IsHistory, IsStart, Lived}
 
 -- A call of `mcy_main`: its words, what the files hold, the keeper, the text and the steps at its entry and at its end,
@@ -34,7 +34,7 @@ pub record Call (K : Type 0) : Type 0 where
 
 -- the two cases of its clause `life`: it has loaded no book,
 abbrev pub LoadsNone : {K : Type 0} → (K → Option Book → Type 0) → Call K → Type 0
-LoadsNone leaves call = Early (leaves call.before) (leaves call.after) call.taken_before call.taken_after call.outcome
+LoadsNone leaves call = Unloaded call.words (leaves call.before) (leaves call.after) call.taken_before call.taken_after call.outcome
 
 -- or it has loaded one
 abbrev pub Loads : {K : Type 0} → (K → Book → Type 0) → (K → Option Book → Type 0) → Call K → Type 0
@@ -77,7 +77,7 @@ cut_life holds leaves call count life =
 
 -- the life of a turn, if it had loaded a book
 abbrev pub life_of : {K : Type 0} (holds : K → Book → Type 0) (leaves : K → Option Book → Type 0) (turn : Turn K) → IsTurn holds leaves turn → List Lived
-life_of holds leaves (Ended call) (inl early) = []
+life_of holds leaves (Ended call) (inl unloaded) = []
 life_of holds leaves (Ended call) (inr life) = whole_life holds leaves call life ∷ []
 life_of holds leaves (CutEarly call) is = []
 life_of holds leaves (Cut call count) life = cut_life holds leaves call count life ∷ []
@@ -126,7 +126,7 @@ pub record TellsFinal (before now : Option (List ℕ)) (command : Command) (c : 
 
 -- If the turn is a call that ended with Done, it does so with its last book.
 abbrev pub TellsTrue : {K : Type 0} (holds : K → Book → Type 0) (leaves : K → Option Book → Type 0) (turn : Turn K) → IsTurn holds leaves turn → Type 0
-TellsTrue holds leaves (Ended call) (inl early) = ⊤
+TellsTrue holds leaves (Ended call) (inl unloaded) = ⊤
 TellsTrue holds leaves (Ended call) (inr life) = call.outcome ≡ Done → TellsFinal call.written_before call.written_after life.command life.prepared life.work.sure
 TellsTrue holds leaves (CutEarly call) is = ⊤
 TellsTrue holds leaves (Cut call count) life = ⊤

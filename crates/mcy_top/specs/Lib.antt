@@ -4,11 +4,15 @@ pub mod Texts
 pub mod Defined
 pub mod Outcomes
 pub mod BookRefusals
+pub mod ProgramOrder
 pub mod Life
+pub mod KeptTexts
+pub mod Shown
 pub mod Complete
 pub mod Endings
 pub mod Once
 pub mod Exact
+pub mod ShownLaws
 pub mod Lives
 pub mod Calls
 pub mod Histories

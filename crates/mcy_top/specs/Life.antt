@@ -10,7 +10,7 @@ use Rattle.result_book.specs.Goals.{wanted}
 use Rattle.result_book.specs.Rows.{history, IsFinished, IsWellFormed}
 use Rattle.mcy_outside.specs.Written.{Appends, AppendsPart}
 use Rattle.command_words.specs.declared.command.Command.{Command}
-use Rattle.command_words.specs.declared.command.Command.TheVariants.{Init, Run, List as Listing, Status, Source}
+use Rattle.command_words.specs.declared.command.Command.TheVariants.{Init, Run, List as Listing, Status, Source, Demo}
 use Rattle.campaign_plan.specs.declared.prepared.Prepared.{Prepared}
 use Rattle.campaign_reading.specs.declared.refusal.Refusal.TheVariants.{ProjectBad as RefusedProject, ScriptBad as RefusedScript, SourceBad as RefusedSource, Missing as RefusedMissing, TooLarge as RefusedTooLarge, ReadFault as RefusedRead}
 use Rattle.mcy_top.specs.declared.refusal.BookRefusal.TheVariants.{NoCampaign as RefusedNone, AlreadyBegun as RefusedBegun, BookBad as RefusedBook}
@@ -18,7 +18,7 @@ use Rattle.campaign_outcomes.specs.declared.outcome.Outcome.{Outcome}
 use Rattle.campaign_outcomes.specs.declared.outcome.Outcome.TheVariants.{Done, Unfinished, Usage, ProjectBad, ScriptBad, SourceBad, Missing, TooLarge, NoCampaign, AlreadyBegun, BookBad, ReadFault, KeeperFault, WriteFault, Memory}
 use Rattle.command_words.specs.Commands.{command_of}
 use Rattle.campaign_run.specs.Running.{AreWanted, IsWithin, WantsNone}
-use Rattle.mcy_top.specs.Commands.{goal_of, slots_of, stop_of, OnlyReads, Runs}
+use Rattle.mcy_top.specs.Commands.{goal_of, slots_of, stop_of, AsksDemo, OnBook, OnlyReads, Runs}
 use Rattle.campaign_reading.specs.Files.{IsMade}
 use Rattle.campaign_reading.specs.Reads.{IsUnmade}
 use Rattle.mcy_top.specs.BookRefusals.{RefusesBook}
@@ -27,6 +27,7 @@ use Rattle.campaign_run.specs.Crashes.{LeavesBooks}
 use Rattle.campaign_run.specs.Changes.{Course, IsNear}
 use Rattle.mcy_top.specs.Texts.{text_of}
 use Rattle.mcy_top.specs.Defined.{given_up, IsFinalText}
+use Rattle.mcy_top.specs.ProgramOrder.{IsInOrder}
 
 -- the words give a command
 abbrev pub Commands : List (List ℕ) → Type 0
@@ -87,10 +88,11 @@ IsQuiet before now outcome = now ≡ before
 -- the command takes this book
 abbrev pub Takes : Command → Prepared → Book → Type 0
 Takes Init c book = IsBlank book
-Takes (Run stop retry) c book = IsBlank book ⊎ IsWellFormed c.campaign book
+Takes (Run jobs stop retry) c book = IsBlank book ⊎ IsWellFormed c.campaign book
 Takes Listing c book = IsWellFormed c.campaign book
 Takes Status c book = IsWellFormed c.campaign book
 Takes Source c book = IsWellFormed c.campaign book
+Takes (Demo seed cells) c book = ⊥
 
 -- No mutation wants a test under the goal of the command, so that every mutation is finished; and the text is the one that the
 -- campaign defines with the pairs that the book gave up.
@@ -140,7 +142,8 @@ GainsWanted c goal loaded book = (more : List Entry) → book.journal ≡ (histo
 
 -- The sure book has the loaded one as its first part, and every crash leaves a book: the sure one, with one entry more
 -- at most, and no more entries than were asked for. The sure book was reached by changes, and every crash leaves it or
--- the book after one change more. Where tests were run and a text was written, it is of the second format.
+-- the book after one change more. Where tests were run and a text was written, it is of the second format. The rows that a run adds
+-- are in its order in every book that a crash leaves.
 pub record Grew (leaves : Option Book → Type 0) (command : Command) (c : Prepared) (loaded sure : Book) (outcome : Outcome) : Type 0 where
   pub grown : IsPrefix loaded sure
   pub within_one : LeavesBooks leaves (IsWithinOne sure)
@@ -149,6 +152,7 @@ pub record Grew (leaves : Option Book → Type 0) (command : Command) (c : Prepa
   pub no_entry : ¬ Runs command → LeavesBooks leaves (λ other. other.journal ≡ loaded.journal)
   pub gained : IsWithin (stop_of command) (length loaded.journal) (length sure.journal)
   pub wanted_only : GainsWanted c (goal_of command) loaded sure
+  pub order : Runs command → LeavesBooks leaves (IsInOrder c (goal_of command) (slots_of command) loaded)
   pub stops : LeavesBooks leaves (λ other. IsWithin (stop_of command) (length loaded.journal) (length other.journal))
   pub exact : Carried outcome → LeavesOnly leaves sure
   pub is_begun : Carried outcome → sure.meta ≢ []
@@ -159,23 +163,34 @@ pub record Grew (leaves : Option Book → Type 0) (command : Command) (c : Prepa
 
 -- each test that was started has its entry
 abbrev pub IsCounted : Outcome → Type 0
+IsCounted (Unfinished left) = ⊥
 IsCounted KeeperFault = ⊥
+IsCounted WriteFault = ⊥
 IsCounted Memory = ⊥
 IsCounted outcome = ⊤
 
--- The steps are at most the entries that the sure book gained and the slots, and exactly the entries unless the keeper or
--- memory failed: a refused call takes none. They are no more than were asked for. A command that runs no tests takes none.
-pub record Stepped (command : Command) (loaded sure : Book) (before now : ℕ) (outcome : Outcome) : Type 0 where
+-- where a number of rows was asked for, fewer tests were started than that number and the slots together
+abbrev pub StartsFew : Option ℕ → (slots before now : ℕ) → Type 0
+StartsFew None slots before now = ⊤
+StartsFew (Some stop) slots before now = now < before + stop + slots
+
+-- Each entry that the sure book gained was of a test that was started in the call, and took a step then. The steps are at most these
+-- entries and the slots, and at most these and the mutations that want a test still. They are exactly the entries at Done; a refused call
+-- takes none. With one slot no test is started beyond the rows that were asked for, and with each further slot one at most. A command
+-- that runs no tests takes none.
+pub record Stepped (command : Command) (c : Prepared) (loaded sure : Book) (before now : ℕ) (outcome : Outcome) : Type 0 where
+  pub least : before + length sure.journal ≤ now + length loaded.journal
   pub bound : now + length loaded.journal ≤ before + length sure.journal + slots_of command
+  pub wants : now + length loaded.journal ≤ before + length sure.journal + wanting c (goal_of command) sure.journal
+  pub stops : 1 ≤ slots_of command → StartsFew (stop_of command) (slots_of command) before now
   pub equal : IsCounted outcome → now + length loaded.journal ≡ before + length sure.journal
-  pub stops : IsWithin (stop_of command) before now
   pub idle : ¬ Runs command → now ≡ before
 
 -- what a call does after it has loaded a book
 pub record Work (leaves : Option Book → Type 0) (written written' : Option (List ℕ)) (taken taken' : ℕ) (command : Command) (c : Prepared) (loaded : Book) (outcome : Outcome) : Type 0 where
   pub sure : Book
   pub book : Grew leaves command c loaded sure outcome
-  pub steps : Stepped command loaded sure taken taken' outcome
+  pub steps : Stepped command c loaded sure taken taken' outcome
   pub text : Wrote written written' (text_of command c sure) outcome
   pub answer : Answers command c loaded sure outcome
 
@@ -185,13 +200,25 @@ pub record Life (words : List (List ℕ)) (held : Option Held) (holds : Book →
   pub prepared : Prepared
   pub loaded : Book
   pub asked : command_of words ≡ Some command
+  pub on_book : OnBook command
   pub made : IsMade held prepared
   pub found : (was : Book) → holds was → loaded ≡ was
   pub allowed : leaves (Some loaded)
   pub work : Work leaves' written written' taken taken' command prepared loaded outcome
 
--- A call that has loaded no book.
+-- A call that ended before it had loaded a book.
 pub record Early (leaves leaves' : Option Book → Type 0) (taken taken' : ℕ) (outcome : Outcome) : Type 0 where
   pub early : EndsEarly outcome
   pub leaves_is : LeavesNothingNew leaves leaves'
   pub steps_is : taken' ≡ taken
+
+-- A call for a demo, which loads no book and leaves the keeper as it was. What it does the clause `demo` says.
+pub record Aside (words : List (List ℕ)) (leaves leaves' : Option Book → Type 0) : Type 0 where
+  pub seed : ℕ
+  pub cells : ℕ
+  pub asked : AsksDemo words seed cells
+  pub leaves_is : LeavesNothingNew leaves leaves'
+
+-- A call that has loaded no book.
+abbrev pub Unloaded : List (List ℕ) → (leaves leaves' : Option Book → Type 0) → (taken taken' : ℕ) → Outcome → Type 0
+Unloaded words leaves leaves' taken taken' outcome = Early leaves leaves' taken taken' outcome ⊎ Aside words leaves leaves'

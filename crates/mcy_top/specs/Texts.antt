@@ -7,8 +7,9 @@ use Rattle.source_report.specs.Lists.{list_lines}
 use Rattle.source_report.specs.Sources.{file_texts}
 use Rattle.source_report.specs.Texts.{lines, number_line}
 use Rattle.command_words.specs.declared.command.Command.{Command}
-use Rattle.command_words.specs.declared.command.Command.TheVariants.{Init, Run, List as Listing, Status, Source}
+use Rattle.command_words.specs.declared.command.Command.TheVariants.{Init, Run, List as Listing, Status, Source, Demo}
 use Rattle.campaign_plan.specs.declared.prepared.Prepared.{Prepared}
+use Rattle.made_project.specs.Summaries.{summary_text}
 
 -- the sites that there are, and the mutations that were taken
 abbrev pub init_text : Prepared → List ℕ
@@ -17,10 +18,11 @@ init_text c = number_line (codes "Sites") c.site_count ++ number_line (codes "Mu
 -- the text of a command where these are the answers of each mutation
 abbrev pub answers_text : Command → Prepared → List (List Answer) → List ℕ
 answers_text Init c all = init_text c
-answers_text (Run stop retry) c all = lines c.campaign all
+answers_text (Run jobs stop retry) c all = lines c.campaign all
 answers_text Listing c all = list_lines c.campaign 0 c.campaign.mutations all
 answers_text Status c all = lines c.campaign all
 answers_text Source c all = file_texts c.campaign all 0 c.files
+answers_text (Demo seed cells) c all = summary_text seed cells c.site_count (lines c.campaign all)
 
 -- The text of a command over a book. It is that over its history, whose read tests are the same (`HistoriesAreWellFormed` of `result_book`).
 abbrev pub text_of : Command → Prepared → Book → List ℕ

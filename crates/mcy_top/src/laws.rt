@@ -5,7 +5,7 @@ ghost use Rattle.mcy_keeper.specs.Books.{LeavesSome};
 ghost use Rattle.mcy_top.specs.Once.{AnswersAreOne, CampaignsAreOne, FinalTextsAreOne, FinishedTextsAreOne};
 ghost use Rattle.mcy_top.specs.Exact.{BookRefusalsAreExact, FileRefusalsAreExact, FilesHaveOneCause, RefusedFilesMakeNone, UsageIsExact};
 ghost use Rattle.mcy_top.specs.Lives.{LivesAreSafe, PartsAreGood};
-ghost use Rattle.mcy_top.specs.Calls.{CallIsALife, EarlyCallLeavesNothingNew, SureBookHasAll};
+ghost use Rattle.mcy_top.specs.Calls.{CallIsALife, SureBookHasAll, UnloadedCallLeavesNothingNew};
 ghost use Rattle.mcy_top.specs.Histories.{CallsAreAHistory, CallsAreSafe, DoneCallsTellTrue, RestartsFindBooks};
 
 use mcy_keeper::Keeper;
@@ -67,7 +67,7 @@ pub fn sure_book_has_all<K: Keeper>(before: &K, after: &K)
 /// has loaded no book leaves nothing new.
 pub fn call_is_a_life<K: Keeper>(before: &K, after: &K)
     ensures life { CallIsALife (K.holds before.now) (K.leaves before.now) (K.leaves after.now) }
-    ensures early { EarlyCallLeavesNothingNew (K.leaves before.now) (K.leaves after.now) }
+    ensures unloaded { UnloadedCallLeavesNothingNew (K.leaves before.now) (K.leaves after.now) }
 {}
 
 /// Over every list of calls on one keeper that begins with the empty book or with a good one of the first format, each of which

@@ -1,6 +1,9 @@
 //! One campaign from words to a text, over files, a keeper, a sink and a counter of steps.
 #![tactic(auto)]
 
+mod demo;
+pub mod demo_laws;
+mod kept_text;
 pub mod laws;
 mod main_call;
 pub mod netlist_laws;

@@ -1,14 +1,17 @@
 //! The one call of the program.
 ghost use Rattle.std.specs.Prelude.{◌≡◌, ◌⊎◌, ◌<◌, ℕ, map, string_bytes};
 ghost use Rattle.command_words.specs.declared.command.Command.{Command as Asked};
+ghost use Rattle.mcy_top.specs.Commands.{AsksDemo, AsksNoDemo};
 ghost use Rattle.mcy_top.specs.Complete.{Completes, IsReady, NoneRose};
-ghost use Rattle.mcy_top.specs.Life.{Answered, Early, HasCause, IsQuiet, Life};
+ghost use Rattle.mcy_top.specs.Life.{Answered, HasCause, IsQuiet, Life, Unloaded};
+ghost use Rattle.mcy_top.specs.Shown.{Shown};
 
+use crate::demo::demo;
 use crate::refusal::refused;
 use crate::work::{Task, failed};
 use campaign_outcomes::Outcome;
 use campaign_reading::read_campaign;
-use command_words::read_words;
+use command_words::{Command, read_words};
 use mcy_base::Steps;
 use mcy_keeper::Keeper;
 use mcy_outside::{Sink, SourceFiles};
@@ -18,7 +21,7 @@ use std::sync::ledger::{Blank, Ledger};
 
 /// Carries out the command that the words after the program's name give: reads the project and its
 /// source from `files`, keeps the campaign's results in `keeper`, and writes the command's text to
-/// `out`. A step of `steps` is one test started.
+/// `out`. A step of `steps` is one test started. A demo is shown with none of these but `out` and `steps`.
 pub fn mcy_main<F: SourceFiles, K: Keeper, O: Sink, L: Ledger>(
     alloc: Global,
     words: &[String],
@@ -29,8 +32,8 @@ pub fn mcy_main<F: SourceFiles, K: Keeper, O: Sink, L: Ledger>(
 ) -> Outcome
     ensures tells { K.tells keeper.new → K.tells keeper.old }
 
-    // What the outcome says of the words and the files.
-    ensures answer { Answered (map string_bytes words.now) (F.held files.old) result }
+    // What the outcome says of the words and the files, where no demo is asked for.
+    ensures answer { AsksNoDemo (map string_bytes words.now) → Answered (map string_bytes words.now) (F.held files.old) result }
 
     // A fault comes only where its count rose.
     ensures cause { HasCause (F.faults files.old) (F.faults files.new) (K.faults keeper.old) (K.faults keeper.new) (O.faults out.old) (O.faults out.new) result }
@@ -39,8 +42,11 @@ pub fn mcy_main<F: SourceFiles, K: Keeper, O: Sink, L: Ledger>(
     ensures quiet { IsQuiet (O.written out.old) (O.written out.new) result }
 
     // No book was loaded; or what the call does with the book, the steps and the text.
-    ensures life { K.tells keeper.new → Early (K.leaves keeper.old) (K.leaves keeper.new) steps.old steps.new result
+    ensures life { K.tells keeper.new → Unloaded (map string_bytes words.now) (K.leaves keeper.old) (K.leaves keeper.new) steps.old steps.new result
         ⊎ Life (map string_bytes words.now) (F.held files.old) (K.holds keeper.old) (K.leaves keeper.old) (K.leaves keeper.new) (O.written out.old) (O.written out.new) steps.old steps.new result }
+
+    // A demo reads no file and makes no call on the keeper.
+    ensures demo { (seed cells : ℕ) → AsksDemo (map string_bytes words.now) seed cells → Shown seed cells (O.written out.old) (O.written out.new) steps.old steps.new result × (files.new ≡ files.old) × (keeper.new ≡ keeper.old) }
 
     // Where all is there and nothing fails, the command is carried out, or there is no memory.
     ensures complete { K.tells keeper.new → (command : Asked) → IsReady (map string_bytes words.now) (F.held files.old) (K.holds keeper.old) (K.leaves keeper.old) command
@@ -59,17 +65,21 @@ fn carry_out_words<F: SourceFiles, K: Keeper, O: Sink, L: Ledger>(
     steps: &mut Steps<L>,
 ) -> Outcome
     ensures tells { K.tells keeper.new → K.tells keeper.old }
-    ensures answer { Answered (map string_bytes words.now) (F.held files.old) result }
+    ensures answer { AsksNoDemo (map string_bytes words.now) → Answered (map string_bytes words.now) (F.held files.old) result }
     ensures cause { HasCause (F.faults files.old) (F.faults files.new) (K.faults keeper.old) (K.faults keeper.new) (O.faults out.old) (O.faults out.new) result }
     ensures quiet { IsQuiet (O.written out.old) (O.written out.new) result }
-    ensures life { K.tells keeper.new → Early (K.leaves keeper.old) (K.leaves keeper.new) steps.old steps.new result
+    ensures life { K.tells keeper.new → Unloaded (map string_bytes words.now) (K.leaves keeper.old) (K.leaves keeper.new) steps.old steps.new result
         ⊎ Life (map string_bytes words.now) (F.held files.old) (K.holds keeper.old) (K.leaves keeper.old) (K.leaves keeper.new) (O.written out.old) (O.written out.new) steps.old steps.new result }
+    ensures demo { (seed cells : ℕ) → AsksDemo (map string_bytes words.now) seed cells → Shown seed cells (O.written out.old) (O.written out.new) steps.old steps.new result × (files.new ≡ files.old) × (keeper.new ≡ keeper.old) }
 {
     let command = match read_words(alloc, words) {
         Ok(Some(command)) => command,
         Ok(None) => return Outcome::Usage,
         Err(_) => return Outcome::Memory,
     };
+    if let Command::Demo { seed, cells } = command {
+        return demo(alloc, seed, cells, out, steps);
+    }
     let prepared = match read_campaign(alloc, files) {
         Ok(prepared) => prepared,
         Err(refusal) => return refused(refusal),
@@ -95,11 +105,12 @@ pub fn mcy_call<F: SourceFiles, K: Keeper, O: Sink>(
     out: &mut O,
 ) -> Outcome
     ensures tells { K.tells keeper.new → K.tells keeper.old }
-    ensures answer { Answered (map string_bytes words.now) (F.held files.old) result }
+    ensures answer { AsksNoDemo (map string_bytes words.now) → Answered (map string_bytes words.now) (F.held files.old) result }
     ensures cause { HasCause (F.faults files.old) (F.faults files.new) (K.faults keeper.old) (K.faults keeper.new) (O.faults out.old) (O.faults out.new) result }
     ensures quiet { IsQuiet (O.written out.old) (O.written out.new) result }
-    ensures life { K.tells keeper.new → (n : ℕ) × (Early (K.leaves keeper.old) (K.leaves keeper.new) 0 n result
+    ensures life { K.tells keeper.new → (n : ℕ) × (Unloaded (map string_bytes words.now) (K.leaves keeper.old) (K.leaves keeper.new) 0 n result
         ⊎ Life (map string_bytes words.now) (F.held files.old) (K.holds keeper.old) (K.leaves keeper.old) (K.leaves keeper.new) (O.written out.old) (O.written out.new) 0 n result) }
+    ensures demo { (seed cells : ℕ) → AsksDemo (map string_bytes words.now) seed cells → (n : ℕ) × Shown seed cells (O.written out.old) (O.written out.new) 0 n result × (files.new ≡ files.old) × (keeper.new ≡ keeper.old) }
     ensures complete { K.tells keeper.new → (command : Asked) → IsReady (map string_bytes words.now) (F.held files.old) (K.holds keeper.old) (K.leaves keeper.old) command
         → NoneRose (F.faults files.old) (F.faults files.new) (K.faults keeper.old) (K.faults keeper.new) (O.faults out.old) (O.faults out.new) → Completes command result }
 {
@@ -119,11 +130,12 @@ fn call_with<F: SourceFiles, K: Keeper, O: Sink, L: Ledger>(
     requires parts { blank.parts ≡ L.parts }
     requires one { 0 < blank.parts }
     ensures tells { K.tells keeper.new → K.tells keeper.old }
-    ensures answer { Answered (map string_bytes words.now) (F.held files.old) result }
+    ensures answer { AsksNoDemo (map string_bytes words.now) → Answered (map string_bytes words.now) (F.held files.old) result }
     ensures cause { HasCause (F.faults files.old) (F.faults files.new) (K.faults keeper.old) (K.faults keeper.new) (O.faults out.old) (O.faults out.new) result }
     ensures quiet { IsQuiet (O.written out.old) (O.written out.new) result }
-    ensures life { K.tells keeper.new → (n : ℕ) × (Early (K.leaves keeper.old) (K.leaves keeper.new) 0 n result
+    ensures life { K.tells keeper.new → (n : ℕ) × (Unloaded (map string_bytes words.now) (K.leaves keeper.old) (K.leaves keeper.new) 0 n result
         ⊎ Life (map string_bytes words.now) (F.held files.old) (K.holds keeper.old) (K.leaves keeper.old) (K.leaves keeper.new) (O.written out.old) (O.written out.new) 0 n result) }
+    ensures demo { (seed cells : ℕ) → AsksDemo (map string_bytes words.now) seed cells → (n : ℕ) × Shown seed cells (O.written out.old) (O.written out.new) 0 n result × (files.new ≡ files.old) × (keeper.new ≡ keeper.old) }
     ensures complete { K.tells keeper.new → (command : Asked) → IsReady (map string_bytes words.now) (F.held files.old) (K.holds keeper.old) (K.leaves keeper.old) command
         → NoneRose (F.faults files.old) (F.faults files.new) (K.faults keeper.old) (K.faults keeper.new) (O.faults out.old) (O.faults out.new) → Completes command result }
 {

@@ -5,19 +5,20 @@ ghost use Rattle.mcy_keeper.specs.Books.{blank, Keeps, LeavesEither};
 ghost use Rattle.result_book.specs.Goals.{IsGoal};
 ghost use Rattle.result_book.specs.Rows.{history, IsWellFormed};
 ghost use Rattle.result_book.specs.States.{IsStateOf};
-ghost use Rattle.mcy_top.specs.Commands.{run_goal};
+ghost use Rattle.mcy_top.specs.Commands.{run_goal, AreSlots};
 ghost use Rattle.campaign_plan.specs.Campaigns.{IsPlan};
-ghost use Rattle.mcy_top.specs.Endings.{run_outcome, Ends};
+ghost use Rattle.mcy_top.specs.Endings.{broken_outcome, run_outcome, Ends};
 ghost use Rattle.campaign_run.specs.Running.{book_of};
 ghost use Rattle.mcy_top.specs.Life.{wanting, Work};
 
 use crate::work::{Task, failed};
+use campaign_core::{Core, CoreError};
 use campaign_outcomes::Outcome;
-use campaign_run::Tester;
 use command_words::Command;
 use mcy_base::Steps;
 use mcy_keeper::{Book, KeepError, Keeper};
 use mcy_outside::Sink;
+use project_tester::ProjectTester;
 use result_book::{Goal, State, bounds_of};
 use std::sync::ledger::Ledger;
 
@@ -29,6 +30,16 @@ fn run_goal(retry: Option<u32>) -> Goal
         retry: retry.unwrap_or(0),
         part: 0,
         parts: 1,
+    }
+}
+
+/// How a call ends whose campaign could not go on.
+fn broken(error: CoreError) -> Outcome
+    ensures { result ≡ broken_outcome error }
+{
+    match error {
+        CoreError::Keeper => Outcome::KeeperFault,
+        CoreError::Memory => Outcome::Memory,
     }
 }
 
@@ -64,9 +75,10 @@ impl Task<'_> {
         }
     }
 
-    /// Runs tests from this state of the begun book, which is of the second format, and writes the status.
+    /// Runs tests from this state of the begun book, which is of the second format, so many at once, and writes the status.
     fn run<K: Keeper, O: Sink, L: Ledger>(
         &self,
+        jobs: u32,
         stop_after: Option<u32>,
         retry: Option<u32>,
         state: State,
@@ -77,29 +89,31 @@ impl Task<'_> {
         requires settled { IsTrue (K.is_settled keeper.old) }
         requires plan { IsPlan self.now.prepared.now }
         requires goal { IsGoal (run_goal retry) }
+        requires slots { AreSlots jobs }
         requires state { IsStateOf self.now.prepared.now.campaign state.rows state }
         requires kept { K.tells keeper.old → Keeps (K.holds keeper.old) (K.leaves keeper.old) (book_of self.now.prepared.now state.rows) }
         ensures tells { K.tells keeper.new → K.tells keeper.old }
-        ensures work { K.tells keeper.new → Work (K.leaves keeper.new) (O.written out.old) (O.written out.new) steps.old steps.new (Command.Run stop_after retry) self.now.prepared.now (book_of self.now.prepared.now state.rows) result }
+        ensures work { K.tells keeper.new → Work (K.leaves keeper.new) (O.written out.old) (O.written out.new) steps.old steps.new (Command.Run jobs stop_after retry) self.now.prepared.now (book_of self.now.prepared.now state.rows) result }
         ensures ends { Ends (O.written out.old) (O.written out.new) (K.faults keeper.old) (K.faults keeper.new) (O.faults out.old) (O.faults out.new) result }
     {
-        let tester = Tester {
-            alloc: self.alloc,
-            prepared: self.prepared,
-        };
-        let mut state = state;
+        let campaign = &self.prepared.campaign;
+        let tester = ProjectTester::new(self.alloc, self.prepared);
         let goal = run_goal(retry);
-        match tester.run_tests(goal, stop_after, &mut state, keeper, steps) {
+        let Ok(mut core) = Core::new(self.alloc, campaign, state, tester, jobs, goal) else {
+            return Outcome::Memory;
+        };
+        match core.run(stop_after, keeper, steps) {
             Ok(()) => self
-                .report(&state, out)
-                .outcome(self.run_outcome(goal, &state)),
-            Err(error) => failed(error),
+                .report(core.state(), out)
+                .outcome(self.run_outcome(goal, core.state())),
+            Err(error) => broken(error),
         }
     }
 
     /// Begins the campaign in an empty book, runs tests, and writes the status.
     pub(crate) fn begin_and_run<K: Keeper, O: Sink, L: Ledger>(
         &self,
+        jobs: u32,
         stop_after: Option<u32>,
         retry: Option<u32>,
         keeper: &mut K,
@@ -109,9 +123,10 @@ impl Task<'_> {
         requires settled { IsTrue (K.is_settled keeper.old) }
         requires plan { IsPlan self.now.prepared.now }
         requires goal { IsGoal (run_goal retry) }
+        requires slots { AreSlots jobs }
         requires kept { K.tells keeper.old → Keeps (K.holds keeper.old) (K.leaves keeper.old) blank }
         ensures tells { K.tells keeper.new → K.tells keeper.old }
-        ensures work { K.tells keeper.new → Work (K.leaves keeper.new) (O.written out.old) (O.written out.new) steps.old steps.new (Command.Run stop_after retry) self.now.prepared.now blank result }
+        ensures work { K.tells keeper.new → Work (K.leaves keeper.new) (O.written out.old) (O.written out.new) steps.old steps.new (Command.Run jobs stop_after retry) self.now.prepared.now blank result }
         ensures ends { Ends (O.written out.old) (O.written out.new) (K.faults keeper.old) (K.faults keeper.new) (O.faults out.old) (O.faults out.new) result }
     {
         let Ok(state) = State::new(self.alloc, &self.prepared.campaign) else {
@@ -121,7 +136,7 @@ impl Task<'_> {
             &self.prepared.campaign.meta,
             &self.prepared.campaign.mutations,
         ) {
-            Ok(()) => self.run(stop_after, retry, state, keeper, out, steps),
+            Ok(()) => self.run(jobs, stop_after, retry, state, keeper, out, steps),
             Err(error) => failed(error),
         }
     }
@@ -149,6 +164,7 @@ impl Task<'_> {
     /// Goes on with a begun book: moves it to the second format, where it is of the first, runs tests, and writes the status.
     pub(crate) fn resume<K: Keeper, O: Sink, L: Ledger>(
         &self,
+        jobs: u32,
         stop_after: Option<u32>,
         retry: Option<u32>,
         loaded: &Book,
@@ -159,10 +175,11 @@ impl Task<'_> {
         requires settled { IsTrue (K.is_settled keeper.old) }
         requires plan { IsPlan self.now.prepared.now }
         requires goal { IsGoal (run_goal retry) }
+        requires slots { AreSlots jobs }
         requires begun { loaded.now.meta ≢ [] }
         requires kept { K.tells keeper.old → Keeps (K.holds keeper.old) (K.leaves keeper.old) loaded.now }
         ensures tells { K.tells keeper.new → K.tells keeper.old }
-        ensures work { K.tells keeper.new → Work (K.leaves keeper.new) (O.written out.old) (O.written out.new) steps.old steps.new (Command.Run stop_after retry) self.now.prepared.now loaded.now result }
+        ensures work { K.tells keeper.new → Work (K.leaves keeper.new) (O.written out.old) (O.written out.new) steps.old steps.new (Command.Run jobs stop_after retry) self.now.prepared.now loaded.now result }
         ensures ends { Ends (O.written out.old) (O.written out.new) (K.faults keeper.old) (K.faults keeper.new) (O.faults out.old) (O.faults out.new) result }
     {
         let state = match self.read_state(loaded) {
@@ -170,7 +187,7 @@ impl Task<'_> {
             Err(refusal) => return refusal.into_outcome(),
         };
         match self.upgrade(loaded, keeper) {
-            Ok(()) => self.run(stop_after, retry, state, keeper, out, steps),
+            Ok(()) => self.run(jobs, stop_after, retry, state, keeper, out, steps),
             Err(error) => failed(error),
         }
     }

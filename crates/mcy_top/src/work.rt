@@ -8,7 +8,7 @@ ghost use Rattle.result_book.specs.States.{IsStateOf};
 ghost use Rattle.source_report.specs.Lists.{list_text};
 ghost use Rattle.source_report.specs.Sources.{source_text};
 ghost use Rattle.source_report.specs.Texts.{status_text};
-ghost use Rattle.mcy_top.specs.Commands.{goal_of, OnlyReads};
+ghost use Rattle.mcy_top.specs.Commands.{goal_of, HasSlots, OnBook, OnlyReads};
 ghost use Rattle.mcy_top.specs.Texts.{init_text, text_of};
 ghost use Rattle.campaign_plan.specs.Campaigns.{IsPlan};
 ghost use Rattle.mcy_top.specs.BookRefusals.{RefusesBook};
@@ -65,7 +65,7 @@ pub(crate) fn failed(error: KeepError) -> Outcome
 }
 
 /// Writes a whole text.
-fn deliver<O: Sink>(text: &[u8], out: &mut O) -> Ending
+pub(crate) fn deliver<O: Sink>(text: &[u8], out: &mut O) -> Ending
     ensures wrote { Delivers (O.written out.old) (O.written out.new) text.now result }
     ensures later { O.faults out.old ≤ O.faults out.new }
     ensures cause { result ≡ Ending.Refused → Rose (O.faults out.old) (O.faults out.new) }
@@ -139,7 +139,9 @@ impl Task<'_> {
         match command {
             Command::List => self.list(state, out),
             Command::Source => self.show_source(state, out),
-            Command::Init | Command::Run { .. } | Command::Status => self.report(state, out),
+            Command::Init | Command::Run { .. } | Command::Status | Command::Demo { .. } => {
+                self.report(state, out)
+            }
         }
     }
 
@@ -186,7 +188,9 @@ impl Task<'_> {
     ) -> Outcome
         requires settled { IsTrue (K.is_settled keeper.old) }
         requires plan { IsPlan self.now.prepared.now }
+        requires book { OnBook command }
         requires goal { IsGoal (goal_of command) }
+        requires slots { HasSlots command }
         requires kept { K.tells keeper.old → Keeps (K.holds keeper.old) (K.leaves keeper.old) blank }
         ensures tells { K.tells keeper.new → K.tells keeper.old }
         ensures work { K.tells keeper.new → Work (K.leaves keeper.new) (O.written out.old) (O.written out.new) steps.old steps.new command self.now.prepared.now blank result }
@@ -194,10 +198,14 @@ impl Task<'_> {
     {
         match command {
             Command::Init => self.init(keeper, out),
-            Command::Run { stop_after, retry } => {
-                self.begin_and_run(stop_after, retry, keeper, out, steps)
+            Command::Run {
+                jobs,
+                stop_after,
+                retry,
+            } => { self.begin_and_run(jobs, stop_after, retry, keeper, out, steps) }
+            Command::List | Command::Status | Command::Source | Command::Demo { .. } => {
+                Outcome::NoCampaign
             }
-            Command::List | Command::Status | Command::Source => Outcome::NoCampaign,
         }
     }
 
@@ -249,7 +257,9 @@ impl Task<'_> {
     ) -> Outcome
         requires settled { IsTrue (K.is_settled keeper.old) }
         requires plan { IsPlan self.now.prepared.now }
+        requires book { OnBook command }
         requires goal { IsGoal (goal_of command) }
+        requires slots { HasSlots command }
         requires begun { loaded.now.meta ≢ [] }
         requires kept { K.tells keeper.old → Keeps (K.holds keeper.old) (K.leaves keeper.old) loaded.now }
         ensures tells { K.tells keeper.new → K.tells keeper.old }
@@ -258,10 +268,12 @@ impl Task<'_> {
     {
         match command {
             Command::Init => Outcome::AlreadyBegun,
-            Command::Run { stop_after, retry } => {
-                self.resume(stop_after, retry, loaded, keeper, out, steps)
-            }
-            Command::List | Command::Status | Command::Source => {
+            Command::Run {
+                jobs,
+                stop_after,
+                retry,
+            } => { self.resume(jobs, stop_after, retry, loaded, keeper, out, steps) }
+            Command::List | Command::Status | Command::Source | Command::Demo { .. } => {
                 self.show(command, loaded, keeper, out)
             }
         }
@@ -278,7 +290,9 @@ impl Task<'_> {
     ) -> Outcome
         requires settled { IsTrue (K.is_settled keeper.old) }
         requires plan { IsPlan self.now.prepared.now }
+        requires book { OnBook command }
         requires goal { IsGoal (goal_of command) }
+        requires slots { HasSlots command }
         requires kept { K.tells keeper.old → Keeps (K.holds keeper.old) (K.leaves keeper.old) loaded.now }
         ensures tells { K.tells keeper.new → K.tells keeper.old }
         ensures work { K.tells keeper.new → Work (K.leaves keeper.new) (O.written out.old) (O.written out.new) steps.old steps.new command self.now.prepared.now loaded.now result }

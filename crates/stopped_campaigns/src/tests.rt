@@ -34,13 +34,15 @@ fn campaign(alloc: Global) -> Result<CleanFiles, AllocError> {
     Ok(CleanFiles::new(alloc, FileList::from_vec(files)))
 }
 
-/// The outcome and the text of a run.
+/// The outcome and the text of a run with this option.
 pub(crate) fn run<K: Keeper>(
     alloc: Global,
+    slots: &str,
     keeper: &mut K,
 ) -> Result<(Outcome, MemorySink), AllocError> {
     let mut words = Vec::new(alloc);
     words.push("run".to_owned(alloc)?)?;
+    words.push(slots.to_owned(alloc)?)?;
     let mut files = campaign(alloc)?;
     let mut out = MemorySink::new(Vec::new(alloc), Vec::with_capacity(alloc, 1000)?);
     let outcome = mcy_call(alloc, &words, &mut files, keeper, &mut out);
@@ -65,10 +67,12 @@ pub(crate) fn crashed(mut files: Files<Stopping>) -> Files<Stopping> {
     files
 }
 
-/// Runs the campaign over these files. Whether it was done, with its whole text, and what is left of the files.
+/// Runs the campaign over these files, in so many slots as the option says. Whether it was done, with its whole text, and what is left of
+/// the files.
 pub(crate) fn run_over(
     rt: &impl Abort,
     alloc: Global,
+    slots: &str,
     files: Files<Stopping>,
 ) -> Result<(bool, Files<Stopping>), Fail> {
     assert!(rt; files.may_be_used());
@@ -77,7 +81,7 @@ pub(crate) fn run_over(
         Err((_, left)) => return Ok((false, left.into_files())),
     };
     let mut keeper = SqlKeeper::adopt(alloc, Some(connection));
-    let (outcome, out) = run(alloc, &mut keeper)?;
+    let (outcome, out) = run(alloc, slots, &mut keeper)?;
     let is_done = matches!(&outcome, Outcome::Done);
     assert!(rt; is_done || matches!(&outcome, Outcome::KeeperFault));
     assert!(rt; !is_done || out.seen() == FINISHED.as_bytes());
@@ -88,17 +92,18 @@ pub(crate) fn run_over(
 }
 
 /// Stops a campaign's first run after so many calls of the log and of the database. After the crash the
-/// next run ends it, and a third one finds it as it is. Whether the first one did.
+/// next run, with another number of slots, ends it, and a third one finds it as it is. Whether the first one did.
 fn stop_and_go_on(
     rt: &impl Abort,
     alloc: Global,
     log_calls: u64,
     db_calls: u64,
 ) -> Result<bool, Fail> {
-    let (is_done, left) = run_over(rt, alloc, stopping_files(alloc, log_calls, db_calls))?;
-    let (goes_on, left) = run_over(rt, alloc, crashed(left))?;
+    let files = stopping_files(alloc, log_calls, db_calls);
+    let (is_done, left) = run_over(rt, alloc, "-j3", files)?;
+    let (goes_on, left) = run_over(rt, alloc, "-j1", crashed(left))?;
     assert!(rt; goes_on);
-    let (is_kept, _) = run_over(rt, alloc, crashed(left))?;
+    let (is_kept, _) = run_over(rt, alloc, "-j64", crashed(left))?;
     assert!(rt; is_kept);
     Ok(is_done)
 }

@@ -33,7 +33,7 @@ fn first_files(
         return Err(KeepError::Fault.into());
     };
     let mut keeper = SqlKeeper::adopt(alloc, Some(connection));
-    let (outcome, _) = run(alloc, &mut keeper)?;
+    let (outcome, _) = run(alloc, "-j1", &mut keeper)?;
     assert!(rt; matches!(&outcome, Outcome::Done));
     let Some(mut connection) = keeper.into_connection() else {
         return Err(KeepError::Fault.into());
@@ -67,8 +67,8 @@ fn stop_and_upgrade(
     db_calls: u64,
 ) -> Result<bool, Fail> {
     let files = first_files(rt, alloc, log_calls, db_calls)?;
-    let (is_done, left) = run_over(rt, alloc, files)?;
-    let (goes_on, left) = run_over(rt, alloc, crashed(left))?;
+    let (is_done, left) = run_over(rt, alloc, "-j1", files)?;
+    let (goes_on, left) = run_over(rt, alloc, "-j3", crashed(left))?;
     assert!(rt; goes_on);
     assert_eq!(rt; bounded_rows(rt, alloc, crashed(left))?, 3);
     Ok(is_done)

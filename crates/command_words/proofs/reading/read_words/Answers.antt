@@ -9,6 +9,7 @@ use Rattle.command_words.specs.Program.{command_by, command_line}
 use Rattle.command_words.proofs.RunTurns.{IsClean}
 use Rattle.command_words.proofs.Turns.{dashes}
 use Rattle.command_words.proofs.Whole.{accepted, clean_from, refused, with_dashes}
+use Rattle.command_words.proofs.WordParts.{strings_are_texts}
 use Rattle.command_words.proofs.reading.read_words.Goals as goal
 
 is_plain : is_simple command_line ≡ true
@@ -28,7 +29,7 @@ pub returns-in-Ok : goal.returns-in-Ok
 returns-in-Ok c =
     let words : List Text = map string_bytes c.args.words.now in
     let none : list_any (λ word. bytes_eq (string_bytes word) dashes) c.args.words.now ≡ false = search rules in
-    let clean : IsClean words = clean_from words (sym (list_any-map (λ word. bytes_eq word dashes) string_bytes c.args.words.now) ∙ none) in
+    let clean : IsClean words = clean_from words (strings_are_texts c.args.words.now) (sym (list_any-map (λ word. bytes_eq word dashes) string_bytes c.args.words.now) ∙ none) in
     let line_is : app_of c.in_ok-command.command ≡ command_line = c.in_ok-command.ensures in
     let free : is_simple_and_free (app_of c.in_ok-command.command) ≡ true = ap is_simple_and_free line_is ∙ is_free in
     let no_fault : fault_of command_line words ≡ [] = ap (λ (a : App). fault_of a words) (sym line_is) ∙ c.in-Ok.ensures.kinds free in
@@ -40,7 +41,7 @@ pub returns : goal.returns
 returns c =
     let words : List Text = map string_bytes c.args.words.now in
     let none : list_any (λ word. bytes_eq (string_bytes word) dashes) c.args.words.now ≡ false = search rules in
-    let clean : IsClean words = clean_from words (sym (list_any-map (λ word. bytes_eq word dashes) string_bytes c.args.words.now) ∙ none) in
+    let clean : IsClean words = clean_from words (strings_are_texts c.args.words.now) (sym (list_any-map (λ word. bytes_eq word dashes) string_bytes c.args.words.now) ∙ none) in
     let line_is : app_of c.in_ok-command.command ≡ command_line = c.in_ok-command.ensures in
     let free : is_simple_and_free (app_of c.in_ok-command.command) ≡ true = ap is_simple_and_free line_is ∙ is_free in
     elim (c.in-Err.ensures.kinds free) [

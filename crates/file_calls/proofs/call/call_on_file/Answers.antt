@@ -1,4 +1,4 @@
-use Rattle.std.proofs.Common.{map, string_bytes}
+use Rattle.std.proofs.Common.{ap, map, string_bytes}
 use Rattle.file_calls.proofs.OnFiles.{cause_on, lived_on, none_on, ready_on}
 use Rattle.file_calls.proofs.call.call_on_file.Goals as goal
 
@@ -24,3 +24,8 @@ returns-clause-complete g c tells command ready none =
     (ready_on (map string_bytes c.args.words.now) (g.F.SourceFiles.held c.args.files.now) _ _ _ (λ left was. (c.new-opening.ensures.leaves left).0 was) command ready)
     (none_on (g.F.SourceFiles.faults c.args.files.now) (g.F.SourceFiles.faults c.mcy_call-outcome.new.files) _ _ _ (g.O.Sink.faults c.args.out.now) (g.O.Sink.faults c.mcy_call-outcome.new.out)
     c.new-opening.ensures.uncounted none)
+
+pub returns-clause-demo : goal.returns-clause-demo
+returns-clause-demo g c seed cells asked =
+    let shown = c.mcy_call-outcome.ensures.demo seed cells asked in
+    (shown.0, shown.1, shown.2, ap (λ k. k.watcher) shown.3, rw shown.3 c.new-opening.ensures.leaves)

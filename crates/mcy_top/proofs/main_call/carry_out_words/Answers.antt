@@ -1,10 +1,63 @@
-use Rattle.std.proofs.Common.{◌≡◌, List, ℕ, Option, Some, inl, inr, map, string_bytes, refl, rules}
+use Rattle.std.proofs.Common.{◌≡◌, List, ℕ, Option, None, Some, inl, inr, map, string_bytes, refl, sym, ◌∙◌, rules}
 use Rattle.mcy_outside.specs.Files.{Held}
 use Rattle.command_words.specs.Commands.{command_of}
+use Rattle.command_words.specs.declared.command.Command.TheVariants.{Demo}
+use Rattle.command_words.proofs.Limits.{cells_are_few}
 use Rattle.mcy_top.specs.Life.{IsAccepted}
-use Rattle.mcy_top.proofs.Aiming.{goal_is}
+use Rattle.mcy_top.specs.Shown.{Shown}
+use Rattle.mcy_top.proofs.Aiming.{asks_none, demo_is, goal_is, slots_are, works_on}
 use Rattle.mcy_top.proofs.Answered.{failed_answered, late_answered}
 use Rattle.mcy_top.proofs.main_call.carry_out_words.Goals as goal
+
+-- ---- a demo
+
+pub demo-requires : goal.demo-requires
+demo-requires g c =
+    let says = c.in-Ok-Some.ensures in
+    let field = c.in-Ok-Some.field-0-is in
+    let command = c.in-Ok-Some.command-is in
+    let is = c.in-Demo.is in
+    let words : List (List ℕ) = map string_bytes c.args.words.now in
+    let asked : command_of words ≡ Some (Demo c.in-Demo.seed c.in-Demo.cells) = cc in
+    record { cells = cells_are_few words c.in-Demo.seed c.in-Demo.cells asked }
+
+pub returns-in-Demo-clause-answer : goal.returns-in-Demo-clause-answer
+returns-in-Demo-clause-answer g c none =
+    let says = c.in-Ok-Some.ensures in
+    let field = c.in-Ok-Some.field-0-is in
+    let command = c.in-Ok-Some.command-is in
+    let is = c.in-Demo.is in
+    let words : List (List ℕ) = map string_bytes c.args.words.now in
+    let asked : command_of words ≡ Some (Demo c.in-Demo.seed c.in-Demo.cells) = cc in
+    absurd (none c.in-Demo.seed c.in-Demo.cells asked)
+
+pub returns-in-Demo-clause-cause : goal.returns-in-Demo-clause-cause
+returns-in-Demo-clause-cause g c = c.demo.ensures.cause _ _
+
+pub returns-in-Demo-clause-life : goal.returns-in-Demo-clause-life
+returns-in-Demo-clause-life g c tells =
+    let says = c.in-Ok-Some.ensures in
+    let field = c.in-Ok-Some.field-0-is in
+    let command = c.in-Ok-Some.command-is in
+    let is = c.in-Demo.is in
+    let words : List (List ℕ) = map string_bytes c.args.words.now in
+    let asked : command_of words ≡ Some (Demo c.in-Demo.seed c.in-Demo.cells) = cc in
+    inl (inr (record { seed = c.in-Demo.seed; cells = c.in-Demo.cells; asked = asked; leaves_is = λ left was. was }))
+
+pub returns-in-Demo-clause-demo : goal.returns-in-Demo-clause-demo
+returns-in-Demo-clause-demo g c seed cells demo =
+    let says = c.in-Ok-Some.ensures in
+    let field = c.in-Ok-Some.field-0-is in
+    let command = c.in-Ok-Some.command-is in
+    let is = c.in-Demo.is in
+    let words : List (List ℕ) = map string_bytes c.args.words.now in
+    let asked : command_of words ≡ Some (Demo c.in-Demo.seed c.in-Demo.cells) = cc in
+    (demo_is words c.in-Demo.seed c.in-Demo.cells seed cells (λ s k. Shown s k (g.O.Sink.written c.args.out.now) (g.O.Sink.written c.demo.new.out) c.args.steps.now c.demo.new.steps c.demo.result) asked demo c.demo.ensures.shown, refl, refl)
+
+-- ---- a call on the book
+
+pub carry_out-requires-clause-book : goal.carry_out-requires-clause-book
+carry_out-requires-clause-book g c = works_on c.in-Ok-Some.command c.in_default.not-Demo
 
 pub returns-in-Ok-load-clause-life : goal.returns-in-Ok-load-clause-life
 returns-in-Ok-load-clause-life g c tells =
@@ -17,6 +70,7 @@ returns-in-Ok-load-clause-life g c tells =
       prepared = c.in-Ok.prepared;
       loaded = c.in-Ok-load.loaded;
       asked = cc;
+      on_book = works_on c.in-Ok-Some.command c.in_default.not-Demo;
       made = c.in-Ok.ensures.made;
       found = c.in-Ok-load.ensures.same before;
       allowed = c.in-Ok-load.ensures.allowed before;
@@ -25,32 +79,32 @@ returns-in-Ok-load-clause-life g c tells =
 
 pub returns-clause-life : goal.returns-clause-life
 returns-clause-life g c tells =
-    inl (record {
+    inl (inl (record {
       early = search rules;
       leaves_is = c.in-Err-load.ensures.refused tells;
       steps_is = refl;
-    })
+    }))
 
 pub returns-in-Ok-load-clause-answer : goal.returns-in-Ok-load-clause-answer
-returns-in-Ok-load-clause-answer g c =
+returns-in-Ok-load-clause-answer g c none =
     let says = c.in-Ok-Some.ensures in
     let field = c.in-Ok-Some.field-0-is in
     let command = c.in-Ok-Some.command-is in
     let words : List (List ℕ) = map string_bytes c.args.words.now in
     let held : Option Held = g.F.SourceFiles.held c.args.files.now in
     let asked : command_of words ≡ Some c.in-Ok-Some.command = cc in
-    let accepted : IsAccepted words held = record { asked = λ none. cc; prepared = c.in-Ok.prepared; made = c.in-Ok.ensures.made } in
+    let accepted : IsAccepted words held = record { asked = λ is. cc; prepared = c.in-Ok.prepared; made = c.in-Ok.ensures.made } in
     late_answered words held _ _ _ _ c.carry_out.result accepted c.carry_out.ensures.ends.cause
 
 pub returns-clause-answer : goal.returns-clause-answer
-returns-clause-answer g c =
+returns-clause-answer g c none =
     let says = c.in-Ok-Some.ensures in
     let field = c.in-Ok-Some.field-0-is in
     let command = c.in-Ok-Some.command-is in
     let words : List (List ℕ) = map string_bytes c.args.words.now in
     let held : Option Held = g.F.SourceFiles.held c.args.files.now in
     let asked : command_of words ≡ Some c.in-Ok-Some.command = cc in
-    let accepted : IsAccepted words held = record { asked = λ none. cc; prepared = c.in-Ok.prepared; made = c.in-Ok.ensures.made } in
+    let accepted : IsAccepted words held = record { asked = λ is. cc; prepared = c.in-Ok.prepared; made = c.in-Ok.ensures.made } in
     rw c.failed.ensures (failed_answered words held c.in-Err-load.error accepted)
 
 -- what the words aim at is a goal
@@ -62,3 +116,32 @@ carry_out-requires-clause-goal g c =
     let words : List (List ℕ) = map string_bytes c.args.words.now in
     let asked : command_of words ≡ Some c.in-Ok-Some.command = cc in
     goal_is words c.in-Ok-Some.command asked
+
+-- and its slots are
+pub carry_out-requires-clause-slots : goal.carry_out-requires-clause-slots
+carry_out-requires-clause-slots g c =
+    let says = c.in-Ok-Some.ensures in
+    let field = c.in-Ok-Some.field-0-is in
+    let command = c.in-Ok-Some.command-is in
+    let words : List (List ℕ) = map string_bytes c.args.words.now in
+    let asked : command_of words ≡ Some c.in-Ok-Some.command = cc in
+    slots_are words c.in-Ok-Some.command asked
+
+-- no demo was asked for
+pub returns-in-Ok-load-clause-demo : goal.returns-in-Ok-load-clause-demo
+returns-in-Ok-load-clause-demo g c seed cells demo =
+    let says = c.in-Ok-Some.ensures in
+    let field = c.in-Ok-Some.field-0-is in
+    let command = c.in-Ok-Some.command-is in
+    let words : List (List ℕ) = map string_bytes c.args.words.now in
+    let asked : command_of words ≡ Some c.in-Ok-Some.command = cc in
+    absurd (asks_none words c.in-Ok-Some.command asked c.in_default.not-Demo seed cells demo)
+
+pub returns-clause-demo : goal.returns-clause-demo
+returns-clause-demo g c seed cells demo =
+    let says = c.in-Ok-Some.ensures in
+    let field = c.in-Ok-Some.field-0-is in
+    let command = c.in-Ok-Some.command-is in
+    let words : List (List ℕ) = map string_bytes c.args.words.now in
+    let asked : command_of words ≡ Some c.in-Ok-Some.command = cc in
+    absurd (asks_none words c.in-Ok-Some.command asked c.in_default.not-Demo seed cells demo)

@@ -1,30 +1,51 @@
-use Rattle.std.proofs.Common.{refl, sym, subst}
-use Rattle.result_book.specs.declared.goal.Goal.{Goal}
-use Rattle.result_book.specs.Goals.{IsGoal}
+use Rattle.std.proofs.Common.{refl}
+use Rattle.campaign_outcomes.specs.declared.outcome.Outcome.TheVariants.{Memory}
+use Rattle.command_words.specs.declared.command.Command.TheVariants.{Run}
 use Rattle.source_report.specs.Texts.{status_text}
-use Rattle.campaign_run.specs.Running.{Broke}
-use Rattle.campaign_run.proofs.Growing.{book_form}
-use Rattle.mcy_top.specs.Commands.{run_goal}
+use Rattle.campaign_plan.proofs.Plans.{plan_fit}
+use Rattle.campaign_run.specs.Running.{book_of}
 use Rattle.mcy_top.specs.Endings.{run_outcome}
-use Rattle.mcy_top.proofs.Working.{ending_ends, run_carried, work_broke, work_ran, Went}
+use Rattle.mcy_top.proofs.Runs.{begins, state_is, work_torn, work_turned, Begins}
+use Rattle.mcy_top.proofs.Working.{ending_ends, run_carried, work_kept}
 use Rattle.mcy_top.proofs.work.Task.run.Goals as goal
 
-pub returns-in-Ok-clause-work : goal.returns-in-Ok-clause-work
-returns-in-Ok-clause-work g c tells =
-    let aim : IsGoal c.run_goal-goal.result = subst IsGoal (sym c.run_goal-goal.ensures) c.requires.goal in
-    let went : Went c.args.self.now.prepared.now c.run_goal-goal.result c.args.stop_after c.args.state.rows c.run_tests.new.state.rows =
-    record { plan = c.requires.plan; form = book_form c.args.self.now.prepared.now c.args.state.rows c.requires.plan c.requires.state.form; goal = aim; ran = c.in-Ok.ensures.ran; ends = c.in-Ok.ensures.ends; within = c.in-Ok.ensures.within } in
-    rw (c.outcome.ensures, c.run_outcome.ensures, c.run_goal-goal.ensures) (work_ran (g.K.Keeper.holds c.run_tests.new.keeper) (g.K.Keeper.leaves c.run_tests.new.keeper) (g.O.Sink.written c.args.out.now) (g.O.Sink.written c.report.new.out) c.args.steps.now c.run_tests.new.steps c.args.stop_after c.args.retry c.args.self.now.prepared.now c.args.state.rows c.run_tests.new.state.rows c.report.result
-    (subst (λ (aim : Goal). Went c.args.self.now.prepared.now aim c.args.stop_after c.args.state.rows c.run_tests.new.state.rows) c.run_goal-goal.ensures went) (c.in-Ok.ensures.kept tells) c.in-Ok.ensures.steps c.report.ensures.wrote)
+pub new-requires-clause-fit : goal.new-requires-clause-fit
+new-requires-clause-fit g c = plan_fit c.args.self.now.prepared.now c.requires.plan
 
-pub returns-in-Ok-clause-ends : goal.returns-in-Ok-clause-ends
-returns-in-Ok-clause-ends g c =
-    rw (c.outcome.ensures, c.run_outcome.ensures, c.run_goal-goal.ensures) (ending_ends (g.O.Sink.written c.args.out.now) (g.O.Sink.written c.report.new.out) (g.K.Keeper.faults c.args.keeper.now) (g.K.Keeper.faults c.run_tests.new.keeper) (g.O.Sink.faults c.args.out.now) (g.O.Sink.faults c.report.new.out)
-    (status_text c.args.self.now.prepared.now.campaign c.run_tests.new.state.rows) (run_outcome c.args.self.now.prepared.now (run_goal c.args.retry) c.run_tests.new.state.rows) c.report.result (run_carried c.args.self.now.prepared.now c.args.retry c.run_tests.new.state.rows) c.report.ensures.wrote c.report.ensures.cause)
+-- without memory for a core the book stays
+pub returns-in_default-clause-work : goal.returns-in_default-clause-work
+returns-in_default-clause-work g c tells =
+    work_kept (g.K.Keeper.holds c.args.keeper.now) (g.K.Keeper.leaves c.args.keeper.now) (g.O.Sink.written c.args.out.now) (g.O.Sink.written c.args.out.now) c.args.steps.now (Run c.args.jobs c.args.stop_after c.args.retry) c.args.self.now.prepared.now
+    (book_of c.args.self.now.prepared.now c.args.state.rows) Memory (c.requires.kept tells) refl tt (λ h. absurd h) (λ h. absurd h)
+
+pub report-requires-clause-state : goal.report-requires-clause-state
+report-requires-clause-state g c =
+    let b : Begins c.args.self.now.prepared.now c.run_goal-goal.result c.args.jobs c.args.retry c.args.state c.in-Ok.core =
+    begins c.args.self.now.prepared.now c.run_goal-goal.result c.args.jobs c.args.retry c.args.state c.new-tester.result c.in-Ok.core c.requires.plan c.requires.goal c.run_goal-goal.ensures c.requires.state c.new-tester.ensures c.in-Ok.ensures.new c.in-Ok.ensures.order in
+    state_is c.args.self.now.prepared.now c.run_goal-goal.result c.args.jobs c.args.stop_after c.args.retry c.args.state c.in-Ok.core b c.run.new.self c.state.result.now c.in-Ok-run.ensures.ran c.state.ensures.same c.state.ensures.form
+
+pub run_outcome-requires-clause-state : goal.run_outcome-requires-clause-state
+run_outcome-requires-clause-state g c =
+    let b : Begins c.args.self.now.prepared.now c.run_goal-goal.result c.args.jobs c.args.retry c.args.state c.in-Ok.core =
+    begins c.args.self.now.prepared.now c.run_goal-goal.result c.args.jobs c.args.retry c.args.state c.new-tester.result c.in-Ok.core c.requires.plan c.requires.goal c.run_goal-goal.ensures c.requires.state c.new-tester.ensures c.in-Ok.ensures.new c.in-Ok.ensures.order in
+    state_is c.args.self.now.prepared.now c.run_goal-goal.result c.args.jobs c.args.stop_after c.args.retry c.args.state c.in-Ok.core b c.run.new.self c.state-in-Ok-run.result.now c.in-Ok-run.ensures.ran c.state-in-Ok-run.ensures.same c.state-in-Ok-run.ensures.form
+
+pub returns-in-Ok-run-clause-work : goal.returns-in-Ok-run-clause-work
+returns-in-Ok-run-clause-work g c tells =
+    let b : Begins c.args.self.now.prepared.now c.run_goal-goal.result c.args.jobs c.args.retry c.args.state c.in-Ok.core =
+    begins c.args.self.now.prepared.now c.run_goal-goal.result c.args.jobs c.args.retry c.args.state c.new-tester.result c.in-Ok.core c.requires.plan c.requires.goal c.run_goal-goal.ensures c.requires.state c.new-tester.ensures c.in-Ok.ensures.new c.in-Ok.ensures.order in
+    rw (c.outcome.ensures, c.run_outcome.ensures) (work_turned c.args.self.now.prepared.now c.run_goal-goal.result c.args.jobs c.args.stop_after c.args.retry c.args.state c.in-Ok.core b
+    (g.K.Keeper.holds c.run.new.keeper) (g.K.Keeper.leaves c.run.new.keeper) (g.O.Sink.written c.args.out.now) (g.O.Sink.written c.report.new.out) c.args.steps.now c.run.new.steps c.run.new.self c.state.result.now c.state-in-Ok-run.result.now c.report.result
+    c.in-Ok-run.ensures.ran c.run.ensures.steps (c.in-Ok-run.ensures.kept tells) c.state.ensures.same c.state-in-Ok-run.ensures.same c.report.ensures.wrote)
+
+pub returns-in-Ok-run-clause-ends : goal.returns-in-Ok-run-clause-ends
+returns-in-Ok-run-clause-ends g c =
+    rw (c.outcome.ensures, c.run_outcome.ensures) (ending_ends (g.O.Sink.written c.args.out.now) (g.O.Sink.written c.report.new.out) (g.K.Keeper.faults c.args.keeper.now) (g.K.Keeper.faults c.run.new.keeper) (g.O.Sink.faults c.args.out.now) (g.O.Sink.faults c.report.new.out)
+    (status_text c.args.self.now.prepared.now.campaign c.state.result.now.rows) (run_outcome c.args.self.now.prepared.now c.run_goal-goal.result c.state-in-Ok-run.result.now.rows) c.report.result (run_carried c.args.self.now.prepared.now c.run_goal-goal.result c.state-in-Ok-run.result.now.rows) c.report.ensures.wrote c.report.ensures.cause)
 
 pub returns-clause-work : goal.returns-clause-work
 returns-clause-work g c tells =
-    rw c.failed.ensures (work_broke (g.K.Keeper.leaves c.run_tests.new.keeper) (g.O.Sink.written c.args.out.now) (g.O.Sink.written c.args.out.now) c.args.steps.now c.run_tests.new.steps c.args.stop_after c.args.retry c.args.self.now.prepared.now c.args.state.rows c.in-Err.error c.requires.plan (book_form c.args.self.now.prepared.now c.args.state.rows c.requires.plan c.requires.state.form) (subst (λ (aim : Goal). Broke (g.K.Keeper.leaves c.run_tests.new.keeper) c.args.self.now.prepared.now aim c.args.stop_after c.args.state.rows c.args.steps.now c.run_tests.new.steps) c.run_goal-goal.ensures (c.in-Err.ensures.broke tells)) refl)
-
-pub run_tests-requires-clause-goal : goal.run_tests-requires-clause-goal
-run_tests-requires-clause-goal g c = subst IsGoal (sym c.run_goal-goal.ensures) c.requires.goal
+    let b : Begins c.args.self.now.prepared.now c.run_goal-goal.result c.args.jobs c.args.retry c.args.state c.in-Ok.core =
+    begins c.args.self.now.prepared.now c.run_goal-goal.result c.args.jobs c.args.retry c.args.state c.new-tester.result c.in-Ok.core c.requires.plan c.requires.goal c.run_goal-goal.ensures c.requires.state c.new-tester.ensures c.in-Ok.ensures.new c.in-Ok.ensures.order in
+    rw c.broken.ensures (work_torn c.args.self.now.prepared.now c.run_goal-goal.result c.args.jobs c.args.stop_after c.args.retry c.args.state c.in-Ok.core b
+    (g.K.Keeper.leaves c.run.new.keeper) (g.O.Sink.written c.args.out.now) c.args.steps.now c.run.new.steps c.run.new.self c.in-Err.error (c.in-Err.ensures.left tells) c.run.ensures.steps)

@@ -1,0 +1,4 @@
+pub mod Lines
+pub mod Sections
+pub mod Sizes
+pub mod Refusing

@@ -1,0 +1,8 @@
+use Rattle.std.proofs.Common.{sym, subst}
+use Rattle.project_tester.specs.ProjectJobs.{asked_in, word_in, TellsAttempt}
+use Rattle.project_tester.proofs.Ending.{attempt_told}
+use Rattle.project_tester.proofs.job.ProjectJob.attempt.Goals as goal
+
+pub returns-clause-given : goal.returns-clause-given
+returns-clause-given c p is =
+    subst (TellsAttempt p (asked_in c.args.self.now) (word_in c.args.self.now.work)) (sym c.attempt.ensures) (attempt_told p (asked_in c.args.self.now) c.args.self.now.work is)

@@ -1,0 +1,2 @@
+pub mod ProjectJobs
+pub mod JobTurns
