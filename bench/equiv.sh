@@ -11,9 +11,9 @@ root=$(cd "$(dirname "$0")/.." && pwd)
 room=$(mktemp -d "$root/out-bench.XXXXXX")
 trap 'rm -rf "$room"' EXIT
 
-# The program is the one that runs the cases of pairs.
+# The program is the one that runs the cases of pairs: a table behind the line `§ pairs`, which it prints.
 . "$root/bench/lib/build.sh"
-build_program pair_cases
+build_program mutant_cases
 python3 "$root/bench/lib/equiv.py" "$room"
 
 # The least processor time of three runs, in milliseconds: `least INPUT`.
@@ -31,7 +31,7 @@ echo "$(($(least "$room/tested") - $(least "$room/read"))) milliseconds for all 
 one=$(least "$room/large.1")
 echo "a product of 96 bits: $one milliseconds with one lemma, $((1000 * ($(least "$room/large.200") - one) / 199)) microseconds a lemma more"
 for name in alone beside shared; do
-    echo "a sum of 6 bits, $name: $("$room/program" <"$room/cone.$name"), $(least "$room/cone.$name") milliseconds"
+    echo "a sum of 6 bits, $name: $("$room/program" <"$room/cone.$name" | tail -n +2), $(least "$room/cone.$name") milliseconds"
 done
 if command -v minisat >/dev/null; then
     python3 "$root/bench/lib/equiv.py" --told "$room"

@@ -4,7 +4,7 @@
 # that of reading the pairs alone); beside it the processor time of yosys, which breaks a mutant in one process and compares it with the design
 # in another, by a miter and a solver, for the first COUNT of the same mutants. The verdicts are compared. yosys has to be installed.
 #
-# usage: bench/mutants.sh [SIZE [COUNT [PROGRAM]]]      200 mutants, 20 of them by yosys, and the program pair_cases, which is proved and
+# usage: bench/mutants.sh [SIZE [COUNT [PROGRAM]]]      200 mutants, 20 of them by yosys, and the program mutant_cases, which is proved and
 #                                                       built, where they are left out
 set -euo pipefail
 root=$(cd "$(dirname "$0")/.." && pwd)
@@ -13,9 +13,9 @@ count=${2:-20}
 room=$(mktemp -d "$root/out-bench.XXXXXX")
 trap 'rm -rf "$room"' EXIT
 
-# The program is the one that runs the cases of pairs.
+# The program is the one that runs the cases of pairs: a table behind the line `§ pairs`, which it prints.
 . "$root/bench/lib/build.sh"
-given_or_built pair_cases "${@:3:1}"
+given_or_built mutant_cases "${@:3:1}"
 
 # The processor time of the program in milliseconds: `spent INPUT`.
 spent() {

@@ -13,7 +13,7 @@ bits=${1:-160}
 room=$(mktemp -d "$root/out-bench.XXXXXX")
 trap 'rm -rf "$room"' EXIT
 
-# The program is the one that runs the cases of the search.
+# The program is the one that runs the cases of the search: a table behind the line `§ searches`, which it prints.
 . "$root/bench/lib/build.sh"
 build_program search_cases
 program="$room/program"
@@ -24,6 +24,7 @@ written() {
 import random, sys
 bits, others = map(int, sys.argv[1:])
 choose = random.Random(1364)
+print("§ searches")
 def clause(size, first, last):
     return [bit if choose.random() < 0.5 else -bit for bit in choose.sample(range(first, last + 1), size)]
 for _ in range(5 * bits):
@@ -50,7 +51,7 @@ for others in 0 10000 20000 40000; do
     time=$(($(least "$room/searched" "$program") - $(least "$room/read" "$program")))
     echo "$others other clauses: $lemmas lemmas, $(tail -n 1 "$room/told"), $time milliseconds, $((1000 * time / lemmas)) microseconds a lemma"
     if command -v minisat >/dev/null; then
-        { echo "p cnf 2048 $(wc -l <"$room/read")" && sed 's/^clause //; s/$/ 0/' "$room/read"; } >"$room/clauses.cnf"
+        { echo "p cnf 2048 $(grep -c ^clause "$room/read")" && sed -n '/^clause /{s/^clause //; s/$/ 0/p}' "$room/read"; } >"$room/clauses.cnf"
         echo "    minisat: $(least /dev/null minisat -verb=0 "$room/clauses.cnf" 2>/dev/null) milliseconds with reading"
     fi
 done

@@ -1,7 +1,7 @@
 #!/usr/bin/env python3
-"""Makes stdin and stdout of crates/clock_cases: designs, their clocks, and what is refused in their items for the use of the clock.
+"""Makes the table `clocks` of crates/flat_cases: designs, their clocks, and what is refused in their items for the use of the clock.
 
-    tests/clocks.py [FOLDER]      the table of crates/clock_cases
+    tests/clocks.py [FOLDER]      the table `clocks` of crates/flat_cases
 
 The designs of clock_hand.py are worked out by hand. The others are drawn by a seeded generator as lists of modules, with few names, so
 that names meet. What each gives is worked out from these lists: from an input of an instance one goes outward, connection by
@@ -393,7 +393,7 @@ def main():
         source, told = drawn(seed)
         lines += [f"# drawn {seed}"] + source
         wanted += [f"# drawn {seed}"] + told
-    tables.save("clock_cases", lines, wanted)
+    tables.save("flat_cases", lines, wanted, "clocks")
 
 
 main()

@@ -1,7 +1,7 @@
 #!/usr/bin/env python3
-"""Writes the cases of gates: the standard input of `gate_cases`, and what it must print.
+"""Writes the cases of gates: the table `gates` of crates/search_cases, and what is printed for it.
 
-    tests/gates.py [FOLDER]      the table of crates/gate_cases
+    tests/gates.py [FOLDER]      the table `gates` of crates/search_cases
 
 A literal is a whole number, or True or False for a constant. An operation is looked up by what it is on all values of its
 inputs, not by rules: it folds where it is a constant or a literal of its inputs; a mux that is an `and` or an `or` of two
@@ -182,7 +182,7 @@ def written():
 
 def main():
     lines, answers = written()
-    tables.save("gate_cases", lines, answers)
+    tables.save("search_cases", lines, answers, name="gates")
 
 
 if __name__ == "__main__":

@@ -1,7 +1,7 @@
 #!/usr/bin/env python3
-"""Makes stdin and stdout of crates/item_cases: designs, and the signals and items that they are flattened to.
+"""Makes the table `items` of crates/flat_cases: designs, and the signals and items that they are flattened to.
 
-    tests/items.py [FOLDER]      the table of crates/item_cases
+    tests/items.py [FOLDER]      the table `items` of crates/flat_cases
 
 The designs of item_hand.py are worked out by hand. The others are drawn by a seeded generator as lists of modules, with few names,
 so that names meet. What each gives is worked out in item_design.py from these lists, by the rules of IEEE 1364-2005, 4, 5 and 12.1
@@ -73,7 +73,7 @@ def main():
     for part, part_wanted in [long()] + list(itertools.islice(short, CASES)):
         lines += part
         wanted += part_wanted
-    tables.save("item_cases", lines, wanted)
+    tables.save("flat_cases", lines, wanted, "items")
 
 
 if __name__ == "__main__":

@@ -1,7 +1,7 @@
 #!/usr/bin/env python3
-"""Writes the cases of lemmas: the standard input of `lemma_cases`, and what it must print.
+"""Writes the cases of lemmas: the table `lemmas` of crates/search_cases, and what is printed for it.
 
-    tests/lemmas.py [FOLDER]      the table of crates/lemma_cases
+    tests/lemmas.py [FOLDER]      the table `lemmas` of crates/search_cases
 
 The answers come from the definition alone, over sets and dictionaries: a lemma names free variables, none twice; no earlier
 lemma is a part of it; and with its literals false the hinted clauses are unit one after the other, up to the last, which is
@@ -146,7 +146,7 @@ def cases():
 
 
 def main():
-    tables.save("lemma_cases", *cases())
+    tables.save("search_cases", *cases(), name="lemmas")
 
 
 main()

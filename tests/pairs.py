@@ -1,7 +1,7 @@
 #!/usr/bin/env python3
-"""Writes the cases of pairs of netlists, their clauses and verdicts: the standard input of `pair_cases`, and what it must print.
+"""Writes the cases of pairs of netlists, their clauses and verdicts: the table `pairs` of crates/mutant_cases, and what is printed for it.
 
-    tests/pairs.py [FOLDER]      the table of crates/pair_cases
+    tests/pairs.py [FOLDER]      the table `pairs` of crates/mutant_cases
     tests/pairs.py --minisat     also asks minisat, where it is installed, whether the clauses have a model
 
 The netlists are evaluated by whole numbers, for all values of their inputs and registers where these have at most 10 bits; the gates
@@ -330,7 +330,7 @@ def main():
         if "--minisat" in sys.argv and shutil.which("minisat") and len(lines) > 2:
             assert ask(lines) == bool(found), name
     print(f"{tried} pairs were tried on all values, {differ} of them differ", file=sys.stderr)
-    tables.save("pair_cases", stdin, stdout)
+    tables.save("mutant_cases", stdin, stdout, name="pairs")
 
 
 if __name__ == "__main__":

@@ -1,7 +1,7 @@
 #!/usr/bin/env python3
-"""Makes stdin and stdout of crates/scope_cases: sources, and what their first module declares and lists.
+"""Makes the table `scopes` of crates/flat_cases: sources, and what their first module declares and lists.
 
-    tests/scopes.py [FOLDER]      the table of crates/scope_cases
+    tests/scopes.py [FOLDER]      the table `scopes` of crates/flat_cases
 
 The sources are drawn by a seeded generator from few names, so that names meet. What each gives is worked out here from the
 list of declarations, by the rules of IEEE 1364-2005, 4, 12.2, 12.3 and 12.4, and not from the source's text.
@@ -426,7 +426,7 @@ def case(rng):
 def main():
     rng = random.Random(16)
     cases = [case(rng) for _ in range(CASES)] + BY_HAND
-    tables.save("scope_cases", "".join(f"{text}\n" for text, _ in cases), "".join(f"{text}\n{page}\n" for text, page in cases))
+    tables.save("flat_cases", "".join(f"{text}\n" for text, _ in cases), "".join(f"{text}\n{page}\n" for text, page in cases), "scopes")
 
 
 main()

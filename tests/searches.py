@@ -1,7 +1,7 @@
 #!/usr/bin/env python3
-"""Writes the cases of searches: the standard input of `search_cases`, and what it must print.
+"""Writes the cases of searches: the table `searches` of crates/search_cases, and what is printed for it.
 
-    tests/searches.py [FOLDER]      the table of crates/search_cases
+    tests/searches.py [FOLDER]      the table `searches` of crates/search_cases
 
 This is the rule of the search, over lists: decide the first open free bit to 0, propagate by examining the new clauses in order
 and then those in which the next literal of the trail is false, short ones first and then the long ones that are watched there, and learn the free bits at which the walk down the trail stops.
@@ -439,7 +439,7 @@ def cases():
 
 
 def main():
-    tables.save("search_cases", *cases())
+    tables.save("search_cases", *cases(), name="searches")
 
 
 main()

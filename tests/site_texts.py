@@ -1,7 +1,7 @@
 #!/usr/bin/env python3
-"""The cases of crates/site_text_cases: texts, and the site that each is or the first byte after which no site text goes on.
+"""The table `texts` of crates/search_cases: texts, and the site that each is or the first byte after which no site text goes on.
 
-    tests/site_texts.py [FOLDER]      the table of crates/site_text_cases
+    tests/site_texts.py [FOLDER]      the table `texts` of crates/search_cases
 
 A site text is told by a regular expression and by what its fields may be. That some site text begins with given bytes is told by one:
 all ends of many site texts are tried behind them, also with bytes between that end a character of UTF-8.
@@ -117,7 +117,7 @@ def main():
     for title, texts in CASES.items():
         given += [f"# {title}", *texts]
         told += [f"# {title}", *(answer(unescaped(text)) for text in texts)]
-    tables.save("site_text_cases", given, told)
+    tables.save("search_cases", given, told, name="texts")
 
 
 if __name__ == "__main__":

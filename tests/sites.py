@@ -1,7 +1,7 @@
 #!/usr/bin/env python3
-"""The cases of crates/site_cases: netlists, their sites and what is selected of them, by the definitions alone.
+"""The table `sites` of crates/mutant_cases: netlists, their sites and what is selected of them, by the definitions alone.
 
-    tests/sites.py [FOLDER]      the table of crates/site_cases
+    tests/sites.py [FOLDER]      the table `sites` of crates/mutant_cases
 
 Sites stand by place (cells by number, then registers), port (of a register D, then Q), bit and mode. A
 port of one bit has no site of a mode that reads a control bit; the control bit of bit i of a port of width
@@ -335,7 +335,7 @@ def about_words(seed):
 
 def main():
     made = [about_sites(*case) for case in CASES] + [about_pick(*case) for case in PICKS] + [about_words(seed) for seed in SEEDS]
-    tables.save("site_cases", [line for given, _ in made for line in given], [line for _, told in made for line in told])
+    tables.save("mutant_cases", [line for given, _ in made for line in given], [line for _, told in made for line in told], name="sites")
 
 
 if __name__ == "__main__":

@@ -230,6 +230,11 @@ def clauses(original, other):
     return [f"p cnf {free + len(gates.made)} {len(made)}"] + [" ".join(map(str, c + [0])) for c in made]
 
 
+def table(lines):
+    """These rows as the table `pairs` of the program."""
+    return "".join(f"{line}\n" for line in ["§ pairs", *lines])
+
+
 def write(folder):
     read, tested = [], []
     for k, (name, original, other) in enumerate(pairs(random.Random("pairs to be tested"))):
@@ -239,18 +244,18 @@ def write(folder):
         (folder / f"{k}.cnf").write_text("\n".join(clauses(original, other)) + "\n")
     large = [*product(96).lines(), "original", *product(96, True).lines(), "mutant"]
     for limit in (1, 200):
-        (folder / f"large.{limit}").write_text("\n".join(large + [f"test {limit} 1000"]) + "\n")
+        (folder / f"large.{limit}").write_text(table(large + [f"test {limit} 1000"]))
     for name, two in {"alone": totals(6), "beside": totals(6, 96), "shared": totals(6, 96, True)}.items():
         lines = [*two[0].lines(), "original", *two[1].lines(), "mutant", f"detail {LIMIT} 1000"]
-        (folder / f"cone.{name}").write_text("\n".join(lines) + "\n")
-    (folder / "read").write_text("\n".join(read) + "\n")
-    (folder / "tested").write_text("\n".join(tested) + "\n")
+        (folder / f"cone.{name}").write_text(table(lines))
+    (folder / "read").write_text(table(read))
+    (folder / "tested").write_text(table(tested))
 
 
 def told(folder):
     names, counts, lemmas = [], collections.Counter(), collections.Counter()
     verdicts = []
-    for line in (folder / "told").read_text().splitlines():
+    for line in (folder / "told").read_text().splitlines()[1:]:
         if line.startswith("# "):
             names.append(line)
         else:

@@ -102,6 +102,11 @@ def netlist(folder, name):
     return Reader(next(iter(json.loads((folder / name).read_text())["modules"].values()))).netlist
 
 
+def table(lines):
+    """These rows as the table `pairs` of the program."""
+    return "".join(f"{line}\n" for line in ["§ pairs", *lines])
+
+
 def write(folder, source, top, size):
     yosys(folder, f"read_verilog {source}; prep -top {top} -flatten; pmuxtree; dffunmap; opt_clean; write_rtlil design.il; write_json design.json; mutate -list {size} -o sites")
     yosys(folder, "read_rtlil design.il; expose -evert-dff; rename -top gold; write_rtlil gold.il")
@@ -112,8 +117,8 @@ def write(folder, source, top, size):
         lines = [f"# {number}", *original, "original", *netlist(folder, "mutant.json").lines(), "mutant"]
         read += lines
         tested += lines + [f"detail {LIMIT} 1000"]
-    (folder / "read").write_text("\n".join(read) + "\n")
-    (folder / "tested").write_text("\n".join(tested) + "\n")
+    (folder / "read").write_text(table(read))
+    (folder / "tested").write_text(table(tested))
 
 
 def by_yosys(folder, count):
@@ -129,7 +134,7 @@ def by_yosys(folder, count):
 
 def told(folder):
     words, lemmas = [], collections.Counter()
-    for line in (folder / "told").read_text().splitlines():
+    for line in (folder / "told").read_text().splitlines()[1:]:
         if not line.startswith("# "):
             words.append("no change" if line.startswith("no change") else "unknown" if line.startswith("unknown") else "change")
             found = re.search(r"after (\d+) lemmas", line)

@@ -3,7 +3,7 @@
 
 usage: tests/compare/yosys_sites.py      needs yosys, iverilog and vvp; without them it says so and is skipped
 
-The designs are those of crates/site_cases/stdin of which the program prints the mutants in all modes, and the mutants are those of its
+The designs are those of the table `sites` of crates/mutant_cases of which the program prints the mutants in all modes, and the mutants are those of its
 stdout, which the gate compares with what the program prints. For each design
 
 - the bits and modes at which Yosys breaks it (`mutate -list 0`) are sites, and each site is one of them, with a control bit that
@@ -27,8 +27,9 @@ TESTS = pathlib.Path(__file__).resolve().parents[1]
 sys.path.insert(0, str(TESTS))
 
 import sites
+from lib import tables
 
-ROOT = TESTS.parent / "crates" / "site_cases"
+ROOT = TESTS.parent / "crates" / "mutant_cases"
 TYPES = {"not": "$not", "ror": "$reduce_or", "and": "$and", "add": "$add", "eq": "$eq", "lt": "$lt", "land": "$logic_and", "shl": "$shl", "mux": "$mux"}
 # Seeds that lie near each other draw much the same control bits.
 SEEDS = random.Random(1).sample(range(1, 2**31), 60)
@@ -37,8 +38,8 @@ CYCLES = 24
 
 def designs():
     """Of each design its title, its statements, and its mutants: a site and the lines of a netlist."""
-    inputs = re.split(r"^# ", (ROOT / "stdin").read_text(), flags=re.M)[1:]
-    outputs = re.split(r"^# ", (ROOT / "stdout").read_text(), flags=re.M)[1:]
+    inputs = re.split(r"^# ", tables.tables_of((ROOT / "stdin").read_text())["sites"], flags=re.M)[1:]
+    outputs = re.split(r"^# ", tables.tables_of((ROOT / "stdout").read_text())["sites"], flags=re.M)[1:]
     for asked, told in zip(inputs, outputs, strict=True):
         title, *statements = asked.splitlines()
         if statements[-1] == f"mutants {sites.ALL}":

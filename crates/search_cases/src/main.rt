@@ -1,177 +1,100 @@
-//! Searches for models of the miters that the lines of standard input list, and prints what came of each.
+//! Makes gates and clauses, adds lemmas to logs, searches for models, and reads site texts. Prints what comes of each.
 //!
-//! A line is a statement: a word, and numbers, with one blank between them. A literal is a variable's number, or for its
-//! negation the negative number (DIMACS CNF).
+//! A line `§ NAME` of standard input begins the table of that name, and is printed. Each other line is a row of its table:
 //!
-//! | statement | what it does |
+//! | table | row |
 //! |---|---|
-//! | `clause LITERAL ..` | There is a clause more. |
-//! | `search VARIABLES FREE LIMIT CONFLICTS` | Makes a miter of the clauses so far, or prints why they make none, and lets go of them. Searches by turns of so many conflicts, with a line for each that found nothing. Prints the model's literals, or the lemmas and whether the last one refutes the clauses or the limit is spent. |
-//!
-//! A line that begins with `#` is printed, and an empty one is left out. The lines and what has to be printed come from
-//! `tests/searches.py`.
+//! | `lemmas` | A statement about a log of lemmas. |
+//! | `gates` | A statement about a list of gates. |
+//! | `searches` | A statement about the clauses of a search. |
+//! | `texts` | A site text. |
 #![tactic(auto)]
 
-mod miter;
-mod settling;
+mod gates;
+mod lemmas;
+mod literals;
+mod searches;
+mod texts;
 
-ghost use Rattle.std.specs.Prelude.{◌≡◌, ◌<◌, IfOk};
-ghost use Rattle.sat_solver.specs.Found.{IsRunning, Finds};
-
-use crate::miter::{MANY, miter};
-use anyhow::{Context, Result, bail};
-use clause_encoder::Miter;
-use clause_store::{ClauseStore, Lit};
-use sat_solver::{Assignment, Attempt, Found, Refutation, Search};
+use anyhow::{Context, Result};
+use clause_store::ClauseStore;
+use gate_list::GateList;
 use std::alloc::Global;
-use std::{io, mem};
 
-/// A search that is asked for.
+/// What the rows are.
+#[derive(Clone, Copy)]
+enum Table {
+    Lemmas,
+    Gates,
+    Searches,
+    Texts,
+}
+
+/// What the rows so far have left.
 #[derive(Drop)]
-struct Question {
-    variables: u32,
-    free: u32,
-    limit: u32,
-    conflicts: u32,
+struct Cases {
+    log: lemmas::Case,
+    gates: GateList,
+    clauses: ClauseStore,
 }
 
-/// The literals that the words of a text are.
-fn literals(alloc: Global, text: &str) -> Result<Vec<Lit>> {
-    let mut list = Vec::new(alloc);
-    for word in text.split_ascii_whitespace() {
-        list.push(word.parse::<Lit>().ok().context("no literal")?)?;
-    }
-    Ok(list)
-}
-
-/// The two texts about a blank.
-fn parted(text: &str) -> Option<(u32, &str)> {
-    let (word, rest) = text.split_once(' ')?;
-    Some((word.parse::<u32>().ok()?, rest))
-}
-
-/// The question that the four numbers of a text ask.
-fn read_question(text: &str) -> Option<Question> {
-    let (variables, text) = parted(text)?;
-    let (free, text) = parted(text)?;
-    let (limit, text) = parted(text)?;
-    let conflicts = text.parse::<u32>().ok()?;
-    Some(Question {
-        variables,
-        free,
-        limit,
-        conflicts,
-    })
-}
-
-/// Adds a clause to those that wait for a search.
-fn add_clause(clauses: &mut ClauseStore, clause: &[Lit]) -> Result<()> {
-    if clauses.len() >= MANY || clauses.literals() >= MANY || clause.len() >= MANY as usize {
-        bail!("too many clauses");
-    }
-    clauses.push(clause)?;
-    Ok(())
-}
-
-/// Prints a lemma.
-fn tell_lemma<R: Print>(rt: &R, lemma: &[Lit]) -> io::Result<()> {
-    print!(rt; "lemma")?;
-    for l in lemma {
-        print!(rt; " {l}")?;
-    }
-    println!(rt; "")
-}
-
-/// Prints a refutation.
-fn tell_refutation<R: Print>(rt: &R, refutation: &Refutation) -> io::Result<()> {
-    for number in 0..refutation.len() {
-        tell_lemma(rt, refutation.lemma(number))?;
-    }
-    println!(rt; "refuted")
-}
-
-/// Prints an attempt.
-fn tell_attempt<R: Print>(rt: &R, attempt: &Attempt) -> io::Result<()> {
-    for number in 0..attempt.len() {
-        tell_lemma(rt, attempt.lemma(number))?;
-    }
-    println!(rt; "spent")
-}
-
-/// Prints a model by its literals.
-fn tell_model<R: Print>(rt: &R, assignment: &Assignment, variables: u32) -> io::Result<()> {
-    print!(rt; "model")?;
-    for v in 1..=variables {
-        print!(rt; " {}{v}", if assignment.is_true(v) { "" } else { "-" })?;
-    }
-    println!(rt; "")
-}
-
-/// Prints what a search found.
-fn tell<R: Print>(rt: &R, search: Search, found: Found, asked: &Question) -> io::Result<()>
-    requires found { Finds search found }
-    requires limit { search.limit ≡ asked.now.limit }
-{
-    match found {
-        Found::Model(assignment) => tell_model(rt, &assignment, asked.variables),
-        Found::Refuted => tell_refutation(rt, &Refutation::new(search.into_checker())),
-        Found::Spent => tell_attempt(rt, &Attempt::new(search.into_checker(), asked.limit)),
-    }
-}
-
-/// Searches until something is found, and prints a line for each turn that found nothing.
-fn find<R: Print>(rt: &R, search: &mut Search, asked: &Question) -> Result<Found>
-    requires running { IsRunning search.old }
-    requires some { 0 < asked.now.conflicts }
-    ensures { IfOk result (λ found. Finds search.new found × (search.new.limit ≡ search.old.limit)) }
-{
-    for _turn in 0..asked.limit {
-        if let Some(found) = search.turn(asked.conflicts)? {
-            return Ok(found);
+impl Cases {
+    /// There were no rows.
+    fn new(alloc: Global) -> Cases {
+        Cases {
+            log: lemmas::Case::new(alloc),
+            gates: GateList::new(alloc, 0),
+            clauses: ClauseStore::new(alloc),
         }
-        println!(rt; "searching")?;
-    }
-    bail!("no end")
-}
-
-/// Searches for a model of a miter.
-fn search<R: Print + AllocGlobal>(rt: &R, miter: Miter, asked: &Question) -> Result<()> {
-    if asked.limit == 0 || asked.limit > 100_000 || asked.conflicts == 0 {
-        bail!("no such limit");
-    }
-    let mut search = Search::new(rt.alloc(), miter, asked.limit)?;
-    let found = find(rt, &mut search, asked)?;
-    Ok(tell(rt, search, found, asked)?)
-}
-
-/// Searches for a model of the clauses that wait.
-fn ask<R: Print + AllocGlobal>(rt: &R, clauses: ClauseStore, asked: &Question) -> Result<()> {
-    match miter(rt.alloc(), clauses, asked.variables, asked.free)? {
-        Ok(miter) => search(rt, miter, asked),
-        Err(reason) => Ok(println!(rt; "{reason:?}")?),
     }
 }
 
-/// Carries out a statement.
-fn carry_out<R: Print + AllocGlobal>(rt: &R, clauses: &mut ClauseStore, line: &str) -> Result<()> {
-    let (verb, rest) = line.split_once(' ').unwrap_or((line, ""));
-    match verb {
-        "" => Ok(()),
-        "#" => Ok(println!(rt; "{line}")?),
-        "clause" => add_clause(clauses, literals(rt.alloc(), rest)?.as_slice()),
-        "search" => {
-            let asked = read_question(rest).context("no numbers")?;
-            let clauses = mem::replace(clauses, ClauseStore::new(rt.alloc()));
-            ask(rt, clauses, &asked)
-        }
-        _ => bail!("no statement"),
+/// The table of this name.
+fn table_of(name: &str) -> Option<Table> {
+    match name {
+        "lemmas" => Some(Table::Lemmas),
+        "gates" => Some(Table::Gates),
+        "searches" => Some(Table::Searches),
+        "texts" => Some(Table::Texts),
+        _ => None,
     }
+}
+
+/// Prints what comes of a row.
+fn answer<R: Print + AllocGlobal>(
+    rt: &R,
+    table: Table,
+    cases: &mut Cases,
+    row: &str,
+) -> Result<()> {
+    match table {
+        Table::Lemmas => lemmas::carry_out(rt, &mut cases.log, row),
+        Table::Gates => gates::carry_out(rt, &mut cases.gates, row),
+        Table::Searches => searches::carry_out(rt, &mut cases.clauses, row),
+        Table::Texts => texts::carry_out(rt, row),
+    }
+}
+
+/// Begins a table, or prints what comes of a row of this table.
+fn carry_out<R: Print + AllocGlobal>(
+    rt: &R,
+    table: Table,
+    cases: &mut Cases,
+    line: &str,
+) -> Result<Table> {
+    if let Some(name) = line.strip_prefix("§ ") {
+        println!(rt; "{line}")?;
+        return table_of(name).context("no table");
+    }
+    answer(rt, table, cases, line)?;
+    Ok(table)
 }
 
 fn main(rt: HostRuntime) -> Result<()> {
-    let mut clauses = ClauseStore::new(rt.alloc());
+    let mut table = Table::Lemmas;
+    let mut cases = Cases::new(rt.alloc());
     for line in rt.lines(rt.alloc()) {
-        carry_out(&rt, &mut clauses, line?.as_str())?;
+        table = carry_out(&rt, table, &mut cases, line?.as_str())?;
     }
     Ok(())
 }

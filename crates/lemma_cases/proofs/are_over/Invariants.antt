@@ -1,6 +1,0 @@
-use Rattle.std.proofs.Common.{take}
-use Rattle.clause_store.specs.Clauses.{AreOver}
-use Rattle.lemma_cases.proofs.are_over.Given as goal
-
-abbrev pub invariant-loop-place : goal.invariant-loop-place
-invariant-loop-place l = AreOver l.count (take l.place l.clauses)

@@ -1,5 +1,0 @@
-use Rattle.equiv_test.specs.Jobs.{IsGoing}
-use Rattle.pair_cases.proofs.verdict.find.Given as goal
-
-abbrev pub invariant-loop-turn : goal.invariant-loop-turn
-invariant-loop-turn l = IsGoing l.job
