@@ -55,14 +55,10 @@ def sum_of(*parts):
     return hashlib.sha256(repr(parts).encode()).hexdigest()[:16]
 
 
-def without_answers(text, lines):
-    """A file of answers without those in which these lines are."""
-    kept, last = [], 0
-    for block in re.split(r"(?<=\n)(?=pub )", text):
-        first, last = last + 1, last + block.count("\n")
-        if not block.startswith("pub ") or not any(first <= line <= last for line in lines):
-            kept.append(block)
-    return "".join(kept)
+def without_answers(text, names):
+    """A file of answers without the declarations of these names."""
+    parts = re.split(r"(?m)^(?=(?:pub )?\S+ : )", text)
+    return "".join(it for it in parts if it.removeprefix("pub ").split(" ", 1)[0] not in names)
 
 
 class Crate:
@@ -98,8 +94,8 @@ class Crate:
         return [*words, "--links", f"{self.name}=", "--incremental", f"{self.copy}/kept/{self.name}", "--jobs", "1"]
 
     def check(self, edits, only, without=()):
-        """Checks the crate with these edits and without the answers at these places, of it the functions that are named, or all where none is:
-        the exit status and what the prover tells."""
+        """Checks the crate with these edits and without these answers, each with its file; of it the functions that are named, or all where none
+        is. Gives the exit status and what the prover tells."""
         os.makedirs(f"{self.copy}/kept/{self.name}", exist_ok=True)
         with tempfile.TemporaryDirectory(prefix="edit-", dir=self.copy) as room:
             for part in PARTS:
@@ -108,7 +104,7 @@ class Crate:
             for path, text in edit_files.texts_with(self.folder, edits).items():
                 write(f"{room}/{path}", text)
             for path in {it for it, _ in without}:
-                write(f"{room}/{path}", without_answers(read(f"{room}/{path}"), {line for it, line in without if it == path}))
+                write(f"{room}/{path}", without_answers(read(f"{room}/{path}"), {name for it, name in without if it == path}))
             words = [*self.words(), *[word for it in only for word in ("--only", it)]]
             how = {"cwd": room, "stdin": subprocess.DEVNULL, "stdout": subprocess.PIPE, "stderr": subprocess.STDOUT}
             ran = subprocess.run([f"{KIT}/bin/rattle", "check", *words], errors="replace", **how)
@@ -181,14 +177,25 @@ def try_whole(crate, edit):
     return (LIMIT if status == 3 else BAD), next((it for it in lines if "error" in it), f"status {status}")
 
 
+def old_answers(edit, lines):
+    """The answers in the proofs of what an edit changes that the prover refuses, or does not check for others that it refuses, with their files."""
+    found = set()
+    for line in lines:
+        told = TOLD.match(line)
+        if told and told[1].endswith("/Answers.antt") and any(it and it.has_proof_in(told[1]) for it in edit.functions):
+            refused = re.match(r"error: `([^`]+)`: ", told[3])
+            waiting = re.search(r"were not checked: (.*)", told[3])
+            names = [refused[1]] if refused else re.sub(r" \([^)]*\)", "", waiting[1]).split(", ") if waiting else []
+            found |= {(told[1], name) for name in names}
+    return found
+
+
 def try_without(crate, edit, lines):
     """Tries an edit once more without the answers that no longer fit: what the goals come to then."""
-    told = [TOLD.match(it) for it in lines if ": error" in it]
-    own = [it for it in told if it and any(function and function.has_proof_in(it[1]) for function in edit.functions)]
-    places = {(it[1], int(it[2])) for it in own if it[1].endswith("/Answers.antt")}
-    if not places:
+    without = old_answers(edit, lines)
+    if not without:
         return None
-    status, lines = crate.check([edit], paths_of([edit]), places)
+    status, lines = crate.check([edit], paths_of([edit]), without)
     return (ANSWER, "proved without its answers") if status == 0 else verdict(crate, edit, [edit], status, lines)
 
 
