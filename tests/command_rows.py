@@ -4,17 +4,19 @@
     tests/command_rows.py [FOLDER]      a part of the table of crates/mcy_cases
 
 The first word is the command. Behind `run` stand its options, in any order and each at most once, with a value in the word behind or
-joined: `-j N`, `-jN` or `-j=N`, `--stop-after N` or `--stop-after=N`, `--retry N` or `--retry=N`. Behind `demo` stand a seed and a number
-of cells. A number is one to ten decimal digits; that of a retry is round, its digits behind the first two are 0. Any other words give no
-command. In a case `''` is the empty word.
+joined: `-j N`, `-jN` or `-j=N`, `--stop-after N` or `--stop-after=N`, `--retry N` or `--retry=N`, `--mutations N,N` or
+`--mutations=N,N`. Behind `status` may stand `--strict`. Behind `demo` stand a seed and a number of cells. A number is one to ten decimal
+digits; that of a retry is round, its digits behind the first two are 0. Any other words give no command. In a case `''` is the empty word.
 """
 
 import re
 
 from lib import tables
 
-ALONE = {"init": "Init", "list": "List", "status": "Status", "source": "Source"}
+PLAIN = "Status { strict: false }"
+ALONE = {"init": "Init", "list": "List", "status": PLAIN, "source": "Source", "baseline": "Baseline"}
 FIELDS = {"-j": "jobs", "--stop-after": "stop_after", "--retry": "retry"}
+NAMES = "--mutations"
 
 
 class NoCommand(Exception):
@@ -28,6 +30,11 @@ def number(word, accepts):
     return int(word)
 
 
+def numbers(word):
+    """The numbers of mutations that a word says, with a comma between two."""
+    return [number(part, lambda n: 1 <= n <= 10000) for part in word.split(",")]
+
+
 def is_round(limit):
     return 1 <= limit <= 100000 and re.fullmatch("[0-9]{1,2}0*", str(limit)) is not None
 
@@ -38,9 +45,9 @@ ACCEPTS = {"-j": lambda n: 1 <= n <= 64, "--stop-after": lambda n: 1 <= n <= 100
 def option(words):
     """The option at the front of these words with its value, and the words behind."""
     word, *more = words
-    if word in FIELDS and more:
+    if word in (*FIELDS, NAMES) and more:
         return word, more[0], more[1:]
-    for name in ("--stop-after", "--retry"):
+    for name in ("--stop-after", "--retry", NAMES):
         if word.startswith(f"{name}="):
             return name, word[len(name) + 1 :], more
     if word.startswith("-j"):
@@ -54,9 +61,10 @@ def run(words):
         name, value, words = option(words)
         if name in found:
             raise NoCommand
-        found[name] = number(value, ACCEPTS[name])
+        found[name] = numbers(value) if name == NAMES else number(value, ACCEPTS[name])
     told = {name: f"Some({found[name]})" if name in found else "None" for name in FIELDS}
-    return f"Run {{ jobs: {found.get('-j', 1)}, stop_after: {told['--stop-after']}, retry: {told['--retry']} }}"
+    command = f"Run {{ jobs: {found.get('-j', 1)}, stop_after: {told['--stop-after']}, retry: {told['--retry']} }}"
+    return command, found.get(NAMES, [])
 
 
 def demo(words):
@@ -67,14 +75,16 @@ def demo(words):
 
 
 def command(words):
-    """The command that the words give."""
+    """The command that the words give, and the mutations that they name."""
     match words:
         case ["run", *more]:
             return run(more)
         case ["demo", *more]:
-            return demo(more)
+            return demo(more), []
+        case ["status", "--strict"]:
+            return "Status { strict: true }", []
         case [word] if word in ALONE:
-            return ALONE[word]
+            return ALONE[word], []
     raise NoCommand
 
 
@@ -82,9 +92,10 @@ def said(line):
     """What the words of a line give."""
     words = ["" if word == "''" else word for word in line.split()]
     try:
-        return f"Some({command(words)})"
+        told, mutations = command(words)
     except NoCommand:
         return "None"
+    return f"Some({told})" + (f" of {mutations}" if mutations else "")
 
 
 def both(name, words):
@@ -118,10 +129,18 @@ DEMOS = [
     "demo -h", "demo -j3 7 1", "demo 7 1 -j3", "demo --stop-after 1 7 1", "demo 7 --retry", "demo demo 1", "Demo 7 1", "7 1 demo", "run demo 7 1", "demo=7 1",
 ]
 
+STRICT = [
+    "baseline x", "baseline --", "baseline --strict", "baseline baseline", "baseline=", "Baseline", "--baseline", "baseline --help", "run baseline", "baseline run", "baseline -j3", "baselines", "base",
+    "status --strict", "status --strict --strict", "status --strict=", "status --strict=1", "status --strict 1", "status -strict", "status --Strict", "status --stric", "status --stricter", "status strict",
+    "status ''", "status --strict ''", "status --strict --", "status -- --strict", "status --strict --help", "status -h", "--strict status", "--strict", "init --strict", "run --strict", "list --strict",
+    "source --strict", "demo --strict 7 1", "demo 7 1 --strict", "status --strict -j3", "status -j3 --strict", "status --stop-after 1 --strict",
+]
+
 PARTS = [
     ("# Commands.", FIRST),
     ("# A run has from 1 to 64 slots, which stand at most once beside its other options.", SLOTS),
     ("# A retry takes a number from 1 to 100,000 whose digits behind the first two are 0, at most once.", RETRIES),
+    ("# What benches say of the design is asked with no more words, and a strict status with one.", STRICT),
     ("# A made project has a seed and from 1 to 400 cells, and no options.", DEMOS),
 ]
 

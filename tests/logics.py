@@ -200,4 +200,5 @@ def main():
     tables.save_part("mcy_cases", *halves)
 
 
-main()
+if __name__ == "__main__":
+    main()

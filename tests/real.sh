@@ -228,6 +228,18 @@ cp was.v g.v
 case_is $? "status 13 where standard output is full: $(cat "$room/lines")"
 ends 0 "$finished" "" status
 
+# A strict status has the same text, and another status where an assertion has failed.
+ends 0 "$finished" "" status --strict
+new_folder
+sed -i 's/^\[logic\]/&\nassert result("same") == "PASS"/' config.mcy
+missed=$(sed 's/^Tag CHANGED: 9/Tag CHANGED: 0/; s/^Asserts: 0/Asserts: 9/' <<<"$finished")
+ends 0 "$missed" "" run
+ends 21 "$missed" "mcy: requirement missed" status --strict
+ends 0 "$missed" "" status
+refuses 2 "$usage" "" status --strict --strict
+new_folder
+ends 0 "$finished" "" run
+
 # The rows of the database, by the stock shell, as `seq mutation test word mark tags` in the order of seq. Those of a database of
 # the first format are in `journal`.
 rows() {
@@ -474,12 +486,34 @@ for name in serial arbiter processor; do
     case_is $? "the campaign of $name is finished: $(cat "$room/lines")"
 done
 
-# A campaign whose tests take turns, a bench and then an equality for what that does not notice. It has one text and one word for each test,
-# whatever the numbers of slots are, also where its calls are stopped and killed; the order of its rows goes by the slots.
+# The three logics to start from: each campaign has the status that stands beside it, and all have the same tags.
+tags=
+for name in simulation_first equality_first both; do
+    rm -rf "$room/here" && cp -r "$root/examples/logics" "$room/here" && cd "$room/here/$name" && chmod -R go+rX "$room/here" && chmod 777 . || exit 1
+    "${as_user[@]}" timeout 60 "$mcy" run >"$room/text" 2>"$room/lines" </dev/null && cmp -s "$room/text" "$root/examples/logics/$name/status"
+    case_is $? "the campaign of logics/$name has its status: $(cat "$room/text" "$room/lines")"
+    tags="$tags $(grep '^Tag ' "$room/text" | tr '\n' ' ')"
+done
+[ "$(xargs -n 12 <<<"$tags" | sort -u | wc -l)" = 1 ]
+case_is $? "three logics have the same tags:$tags"
+
+# What a bench says of the design itself, by a call that opens no database.
 slots_folder() {
     rm -rf "$room/here" && cp -r "$root/examples/arbiter" "$room/here" && cd "$room/here" && chmod -R go+rX . && chmod 777 . || exit 1
     sed 's/^size .*/size 60/' "$root/examples/arbiter/config.mcy" >config.mcy
 }
+slots_folder
+listing >"$room/before"
+ends 0 "Test bench: PASS after 1006 cycles" "" baseline
+listing | cmp -s "$room/before"
+case_is $? "a baseline touches no file"
+sed -i 's/^cycles .*/cycles 1005/' config.mcy
+ends 20 "Test bench: HANG after 1005 cycles" "mcy: baseline not passed" baseline
+[ ! -e mcy.db ]
+case_is $? "nor does one that is not passed"
+
+# A campaign whose tests take turns, a bench and then an equality for what that does not notice. It has one text and one word for each test,
+# whatever the numbers of slots are, also where its calls are stopped and killed; the order of its rows goes by the slots.
 slots_folder
 one_text=$("$mcy" run)
 [ "$(sed -n 2p <<<"$one_text")" = "Finished: 60" ]

@@ -6,8 +6,8 @@
 Runs a campaign with standard error as a terminal: lines come, ten times a second at most, each with numbers that fit
 the campaign, and the last one is cleared; so with one test under way and with eight. Standard output is the same as where standard error
 is a pipe, to which nothing is written.
-Tests that are UNKNOWN are told behind the text of `run` and `status` on a terminal, and only there. Calls that are refused for what the
-database holds write a second line there.
+What to do next is told behind the text of `run` and `status` on a terminal, and only there. Calls that are refused write the line of the
+file and a hint there (hints.py).
 Ends with the line 'progress: N lines', or tells what is wrong.
 """
 
@@ -20,6 +20,8 @@ import subprocess
 import sys
 import tempfile
 import time
+
+import hints
 
 PROJECT = """[options]
 size 10000
@@ -49,10 +51,10 @@ endmodule
 # A line in the place of the one before, which the terminal does not go on on another; the cursor waits below it.
 LINE = re.compile(rb"(\x1b\[A)?\r\x1b\[K\x1b\[\?7lmcy: (\d+) of (\d+) finished, (\d+) tests a second(?:, (\d+) s left)?\x1b\[\?7h\r\n")
 CLEARED = b"\x1b[A\r\x1b[K"
-UNKNOWN = re.compile(rb"mcy: \d+ UNKNOWN: run --retry \d+ asks again\r\n\Z")
+UNKNOWN = re.compile(rb"(?:mcy: \d+ unfinished: mcy run goes on with them\r\n)?(?:mcy: \d+ UNKNOWN: run --retry \d+ asks again\r\n)?\Z")
 NO_CAMPAIGN = "no campaign", "run or init begins one"
 BEGUN = "campaign already begun", "run goes on with it"
-CHANGED = "database: meta 2", "config.mcy, a source or mcy.db has changed: undo that, or move mcy.db and mcy.db-wal away to begin anew"
+CHANGED = "database: meta 2", "g.v has changed since the campaign began: undo that, or move mcy.db and mcy.db-wal away to begin anew"
 
 
 def folder():
@@ -130,7 +132,7 @@ def check_refusals(program, here):
     with open(os.path.join(here, "g.v"), "a") as source:
         source.write("// a line more\n")
     check_refusal(program, "run", here, 10, CHANGED)
-    assert on_terminal(program, ["none"], here)[2].count(b"\n") == 1, "words that are none have a second line"
+    assert on_terminal(program, ["none"], here)[2].count(b"\n") == 2, "words that are none have no hint"
 
 
 GIVEN_UP = "examples", "given_up"
@@ -153,6 +155,90 @@ def check_given_up(program):
         settled = on_terminal(program, ["run", "--retry", "9"], here)
         assert settled[0] == 0 and b"UNKNOWN" not in settled[2], settled
         assert on_terminal(program, ["status"], here)[2] == b"", "what is settled is told of"
+
+
+# A bench that only looks whether q comes, and takes no notice of what comes later: a change that stops the clock's count is HANG.
+COUNTED = """module c(input clk, input a, output reg q, output z);
+  reg [1:0] n;
+  always @(posedge clk) begin n <= n + 2'd1; q <= n == 2'd3; end
+  assign z = a & q;
+endmodule
+"""
+WAITING = """module w;
+  reg clk, a;
+  wire q, z;
+  c u(.clk(clk), .a(a), .q(q), .z(z));
+  initial begin clk = 0; forever #1 clk = ~clk; end
+  initial begin
+    a = 1;
+    @(posedge clk);
+    while (!q) @(posedge clk);
+    $display("OK");
+    $finish;
+  end
+endmodule
+"""
+COVERAGE = """[options]
+size 1000
+cycles 20
+modes const0 const1
+tags COVERED UNCOVERED
+[script]
+read_verilog c.v
+prep -top c
+[files]
+c.v
+[logic]
+if result("bench") == "PASS":
+    tag("UNCOVERED")
+else:
+    tag("COVERED")
+[test bench]
+sim w w.v
+pass OK
+"""
+
+
+def next_lines(program, config, words):
+    """The status of a campaign of this project, what a terminal is told behind it, and how many lines a list has with UNCOVERED."""
+    with tempfile.TemporaryDirectory() as here:
+        for name, text in (("config.mcy", config), ("c.v", COUNTED), ("w.v", WAITING)):
+            with open(os.path.join(here, name), "w") as out:
+                out.write(text)
+        ran = on_terminal(program, words, here)
+        told = on_terminal(program, ["status"], here)
+        assert ran[0] in (0, 1) and ran[2].endswith(told[2]), ("run and status differ", ran, told)
+        assert ran[1] == told[1], (ran, told)
+        listed = subprocess.run([program, "list"], cwd=here, capture_output=True, timeout=60)
+        piped = subprocess.run([program, "status"], cwd=here, capture_output=True, timeout=60)
+        assert (piped.stdout, piped.stderr) == (told[1], b""), piped
+        return told[1].decode(), told[2].decode().replace("\r\n", "\n"), listed.stdout.decode()
+
+
+def numbers(text, pattern):
+    return [int(number) for number in re.findall(pattern, text)]
+
+
+def check_next(program):
+    """Behind a status: mutations to look at, those that have no tag for HANG, a bench that passes none, and what is not finished."""
+    text, told, listed = next_lines(program, COVERAGE, ["run"])
+    (gaps,) = numbers(text, r"Tag UNCOVERED: (\d+)")
+    (hangs,) = numbers(text, r"HANG (\d+)")
+    assert gaps > 0 and hangs > 0, text
+    assert told == f"mcy: {gaps} UNCOVERED: mcy list | grep UNCOVERED\n", told
+    assert sum("UNCOVERED" in line for line in listed.splitlines()) == gaps, listed
+    # The same words where HANG is not expected.
+    text, told, _ = next_lines(program, COVERAGE + "expect PASS FAIL\n", ["run"])
+    assert numbers(text, r"Unexpected: (\d+)") == [hangs], text
+    lost = f"mcy: {hangs} HANG have no tag: write HANG into expect, or leave expect out\n"
+    assert told == f"mcy: {gaps} UNCOVERED: mcy list | grep UNCOVERED\n{lost}", told
+    # A bench whose text never comes.
+    text, told, _ = next_lines(program, COVERAGE.replace("pass OK", "pass NONE"), ["run"])
+    assert "PASS 0" in text, text
+    assert told == "mcy: bench: PASS 0: mcy baseline tells whether the design itself passes it\n", told
+    text, told, _ = next_lines(program, COVERAGE.replace("pass OK", "pass NONE"), ["run", "--stop-after", "2"])
+    (all_of_them,) = numbers(text, r"Mutations: (\d+)")
+    assert told == f"mcy: {all_of_them - 2} unfinished: mcy run goes on with them\n", told
 
 
 def main():
@@ -180,6 +266,8 @@ def main():
         assert (piped.returncode, piped.stdout, piped.stderr) == (0, text, b""), piped
     with folder() as here:
         check_refusals(program, here)
+    check_next(program)
+    count += hints.check_all(program, on_terminal)
     print(f"progress: {count} lines")
 
 

@@ -13,7 +13,7 @@ use Rattle.tag_script.specs.declared.script.ScriptError.{ScriptError}
 use Rattle.tag_script.specs.declared.script.ScriptError.TheVariants as script
 use Rattle.source_faults.specs.Lines.{source_line}
 use Rattle.campaign_outcomes.specs.declared.outcome.Outcome.{Outcome}
-use Rattle.campaign_outcomes.specs.declared.outcome.Outcome.TheVariants.{Done, Unfinished, Usage, ProjectBad, ScriptBad, SourceBad, Missing, TooLarge, NoCampaign, AlreadyBegun, BookBad, ReadFault, KeeperFault, WriteFault, Memory}
+use Rattle.campaign_outcomes.specs.declared.outcome.Outcome.TheVariants.{Done, Unfinished, Usage, ProjectBad, ScriptBad, SourceBad, Missing, TooLarge, NoCampaign, AlreadyBegun, BookBad, ReadFault, KeeperFault, WriteFault, Memory, BaselineBad, RequirementMissed, NoMutation}
 
 -- a line of these words
 abbrev pub told_line : List ℕ → List ℕ
@@ -76,6 +76,10 @@ book_line (Row row fault) = place_line (codes "row") (row_place row fault)
 book_line (Stray mutations rows) = told_line (codes "database: stray rows")
 book_line NoMemory = told_line (codes "no memory")
 
+-- a line on a number of a mutation
+abbrev pub mutation_line : ℕ → List ℕ
+mutation_line number = codes "mcy: no mutation " ++ (decimal number ++ codes "\n")
+
 -- the line of each outcome, and no text where the command was carried out
 abbrev pub fault_text : Outcome → List ℕ
 fault_text Done = []
@@ -93,3 +97,6 @@ fault_text (ReadFault name) = file_line name (codes "read fault")
 fault_text KeeperFault = told_line (codes "database fault")
 fault_text WriteFault = told_line (codes "write fault")
 fault_text Memory = told_line (codes "no memory")
+fault_text BaselineBad = told_line (codes "baseline not passed")
+fault_text RequirementMissed = told_line (codes "requirement missed")
+fault_text (NoMutation number) = mutation_line number

@@ -1,7 +1,7 @@
 -- The exit status of each outcome.
 use Rattle.std.specs.Prelude.{ℕ}
 use Rattle.campaign_outcomes.specs.declared.outcome.Outcome.{Outcome}
-use Rattle.campaign_outcomes.specs.declared.outcome.Outcome.TheVariants.{Done, Unfinished, Usage, ProjectBad, ScriptBad, SourceBad, Missing, TooLarge, NoCampaign, AlreadyBegun, BookBad, ReadFault, KeeperFault, WriteFault, Memory}
+use Rattle.campaign_outcomes.specs.declared.outcome.Outcome.TheVariants.{Done, Unfinished, Usage, ProjectBad, ScriptBad, SourceBad, Missing, TooLarge, NoCampaign, AlreadyBegun, BookBad, ReadFault, KeeperFault, WriteFault, Memory, BaselineBad, RequirementMissed, NoMutation}
 
 -- the exit status (README.md)
 abbrev pub status_of : Outcome → ℕ
@@ -20,3 +20,6 @@ status_of (ReadFault name) = 11
 status_of KeeperFault = 12
 status_of WriteFault = 13
 status_of Memory = 14
+status_of BaselineBad = 20
+status_of RequirementMissed = 21
+status_of (NoMutation number) = 22

@@ -34,6 +34,9 @@ pub fn fault_line(alloc: Global, outcome: &Outcome) -> Result<Bytes, AllocError>
         Outcome::KeeperFault => told(alloc, "database fault"),
         Outcome::WriteFault => told(alloc, "write fault"),
         Outcome::Memory => told(alloc, "no memory"),
+        Outcome::BaselineBad => told(alloc, "baseline not passed"),
+        Outcome::RequirementMissed => told(alloc, "requirement missed"),
+        Outcome::NoMutation(number) => mutation_line(alloc, *number),
     };
     Ok(Bytes::from_vec(line?.into_bytes()))
 }
@@ -135,6 +138,13 @@ fn place_line(alloc: Global, part: &str, place: u32) -> Result<String, AllocErro
     ensures { IfOk result (λ line. string_bytes line ≡ texts.place_line part.now place) }
 {
     format!(in alloc; "mcy: database: {part} {place}\n")
+}
+
+/// A line on a number of a mutation.
+fn mutation_line(alloc: Global, number: u32) -> Result<String, AllocError>
+    ensures { IfOk result (λ line. string_bytes line ≡ texts.mutation_line number) }
+{
+    format!(in alloc; "mcy: no mutation {number}\n")
 }
 
 /// Where a row stands that has a fault: its number says it, if that is not the fault.

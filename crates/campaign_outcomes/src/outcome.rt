@@ -40,6 +40,12 @@ pub enum Outcome {
     WriteFault,
     /// There was no memory.
     Memory,
+    /// A bench does not pass with the design itself.
+    BaselineBad,
+    /// The command was carried out, and its whole text was written; what is required of the campaign is missed.
+    RequirementMissed,
+    /// The run names a mutation of this number, and the campaign has fewer.
+    NoMutation(u32),
 }
 
 impl Drop for Outcome {
@@ -60,6 +66,9 @@ impl Drop for Outcome {
             Outcome::KeeperFault => {}
             Outcome::WriteFault => {}
             Outcome::Memory => {}
+            Outcome::BaselineBad => {}
+            Outcome::RequirementMissed => {}
+            Outcome::NoMutation(_number) => {}
         }
     }
 }
@@ -84,5 +93,8 @@ pub fn exit_status(outcome: &Outcome) -> u8
         Outcome::KeeperFault => 12,
         Outcome::WriteFault => 13,
         Outcome::Memory => 14,
+        Outcome::BaselineBad => 20,
+        Outcome::RequirementMissed => 21,
+        Outcome::NoMutation(_) => 22,
     }
 }

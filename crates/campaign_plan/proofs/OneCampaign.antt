@@ -5,8 +5,8 @@ use Rattle.netlist_core.specs.declared.raw.RawNetlist.{RawNetlist}
 use Rattle.project_file.specs.declared.project.Project.{Project}
 use Rattle.project_file.specs.Projects.{IsProject}
 use Rattle.project_limits.specs.Files.{all_files}
-use Rattle.project_sources.specs.Netlists.{HasNetlist}
-use Rattle.project_sources.proofs.OneAnswer.{netlists_are_one}
+use Rattle.project_benches.specs.Netlists.{HasNetlist}
+use Rattle.project_benches.proofs.OneAnswer.{netlists_are_one}
 use Rattle.campaign_plan.specs.declared.prepared.Prepared.{Prepared}
 use Rattle.campaign_choice.specs.Mutations.{all_sites, picked_sites}
 use Rattle.campaign_choice.specs.Projects.{design_part}

@@ -9,7 +9,7 @@ use Rattle.project_file.specs.Projects.{IsProject}
 use Rattle.project_file.specs.declared.project.Project.{Project}
 use Rattle.mcy_base.specs.declared.file.SourceFile.{SourceFile}
 use Rattle.project_limits.proofs.Sizes.{conflicts_within}
-use Rattle.hier_once.proofs.OneAnswer.{netlist_cells}
+use Rattle.project_benches.proofs.OneAnswer.{netlist_cells}
 use Rattle.std.specs.List.{Any}
 use Rattle.result_book.specs.declared.campaign.Campaign.{Campaign}
 use Rattle.result_book.specs.Campaigns.{IsFit}

@@ -3,7 +3,7 @@ use Rattle.std.proofs.Common.{◌≡◌, inl, inr, ℕ, ◌+◌, zero, suc, List
 use Rattle.mcy_base.specs.declared.file.SourceFile.{SourceFile}
 use Rattle.netlist_core.specs.declared.raw.RawNetlist.{RawNetlist}
 use Rattle.source_trees.proofs.OneAnswer.{modules_are_one}
-use Rattle.source_faults.specs.declared.fault.SourceError.{SourceError}
+use Rattle.project_benches.specs.SourceError.{SourceError}
 use Rattle.project_file.specs.declared.project.TestKind.{TestKind}
 use Rattle.project_file.specs.declared.project.TestKind.TheVariants.{Eq, Sim}
 use Rattle.project_file.specs.declared.project.TestPlan.{TestPlan}

@@ -10,7 +10,7 @@ use Rattle.campaign_plan.specs.declared.prepared.Prepared.{Prepared}
 use Rattle.campaign_choice.specs.Limits.{IsWithinLimits}
 use Rattle.project_limits.specs.Files.{all_files}
 use Rattle.campaign_choice.specs.Projects.{design_part, HasScripts}
-use Rattle.project_sources.specs.Netlists.{HasNetlist}
+use Rattle.project_benches.specs.Netlists.{HasNetlist}
 use Rattle.mutation_sites.specs.Mutants.{IsSite}
 use Rattle.campaign_choice.specs.Campaigns.{campaign_of, names_of}
 use Rattle.campaign_choice.specs.Mutations.{all_sites, picked_sites}

@@ -8,7 +8,7 @@ use Rattle.pair_gates.specs.Weights.{design_gates, max_design_gates}
 use Rattle.result_book.specs.Campaigns.{eq_kind, sim_kind, IsFit}
 use Rattle.tb_bench.specs.declared.parts.Parts.{Parts}
 use Rattle.tb_bench.specs.Runnable.{FitsDesign}
-use Rattle.tb_reading.specs.Laws.{AreAlike}
+pub use Rattle.project_benches.specs.Laws.{AreAlike}
 use Rattle.campaign_plan.specs.declared.prepared.Prepared.{Prepared}
 use Rattle.campaign_plan.specs.declared.trial.Trial.{Trial}
 use Rattle.campaign_plan.specs.declared.trial.Trial.TheVariants.{Equality, Simulation}

@@ -4,13 +4,13 @@ use Rattle.mcy_base.specs.declared.file.SourceFile.{SourceFile}
 use Rattle.netlist_core.specs.declared.raw.RawNetlist.{RawNetlist}
 use Rattle.vlog_syntax.specs.declared.module.Module.{Module}
 use Rattle.source_trees.specs.Files.{AreRead}
-use Rattle.source_faults.specs.declared.fault.SourceError.{SourceError}
+use Rattle.project_benches.specs.SourceError.{SourceError}
 use Rattle.project_file.specs.declared.project.TestKind.{TestKind}
 use Rattle.project_file.specs.declared.project.TestKind.TheVariants.{Eq, Sim}
 use Rattle.project_file.specs.declared.project.TestPlan.{TestPlan}
 use Rattle.project_lines.specs.Words.{is_among}
-use Rattle.project_sources.specs.declared.netlist.NetlistError.{NetlistError}
-use Rattle.project_sources.specs.declared.netlist.NetlistError.TheVariants.{Source as Refused, Memory}
+use Rattle.project_benches.specs.NetlistError.{NetlistError}
+use Rattle.project_benches.specs.NetlistError.TheVariants.{Source as Refused, Memory}
 use Rattle.flat_items.specs.Tops.{IsTop}
 use Rattle.project_benches.specs.Benches.{HasBench, HasNoBench}
 use Rattle.campaign_plan.specs.declared.trial.Trial.{Trial}

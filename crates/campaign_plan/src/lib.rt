@@ -8,4 +8,5 @@ mod prepared;
 mod trial;
 
 pub use prepared::Prepared;
+pub use project_benches::read_bench_of;
 pub use trial::{Trial, TrialList};

@@ -5,7 +5,7 @@
 use crate::trial::TrialList;
 use campaign_choice::SiteList;
 use mcy_base::FileList;
-use project_sources::CheckedNetlist;
+use project_benches::CheckedNetlist;
 use result_book::Campaign;
 
 /// A campaign, and its sources with their netlist, how many sites that has, and those at which the mutations break it.

@@ -3,7 +3,7 @@ use Rattle.std.proofs.Common.{◌≡◌, inl, inr, ℕ, ◌+◌, ◌<◌, ◌≤
 use Rattle.mcy_base.specs.declared.file.SourceFile.{SourceFile}
 use Rattle.project_file.specs.declared.project.TestKind.{TestKind}
 use Rattle.project_file.specs.declared.project.TestKind.TheVariants.{Sim}
-use Rattle.project_benches.specs.Benches.{HasNoBench}
+use Rattle.campaign_plan.specs.Benches.{HasNoBench}
 use Rattle.project_file.specs.declared.project.TestPlan.{TestPlan}
 use Rattle.project_lines.specs.Words.{is_among}
 use Rattle.project_lines.proofs.Faults.{mapped_drop, mapped_end}

@@ -11,6 +11,7 @@ mod reading;
 mod refusal;
 mod trials;
 
+pub use campaign_plan::Prepared;
 pub use preparing::{PrepareError, prepare};
 pub use reading::read_campaign;
 pub use refusal::Refusal;

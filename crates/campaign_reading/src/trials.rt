@@ -4,10 +4,9 @@ ghost use Rattle.project_lines.specs.Words.{is_among};
 ghost use Rattle.campaign_choice.specs.Campaigns.{names_of};
 ghost use Rattle.campaign_plan.specs.Trials.{numbers_in, AreTrials, IsTrial, HasNoTrialFor, HasNoTrials, reading_of};
 
-use campaign_plan::{Trial, TrialList};
+use campaign_plan::{Trial, TrialList, read_bench_of};
 use mcy_base::{Bytes, SourceFile, Text};
 use netlist_core::Netlist;
-use project_benches::read_bench_of;
 use project_file::{TestKind, TestPlan};
 use project_sources::NetlistError;
 use std::alloc::{AllocError, Global};

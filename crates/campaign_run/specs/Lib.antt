@@ -4,3 +4,5 @@ pub mod Rows
 pub mod Changes
 pub mod Crashes
 pub mod Running
+pub use Rattle.campaign_plan.specs.declared.prepared.Prepared
+pub use Rattle.campaign_plan.specs.declared.trial.Trial

@@ -9,7 +9,7 @@ use Rattle.clap.specs.Faults.{step_fault}
 use Rattle.clap.specs.declared.builder.value_parser.Reading.TheVariants.{AsWritten}
 use Rattle.clap.specs.declared.parser.matches.ValueSource.TheVariants.{CommandLine}
 use Rattle.clap.proofs.OnLiterals.{clap_on_literals}
-use Rattle.command_words.specs.declared.command.Command.{Command}
+use Rattle.command_words.specs.declared.asked.Asked.{Asked}
 use Rattle.command_words.specs.Commands.{cells_number, demo_of, demo_with, seed_number}
 use Rattle.command_words.specs.Program.{demo_by, demo_shape}
 use Rattle.command_words.proofs.RunTurns.{IsClean, IsWord, below}
@@ -18,10 +18,10 @@ use Rattle.command_words.proofs.Turns.{Begins, IsPlaced, KnowsNot, at, dashes, h
 abbrev pub demo : Shape
 demo = below demo_shape
 
-abbrev pub by_rows : List Row → Option Command
+abbrev pub by_rows : List Row → Option Asked
 by_rows rows = demo_by (first_of (codes "seed") rows) (first_of (codes "cells") rows)
 
-abbrev pub answer : Walk → List Text → Option Command
+abbrev pub answer : Walk → List Text → Option Asked
 answer = verdict demo by_rows
 
 -- ---- the places: before both words, between them, and behind both

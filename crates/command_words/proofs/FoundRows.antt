@@ -6,7 +6,7 @@ use Rattle.std.proofs.lemmas.List.{append-nil}
 use Rattle.clap.specs.Walk.{Row, Text, at_row, first_of, has_row, more_values, with_values, without}
 use Rattle.clap.specs.declared.parser.matches.ValueSource.TheVariants.{CommandLine}
 use Rattle.clap.specs.declared.builder.value_parser.Reading.TheVariants.{AsWritten}
-use Rattle.command_words.proofs.OptionWords.{Flag, Jobs, Stop, Retry, name_of}
+use Rattle.command_words.proofs.OptionWords.{Flag, Jobs, Mutations, Retry, Stop, name_of}
 
 -- the row of an option with this value
 abbrev pub row : Flag → Text → Row
@@ -36,19 +36,22 @@ pub record Values : Type 0 where
   pub jobs : Option Text
   pub stop : Option Text
   pub retry : Option Text
+  pub mutations : Option Text
 
 abbrev pub value_at : Flag → Values → Option Text
 value_at Jobs values = values.jobs
 value_at Stop values = values.stop
 value_at Retry values = values.retry
+value_at Mutations values = values.mutations
 
 abbrev pub with_value : Flag → Text → Values → Values
 with_value Jobs word values = record values { jobs = Some word }
 with_value Stop word values = record values { stop = Some word }
 with_value Retry word values = record values { retry = Some word }
+with_value Mutations word values = record values { mutations = Some word }
 
 abbrev pub no_values : Values
-no_values = record { jobs = None; stop = None; retry = None }
+no_values = record { jobs = None; stop = None; retry = None; mutations = None }
 
 -- these rows have these values
 pub record AreRows (rows : List Row) (values : Values) : Type 0 where
@@ -62,11 +65,13 @@ no_rows = record { found = found; has = has }
     found Jobs = refl
     found Stop = refl
     found Retry = refl
+    found Mutations = refl
 
     has : (f : Flag) → has_row (name_of f) [] ≡ is_some (value_at f no_values)
     has Jobs = refl
     has Stop = refl
     has Retry = refl
+    has Mutations = refl
 
 has_more : (id : Text) (rows : List Row) (r : Row) → has_row id (rows ++ r ∷ []) ≡ (has_row id rows || bytes_eq r.id id)
 has_more id [] r = or_none (bytes_eq r.id id)
@@ -126,24 +131,38 @@ found_more : (f : Flag) (word : Text) (rows : List Row) (values : Values) → Ar
 found_more Jobs word rows values are none Jobs = own Jobs word rows values are none refl
 found_more Jobs word rows values are none Stop = other Jobs word rows values are none Stop refl
 found_more Jobs word rows values are none Retry = other Jobs word rows values are none Retry refl
+found_more Jobs word rows values are none Mutations = other Jobs word rows values are none Mutations refl
 found_more Stop word rows values are none Jobs = other Stop word rows values are none Jobs refl
 found_more Stop word rows values are none Stop = own Stop word rows values are none refl
 found_more Stop word rows values are none Retry = other Stop word rows values are none Retry refl
+found_more Stop word rows values are none Mutations = other Stop word rows values are none Mutations refl
 found_more Retry word rows values are none Jobs = other Retry word rows values are none Jobs refl
 found_more Retry word rows values are none Stop = other Retry word rows values are none Stop refl
 found_more Retry word rows values are none Retry = own Retry word rows values are none refl
+found_more Retry word rows values are none Mutations = other Retry word rows values are none Mutations refl
+found_more Mutations word rows values are none Jobs = other Mutations word rows values are none Jobs refl
+found_more Mutations word rows values are none Stop = other Mutations word rows values are none Stop refl
+found_more Mutations word rows values are none Retry = other Mutations word rows values are none Retry refl
+found_more Mutations word rows values are none Mutations = own Mutations word rows values are none refl
 
 has_row_more : (f : Flag) (word : Text) (rows : List Row) (values : Values) → AreRows rows values → value_at f values ≡ None
     → (g : Flag) → has_row (name_of g) (rows ++ row f word ∷ []) ≡ is_some (value_at g (with_value f word values))
 has_row_more Jobs word rows values are none Jobs = has_own Jobs word rows values are none refl
 has_row_more Jobs word rows values are none Stop = has_other Jobs word rows values are none Stop refl
 has_row_more Jobs word rows values are none Retry = has_other Jobs word rows values are none Retry refl
+has_row_more Jobs word rows values are none Mutations = has_other Jobs word rows values are none Mutations refl
 has_row_more Stop word rows values are none Jobs = has_other Stop word rows values are none Jobs refl
 has_row_more Stop word rows values are none Stop = has_own Stop word rows values are none refl
 has_row_more Stop word rows values are none Retry = has_other Stop word rows values are none Retry refl
+has_row_more Stop word rows values are none Mutations = has_other Stop word rows values are none Mutations refl
 has_row_more Retry word rows values are none Jobs = has_other Retry word rows values are none Jobs refl
 has_row_more Retry word rows values are none Stop = has_other Retry word rows values are none Stop refl
 has_row_more Retry word rows values are none Retry = has_own Retry word rows values are none refl
+has_row_more Retry word rows values are none Mutations = has_other Retry word rows values are none Mutations refl
+has_row_more Mutations word rows values are none Jobs = has_other Mutations word rows values are none Jobs refl
+has_row_more Mutations word rows values are none Stop = has_other Mutations word rows values are none Stop refl
+has_row_more Mutations word rows values are none Retry = has_other Mutations word rows values are none Retry refl
+has_row_more Mutations word rows values are none Mutations = has_own Mutations word rows values are none refl
 
 pub rows_more : (f : Flag) (word : Text) (rows : List Row) (values : Values) → AreRows rows values → value_at f values ≡ None → AreRows (rows ++ row f word ∷ []) (with_value f word values)
 rows_more f word rows values are none = record { found = found_more f word rows values are none; has = has_row_more f word rows values are none }

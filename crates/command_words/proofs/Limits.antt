@@ -1,14 +1,15 @@
 -- The numbers that the words give: the limit of a retry is one, there are 1 to 64 slots, and a made project has 1 to 400 cells.
-use Rattle.std.proofs.Common.{◌≡◌, ◌≤◌, ◌<◌, ◌^◌, ◌&&◌, ℕ, Bool, cond, true, false, refl, subst, List, [], ◌∷◌, Option, Some, None, arith, codes, drop, length, nat_eq}
+use Rattle.std.proofs.Common.{◌≡◌, ◌≤◌, ◌<◌, ◌^◌, ◌&&◌, ℕ, Bool, cond, true, false, refl, subst, List, [], ◌∷◌, Option, Some, None, arith, codes, drop, length, nat_eq, option_map}
 use Rattle.std.specs.Prelude.{IsTrue, bytes_eq, nat_le, option_and_then, unwrap_or}
 use Rattle.std.specs.List.{starts_with}
 use Rattle.std.specs.Str.Parse.{digits_value}
 use Rattle.std.proofs.lemmas.Bool.{and_parts, leb-true}
 use Rattle.result_book.specs.Rounds.{is_limit}
+use Rattle.command_words.specs.declared.asked.Asked.{Asked}
 use Rattle.command_words.specs.declared.command.Command.{Command}
-use Rattle.command_words.specs.declared.command.Command.TheVariants.{Init, Run, List as Listing, Status, Source, Demo}
-use Rattle.command_words.specs.Commands.{Options, alone, cells_number, command_of, demo_of, demo_with, is_cells, is_jobs, is_jobs_name, is_numeral, is_parted, is_stop_name, jobs_number, jobs_with, joined, no_options, once, options_of, parted, retry_limit, retry_with, run_with, seed_number, short_value, stop_number, stop_with}
-use Rattle.command_words.proofs.Numbers.{numeral_small}
+use Rattle.command_words.specs.declared.command.Command.TheVariants.{Init, Run, List as Listing, Status, Source, Baseline, Demo}
+use Rattle.command_words.specs.Commands.{Options, alone, cells_number, command_of, demo_of, demo_with, is_cells, is_jobs, is_jobs_name, is_numeral, is_parted, is_retry_name, is_stop_name, jobs_number, jobs_with, joined, mutation_numbers, mutations_with, no_options, once, options_of, parted, plainly, retry_limit, retry_with, run_with, seed_number, short_value, status_of, stop_number, stop_with}
+use Rattle.command_words.proofs.Numerals.{numeral_small}
 
 -- the limit of a retry, where there is one, is one
 abbrev pub IsLimit : Option ℕ → Type 0
@@ -50,8 +51,8 @@ number_fine word = go (is_numeral word && is_jobs (digits_value 10 word)) refl
 -- an option more keeps them so
 
 -- what an option of its own number makes of options
-once_fine : (before number : Option ℕ) (next : Options) (make : ℕ → Options) → ((n : ℕ) → number ≡ Some n → IsFine (make n)) → once before number make ≡ Some next → IsFine next
-once_fine (Some n) number next make each e = absurd (let never : None ≡ Some next = e in cc)
+once_fine : {N : Type 0} (before said : Option N) (next : Options) (make : N → Options) → ((n : N) → said ≡ Some n → IsFine (make n)) → once before said make ≡ Some next → IsFine next
+once_fine (Some n) said next make each e = absurd (let never : None ≡ Some next = e in cc)
 once_fine None None next make each e = absurd (let never : None ≡ Some next = e in cc)
 once_fine None (Some n) next make each e = subst IsFine (same (make n) next e) (each n refl)
 
@@ -64,22 +65,28 @@ stop_fine options next word fine is = once_fine options.stop_after (stop_number 
 retry_fine : (options next : Options) (word : List ℕ) → IsFine options → retry_with options word ≡ Some next → IsFine next
 retry_fine options next word fine is = once_fine options.retry (retry_limit word) next (λ l. record options { retry = Some l }) (λ l e. record { jobs = fine.jobs; retry = subst IsLimit e (limit_fine word) }) is
 
+mutations_fine : (options next : Options) (word : List ℕ) → IsFine options → mutations_with options word ≡ Some next → IsFine next
+mutations_fine options next word fine is = once_fine options.mutations (mutation_numbers word) next (λ n. record options { mutations = Some n }) (λ n e. record { jobs = fine.jobs; retry = fine.retry }) is
+
 joined_fine : (options next : Options) (word : List ℕ) → IsFine options → joined options word ≡ Some next → IsFine next
-joined_fine options next word fine is = go (starts_with nat_eq word (codes "-j")) (starts_with nat_eq word (codes "--stop-after=")) (starts_with nat_eq word (codes "--retry=")) is
+joined_fine options next word fine is = go (starts_with nat_eq word (codes "-j")) (starts_with nat_eq word (codes "--stop-after=")) (starts_with nat_eq word (codes "--retry=")) (starts_with nat_eq word (codes "--mutations=")) is
   where
-    go : (a b d : Bool) → cond a (jobs_with options (short_value (drop (length (codes "-j")) word))) (cond b (stop_with options (drop (length (codes "--stop-after=")) word)) (cond d (retry_with options (drop (length (codes "--retry=")) word)) None)) ≡ Some next → IsFine next
-    go true b d e = jobs_fine options next (short_value (drop (length (codes "-j")) word)) fine e
-    go false true d e = stop_fine options next (drop (length (codes "--stop-after=")) word) fine e
-    go false false true e = retry_fine options next (drop (length (codes "--retry=")) word) fine e
-    go false false false e = absurd (let never : None ≡ Some next = e in cc)
+    go : (a b c d : Bool) → cond a (jobs_with options (short_value (drop (length (codes "-j")) word))) (cond b (stop_with options (drop (length (codes "--stop-after=")) word))
+        (cond c (retry_with options (drop (length (codes "--retry=")) word)) (cond d (mutations_with options (drop (length (codes "--mutations=")) word)) None))) ≡ Some next → IsFine next
+    go true b c d e = jobs_fine options next (short_value (drop (length (codes "-j")) word)) fine e
+    go false true c d e = stop_fine options next (drop (length (codes "--stop-after=")) word) fine e
+    go false false true d e = retry_fine options next (drop (length (codes "--retry=")) word) fine e
+    go false false false true e = mutations_fine options next (drop (length (codes "--mutations=")) word) fine e
+    go false false false false e = absurd (let never : None ≡ Some next = e in cc)
 
 parted_fine : (options next : Options) (name value : List ℕ) → IsFine options → parted options name value ≡ Some next → IsFine next
-parted_fine options next name value fine is = go (is_jobs_name name) (is_stop_name name) is
+parted_fine options next name value fine is = go (is_jobs_name name) (is_stop_name name) (is_retry_name name) is
   where
-    go : (a b : Bool) → cond a (jobs_with options value) (cond b (stop_with options value) (retry_with options value)) ≡ Some next → IsFine next
-    go true b e = jobs_fine options next value fine e
-    go false true e = stop_fine options next value fine e
-    go false false e = retry_fine options next value fine e
+    go : (a b c : Bool) → cond a (jobs_with options value) (cond b (stop_with options value) (cond c (retry_with options value) (mutations_with options value))) ≡ Some next → IsFine next
+    go true b c e = jobs_fine options next value fine e
+    go false true c e = stop_fine options next value fine e
+    go false false true e = retry_fine options next value fine e
+    go false false false e = mutations_fine options next value fine e
 
 -- these words keep the options fine
 abbrev IsKept : Options → List (List ℕ) → Type 0
@@ -141,6 +148,10 @@ IsFineCommand (Some (Run jobs stop retry)) = AreJobs jobs × IsLimit retry
 IsFineCommand (Some (Demo seed cells)) = (seed < 2 ^ 64) × AreCells cells
 IsFineCommand command = Unit {0}
 
+-- the command of what is asked for
+abbrev command_in : Option Asked → Option Command
+command_in asked = option_map (λ (asked : Asked). asked.command) asked
+
 -- one slot where no number is given
 jobs_or_one : (jobs : Option ℕ) → HasJobs jobs → AreJobs (unwrap_or jobs 1)
 jobs_or_one None has = (omega arith, omega arith)
@@ -149,23 +160,32 @@ jobs_or_one (Some jobs) has = has
 no_options_fine : IsFine no_options
 no_options_fine = record { jobs = tt; retry = tt }
 
-word_fine : (word : List ℕ) (rest : List (List ℕ)) → IsFineCommand (alone word rest)
+word_fine : (word : List ℕ) (rest : List (List ℕ)) → IsFineCommand (command_in (alone word rest))
 word_fine word (x ∷ rest) = tt
-word_fine word [] = go (bytes_eq word (codes "init")) (bytes_eq word (codes "list")) (bytes_eq word (codes "status")) (bytes_eq word (codes "source"))
+word_fine word [] = go (bytes_eq word (codes "init")) (bytes_eq word (codes "list")) (bytes_eq word (codes "source")) (bytes_eq word (codes "baseline"))
   where
-    go : (a b c d : Bool) → IsFineCommand (cond a (Some Init) (cond b (Some Listing) (cond c (Some Status) (cond d (Some Source) None))))
+    go : (a b c d : Bool) → IsFineCommand (command_in (cond a (Some (plainly Init)) (cond b (Some (plainly Listing)) (cond c (Some (plainly Source)) (cond d (Some (plainly Baseline)) None)))))
     go true b c d = tt
     go false true c d = tt
     go false false true d = tt
     go false false false true = tt
     go false false false false = tt
 
-numbers_fine : (seed cells : Option ℕ) → IsSeed seed → HasCells cells → IsFineCommand (demo_with seed cells)
+status_fine : (words : List (List ℕ)) → IsFineCommand (command_in (status_of words))
+status_fine [] = tt
+status_fine (word ∷ next ∷ words) = tt
+status_fine (word ∷ []) = go (bytes_eq word (codes "--strict"))
+  where
+    go : (b : Bool) → IsFineCommand (command_in (cond b (Some (plainly (Status true))) None))
+    go true = tt
+    go false = tt
+
+numbers_fine : (seed cells : Option ℕ) → IsSeed seed → HasCells cells → IsFineCommand (command_in (demo_with seed cells))
 numbers_fine None cells fine few = tt
 numbers_fine (Some seed) None fine few = tt
 numbers_fine (Some seed) (Some cells) fine few = (fine, few)
 
-demo_fine : (words : List (List ℕ)) → IsFineCommand (demo_of words)
+demo_fine : (words : List (List ℕ)) → IsFineCommand (command_in (demo_of words))
 demo_fine [] = tt
 demo_fine (seed ∷ []) = tt
 demo_fine (seed ∷ cells ∷ []) = numbers_fine (seed_number seed) (cells_number cells) (seed_fine seed) (cells_fine cells)
@@ -173,16 +193,17 @@ demo_fine (seed ∷ cells ∷ word ∷ words) = tt
 
 pub command_fine : (words : List (List ℕ)) → IsFineCommand (command_of words)
 command_fine [] = tt
-command_fine (word ∷ words) = go (bytes_eq word (codes "run")) (bytes_eq word (codes "demo"))
+command_fine (word ∷ words) = go (bytes_eq word (codes "run")) (bytes_eq word (codes "status")) (bytes_eq word (codes "demo"))
   where
-    of_options : (o : Option Options) → options_of no_options words ≡ o → IsFineCommand (run_with o)
+    of_options : (o : Option Options) → options_of no_options words ≡ o → IsFineCommand (command_in (run_with o))
     of_options None e = tt
     of_options (Some options) e = let fine = options_fine no_options options words no_options_fine e in (jobs_or_one options.jobs fine.jobs, fine.retry)
 
-    go : (a b : Bool) → IsFineCommand (cond a (run_with (options_of no_options words)) (cond b (demo_of words) (alone word words)))
-    go true b = of_options (options_of no_options words) refl
-    go false true = demo_fine words
-    go false false = word_fine word words
+    go : (a b c : Bool) → IsFineCommand (command_in (cond a (run_with (options_of no_options words)) (cond b (status_of words) (cond c (demo_of words) (alone word words)))))
+    go true b c = of_options (options_of no_options words) refl
+    go false true c = status_fine words
+    go false false true = demo_fine words
+    go false false false = word_fine word words
 
 -- the limit of a retry that the words ask for
 pub retry_is_limit : (words : List (List ℕ)) (jobs : ℕ) (stop : Option ℕ) (limit : ℕ) → command_of words ≡ Some (Run jobs stop (Some limit)) → IsTrue (is_limit limit)

@@ -1,25 +1,26 @@
--- The command that the words behind `run` give.
+-- What the words behind `run` ask for.
 use Rattle.std.proofs.Common.{◌≡◌, ◌∙◌, ◌||◌, Bool, cond, true, false, true≢false, refl, sym, ap, subst, List, [], ◌∷◌, ◌++◌, Option, Some, None, inl, inr}
 use Rattle.std.specs.Prelude.{◌⊎◌, bytes_eq}
 use Rattle.std.specs.Option.{is_some}
 use Rattle.std.specs.List.{list_any}
 use Rattle.std.proofs.lemmas.Slice.Eq.{bytes_eq-Decides}
 use Rattle.clap.specs.Walk.{Row, Text, has_row}
-use Rattle.command_words.specs.declared.command.Command.{Command}
-use Rattle.command_words.specs.Commands.{Options, is_jobs_name, is_parted, is_stop_name, jobs_with, joined as option_joined, no_options, options_of, parted, retry_with, run_with, stop_with}
+use Rattle.command_words.specs.declared.asked.Asked.{Asked}
+use Rattle.command_words.specs.Commands.{Options, is_jobs_name, is_parted, is_retry_name, is_stop_name, jobs_with, joined as option_joined, mutations_with, no_options, options_of, parted, retry_with, run_with, stop_with}
 use Rattle.command_words.specs.Program.{run_by}
 use Rattle.command_words.proofs.FoundRows.{AreRows, Values, no_rows, no_values, row, rows_more, value_at, with_value}
-use Rattle.command_words.proofs.OptionWords.{Flag, IsAlone, IsJoined, IsOther, Jobs, Joined, Retry, Stop, alone, flag_in, joined, name_of, option_or_other, value_in}
+use Rattle.command_words.proofs.OptionWords.{Flag, IsAlone, IsJoined, IsOther, Jobs, Joined, Mutations, Retry, Stop, alone, flag_in, joined, name_of, option_or_other, value_in}
 use Rattle.command_words.proofs.RunEnds.{all_read, waits_ended}
 use Rattle.command_words.proofs.RunTurns.{IsClean, answer, begun, further, other_none, waits}
 use Rattle.command_words.proofs.RunWords.{ValueRead, alone_read, joined_read, value_read}
 use Rattle.command_words.proofs.Turns.{Begins, dashes}
-use Rattle.command_words.proofs.OptionValues.{and_then, itself, none_all, regrouped, same_next, with_option, begins_none, twice_none, joined_options, alone_options, alone_none, other_options, options_by, run_by_options, said, said_more}
+use Rattle.command_words.proofs.OptionValues.{alone_none, alone_options, and_then, begins_none, itself, joined_options, none_all, other_options, regrouped, same_next, twice_none, with_option}
+use Rattle.command_words.proofs.SaidOptions.{options_by, run_by_options, said, said_more}
 
 -- ---- all words behind `run`
 
 -- what the words say where the values so far are these
-abbrev said_by : Values → List Text → Option Command
+abbrev said_by : Values → List Text → Option Asked
 said_by values words = run_with (and_then (options_by values) (λ options. options_of options words))
 
 none_said : (values : Values) (words : List Text) → ((options : Options) → options_by values ≡ Some options → options_of options words ≡ None) → said_by values words ≡ None
@@ -49,7 +50,7 @@ one_more f v rest says rows values are clean false none =
 module _ (rows : List Row) (values : Values) (are : AreRows rows values) where
   no_words : answer (begun rows) [] ≡ said_by values []
   no_words =
-      all_read rows ∙ (λ i. run_by (are.found Jobs i) (are.found Stop i) (are.found Retry i)) ∙ run_by_options values
+      all_read rows ∙ (λ i. run_by (are.found Jobs i) (are.found Stop i) (are.found Retry i) (are.found Mutations i)) ∙ run_by_options values
       ∙ ap run_with (sym (itself (options_by values)))
 
   at_joined : (g : Joined) (rest : List Text) → Says rest → IsClean rest → answer (begun rows) (joined g ∷ rest) ≡ said_by values (joined g ∷ rest)
@@ -110,13 +111,14 @@ dashes_none options (word ∷ value ∷ more) e = go (λ next h. dashes_none nex
     begins : bytes_eq value dashes ≡ true → Begins value
     begins same = (45 ∷ [], (bytes_eq-Decides value dashes).0 same)
 
-    parted_none : bytes_eq value dashes ≡ true → (a b : Bool) → cond a (jobs_with options value) (cond b (stop_with options value) (retry_with options value)) ≡ None
-    parted_none same true b = begins_none Jobs options value (begins same)
-    parted_none same false true = begins_none Stop options value (begins same)
-    parted_none same false false = begins_none Retry options value (begins same)
+    parted_none : bytes_eq value dashes ≡ true → (a b c : Bool) → cond a (jobs_with options value) (cond b (stop_with options value) (cond c (retry_with options value) (mutations_with options value))) ≡ None
+    parted_none same true b c = begins_none Jobs options value (begins same)
+    parted_none same false true c = begins_none Stop options value (begins same)
+    parted_none same false false true = begins_none Retry options value (begins same)
+    parted_none same false false false = begins_none Mutations options value (begins same)
 
     at_value : GivesNone more → (b : Bool) → bytes_eq value dashes ≡ b → (b || list_any (λ x. bytes_eq x dashes) more) ≡ true → and_then (parted options word value) (λ next. options_of next more) ≡ None
-    at_value none true same h = ap (λ (o : Option Options). and_then o (λ next. options_of next more)) (parted_none same (is_jobs_name word) (is_stop_name word))
+    at_value none true same h = ap (λ (o : Option Options). and_then o (λ next. options_of next more)) (parted_none same (is_jobs_name word) (is_stop_name word) (is_retry_name word))
     at_value none false other h = none_all (parted options word value) (λ next. options_of next more) (λ next e. none next h)
 
     behind : GivesNone more → GivesNone (value ∷ more) → (b : Bool) → list_any (λ x. bytes_eq x dashes) (value ∷ more) ≡ true

@@ -14,11 +14,13 @@ pub data Flag : Type 0 where
   Jobs : Flag
   Stop : Flag
   Retry : Flag
+  Mutations : Flag
 
 abbrev pub name_of : Flag → Text
 name_of Jobs = codes "jobs"
 name_of Stop = codes "stop-after"
 name_of Retry = codes "retry"
+name_of Mutations = codes "mutations"
 
 -- a long flag without a value, and what stands before a value that is joined to it
 abbrev pub long_alone : Text → Text
@@ -32,43 +34,50 @@ abbrev pub alone : Flag → Text
 alone Jobs = 45 ∷ 106 ∷ []
 alone Stop = long_alone (name_of Stop)
 alone Retry = long_alone (name_of Retry)
+alone Mutations = long_alone (name_of Mutations)
 
--- an option with its value in one word: `-j=N`, `-jN`, `--stop-after=N` or `--retry=N`
+-- an option with its value in one word: `-j=N`, `-jN`, `--stop-after=N`, `--retry=N` or `--mutations=N,N`
 pub data Joined : Type 0 where
   JobsBy : Text → Joined
   JobsIn : (x : ℕ) → (x == 61) ≡ false → Text → Joined
   StopBy : Text → Joined
   RetryBy : Text → Joined
+  MutationsBy : Text → Joined
 
 abbrev pub flag_in : Joined → Flag
 flag_in (JobsBy value) = Jobs
 flag_in (JobsIn x other xs) = Jobs
 flag_in (StopBy value) = Stop
 flag_in (RetryBy value) = Retry
+flag_in (MutationsBy value) = Mutations
 
 abbrev pub value_in : Joined → Text
 value_in (JobsBy value) = value
 value_in (JobsIn x other xs) = x ∷ xs
 value_in (StopBy value) = value
 value_in (RetryBy value) = value
+value_in (MutationsBy value) = value
 
 abbrev pub joined : Joined → Text
 joined (JobsBy value) = 45 ∷ 106 ∷ 61 ∷ value
 joined (JobsIn x other xs) = 45 ∷ 106 ∷ x ∷ xs
 joined (StopBy value) = long_prefix (name_of Stop) ++ value
 joined (RetryBy value) = long_prefix (name_of Retry) ++ value
+joined (MutationsBy value) = long_prefix (name_of Mutations) ++ value
 
 -- each begins with a hyphen
 pub alone_begins : (f : Flag) → (rest : Text) × (alone f ≡ 45 ∷ rest)
 alone_begins Jobs = (106 ∷ [], refl)
 alone_begins Stop = (45 ∷ name_of Stop, refl)
 alone_begins Retry = (45 ∷ name_of Retry, refl)
+alone_begins Mutations = (45 ∷ name_of Mutations, refl)
 
 pub joined_begins : (g : Joined) → (rest : Text) × (joined g ≡ 45 ∷ rest)
 joined_begins (JobsBy value) = (106 ∷ 61 ∷ value, refl)
 joined_begins (JobsIn x other xs) = (106 ∷ x ∷ xs, refl)
 joined_begins (StopBy value) = (drop 1 (long_prefix (name_of Stop)) ++ value, refl)
 joined_begins (RetryBy value) = (drop 1 (long_prefix (name_of Retry)) ++ value, refl)
+joined_begins (MutationsBy value) = (drop 1 (long_prefix (name_of Mutations)) ++ value, refl)
 
 -- ---- a long flag
 
@@ -95,7 +104,7 @@ module _ (name word : Text) where
       go rest is is_name (inr h) =
           inr (h.0, is ∙ ap (λ t. 45 ∷ 45 ∷ t) (h.1 ∙ ap (λ t. t ++ (61 ∷ h.0)) is_name ∙ sym (append_assoc name (61 ∷ []) h.0)))
 
-  long_or_not : LongOrNot name word
+  pub long_or_not : LongOrNot name word
   long_or_not = go (bytes_eq word (long_alone name)) refl (starts_with nat_eq word (long_prefix name)) refl
     where
       go : (a : Bool) → bytes_eq word (long_alone name) ≡ a → (b : Bool) → starts_with nat_eq word (long_prefix name) ≡ b → LongOrNot name word
@@ -167,6 +176,7 @@ pub record IsOther (word : Text) : Type 0 where
   pub jobs : IsNotJobs word
   pub stop : IsNotLong (name_of Stop) word
   pub retry : IsNotLong (name_of Retry) word
+  pub mutations : IsNotLong (name_of Mutations) word
 
 -- a word is an option without a value, one with a value, or neither
 abbrev pub IsAlone : Text → Type 0
@@ -176,13 +186,16 @@ abbrev pub IsJoined : Text → Type 0
 IsJoined word = (g : Joined) × (word ≡ joined g)
 
 pub option_or_other : (word : Text) → IsUtf8 word → IsAlone word ⊎ (IsJoined word ⊎ IsOther word)
-option_or_other word text = go (jobs_or_not word text) (long_or_not (name_of Stop) word) (long_or_not (name_of Retry) word)
+option_or_other word text = go (jobs_or_not word text) (long_or_not (name_of Stop) word) (long_or_not (name_of Retry) word) (long_or_not (name_of Mutations) word)
   where
-    go : JobsOrNot word → LongOrNot (name_of Stop) word → LongOrNot (name_of Retry) word → IsAlone word ⊎ (IsJoined word ⊎ IsOther word)
-    go (inl is) stop retry = inl (Jobs, is)
-    go (inr (inl is)) stop retry = inr (inl is)
-    go (inr (inr other)) (inl is) retry = inl (Stop, is)
-    go (inr (inr other)) (inr (inl v)) retry = inr (inl (StopBy v.0, v.1))
-    go (inr (inr other)) (inr (inr no_stop)) (inl is) = inl (Retry, is)
-    go (inr (inr other)) (inr (inr no_stop)) (inr (inl v)) = inr (inl (RetryBy v.0, v.1))
-    go (inr (inr other)) (inr (inr no_stop)) (inr (inr no_retry)) = inr (inr (record { jobs = other; stop = no_stop; retry = no_retry }))
+    go : JobsOrNot word → LongOrNot (name_of Stop) word → LongOrNot (name_of Retry) word → LongOrNot (name_of Mutations) word → IsAlone word ⊎ (IsJoined word ⊎ IsOther word)
+    go (inl is) stop retry mutations = inl (Jobs, is)
+    go (inr (inl is)) stop retry mutations = inr (inl is)
+    go (inr (inr other)) (inl is) retry mutations = inl (Stop, is)
+    go (inr (inr other)) (inr (inl v)) retry mutations = inr (inl (StopBy v.0, v.1))
+    go (inr (inr other)) (inr (inr no_stop)) (inl is) mutations = inl (Retry, is)
+    go (inr (inr other)) (inr (inr no_stop)) (inr (inl v)) mutations = inr (inl (RetryBy v.0, v.1))
+    go (inr (inr other)) (inr (inr no_stop)) (inr (inr no_retry)) (inl is) = inl (Mutations, is)
+    go (inr (inr other)) (inr (inr no_stop)) (inr (inr no_retry)) (inr (inl v)) = inr (inl (MutationsBy v.0, v.1))
+    go (inr (inr other)) (inr (inr no_stop)) (inr (inr no_retry)) (inr (inr no_mutations)) =
+        inr (inr (record { jobs = other; stop = no_stop; retry = no_retry; mutations = no_mutations }))

@@ -1,18 +1,18 @@
 -- The words behind `run`: what the parse holds after each. There are few places in which it can be: between two options, behind an
 -- option that waits for its value, and behind a value that is not taken over yet.
-use Rattle.std.proofs.Common.{◌≡◌, ◌∙◌, ◌&&◌, ◌||◌, ◌==◌, ℕ, Bool, cond, true, false, refl, sym, ap, ap₂, subst, List, [], ◌∷◌, ◌++◌, Option, Some, None, IsUtf8}
+use Rattle.std.proofs.Common.{◌≡◌, ◌∙◌, ◌&&◌, ◌||◌, ◌==◌, ℕ, Bool, cond, true, false, refl, sym, ap, subst, List, [], ◌∷◌, ◌++◌, Option, Some, None, IsUtf8}
 use Rattle.std.specs.Prelude.{⊤, bytes_eq}
 use Rattle.std.specs.Option.{option_map_or}
-use Rattle.clap.specs.Walk.{Held, Row, Rule, Step, Text, Waiting, Walk, after_flag, after_step, attached_value, first_of, has_row, idle, next, option, option_met, plain_word, positional, settled, used, walked}
+use Rattle.clap.specs.Walk.{Held, Row, Rule, Step, Text, Waiting, Walk, after_flag, after_step, attached_value, has_row, idle, next, option, option_met, plain_word, positional, settled, used, walked}
 use Rattle.clap.specs.Simple.{Shape, built_leaf, filled, inherited, marked_built, with_index, with_leaf_noted}
 use Rattle.clap.specs.Kinds.{Kinds, or_else}
 use Rattle.clap.specs.Faults.{option_fault, settle_fault, step_fault, turn_fault, use_fault}
 use Rattle.clap.specs.declared.error.kind.ErrorKind.TheVariants.{ArgumentConflict}
 use Rattle.clap.proofs.OnLiterals.{clap_on_literals}
-use Rattle.command_words.specs.declared.command.Command.{Command}
-use Rattle.command_words.specs.Program.{command_line, jobs_rule, retry_rule, run_by, run_shape, stop_rule}
+use Rattle.command_words.specs.declared.asked.Asked.{Asked}
+use Rattle.command_words.specs.Program.{command_line, jobs_rule, mutations_rule, retry_rule, run_found, run_shape, stop_rule}
 use Rattle.command_words.proofs.FoundRows.{first_value, row}
-use Rattle.command_words.proofs.OptionWords.{Flag, IsOther, Jobs, Joined, JobsBy, JobsIn, Retry, RetryBy, Stop, StopBy, alone, flag_in, joined, name_of, value_in}
+use Rattle.command_words.proofs.OptionWords.{Flag, IsOther, Jobs, Joined, JobsBy, JobsIn, Mutations, MutationsBy, Retry, RetryBy, Stop, StopBy, alone, flag_in, joined, name_of, value_in}
 use Rattle.command_words.proofs.Turns.{IsRefused, KnowsNot, at, dashes, holding, or_refused, refused_at, stray, verdict}
 
 -- the word is a text and not `--`
@@ -36,11 +36,12 @@ abbrev pub rule_of : Flag → Rule
 rule_of Jobs = with_index 1 (filled jobs_rule)
 rule_of Stop = with_index 1 (filled stop_rule)
 rule_of Retry = with_index 1 (filled retry_rule)
+rule_of Mutations = with_index 1 (filled mutations_rule)
 
-abbrev pub by_rows : List Row → Option Command
-by_rows rows = run_by (first_of (name_of Jobs) rows) (first_of (name_of Stop) rows) (first_of (name_of Retry) rows)
+abbrev pub by_rows : List Row → Option Asked
+by_rows rows = run_found rows
 
-abbrev pub answer : Walk → List Text → Option Command
+abbrev pub answer : Walk → List Text → Option Asked
 answer = verdict run by_rows
 
 -- ---- the places
@@ -58,7 +59,7 @@ abbrev pub given : Flag → List Row → Text → Walk
 given f rows value = at 1 (holding rows (Some (name_of f, value ∷ []))) idle
 
 -- what is answered with one value more: none where the option has one
-abbrev pub further : Bool → List Row → List Text → Option Command
+abbrev pub further : Bool → List Row → List Text → Option Asked
 further true rows words = None
 further false rows words = answer (begun rows) words
 
@@ -66,7 +67,7 @@ further false rows words = answer (begun rows) words
 
 pub knows_not : (word : Text) → IsOther word → KnowsNot run word
 knows_not word other = record {
-  long = λ p e. ap₂ (λ (a b : Bool). cond (a || false) (Some (rule_of Stop)) (cond (b || false) (Some (rule_of Retry)) None)) (other.stop.long p e) (other.retry.long p e);
+  long = λ p e i. cond (other.stop.long p e i || false) (Some (rule_of Stop)) (cond (other.retry.long p e i || false) (Some (rule_of Retry)) (cond (other.mutations.long p e i || false) (Some (rule_of Mutations)) None));
   short = λ flags e c first. ap (λ (b : Bool). cond (b || false) (Some (rule_of Jobs)) None) (other.jobs.short flags e c first);
 }
 
@@ -94,6 +95,7 @@ use_once : (f : Flag) (value : Text) (rows : List Row) → use_fault false (rule
 use_once Jobs value rows = conflict_is (has_row (name_of Jobs) rows)
 use_once Stop value rows = conflict_is (has_row (name_of Stop) rows)
 use_once Retry value rows = conflict_is (has_row (name_of Retry) rows)
+use_once Mutations value rows = conflict_is (has_row (name_of Mutations) rows)
 
 pub use_refused : (f : Flag) (value : Text) (rows : List Row) → has_row (name_of f) rows ≡ true → IsRefused (use_fault false (rule_of f) (value ∷ []) rows)
 use_refused f value rows there = subst IsRefused (sym (use_once f value rows ∙ ap conflict there)) tt
@@ -105,6 +107,7 @@ pub used_first : (f : Flag) (value : Text) (rows : List Row) → has_row (name_o
 used_first Jobs value rows none = first_value Jobs value rows none
 used_first Stop value rows none = first_value Stop value rows none
 used_first Retry value rows none = first_value Retry value rows none
+used_first Mutations value rows none = first_value Mutations value rows none
 
 -- ---- an option, whatever is pending: that is taken over first
 
@@ -148,6 +151,9 @@ joined_turn rows pending positional (StopBy value) = refl
 joined_turn rows pending idle (RetryBy value) = refl
 joined_turn rows pending (option id) (RetryBy value) = refl
 joined_turn rows pending positional (RetryBy value) = refl
+joined_turn rows pending idle (MutationsBy value) = refl
+joined_turn rows pending (option id) (MutationsBy value) = refl
+joined_turn rows pending positional (MutationsBy value) = refl
 
 pub joined_walk : (rows : List Row) (pending : Option (Text × List Text)) (g : Joined)
     → walked run.rules [] (at 1 (holding rows pending) idle) (joined g) ≡ begun (used (rule_of (flag_in g)) (value_in g ∷ []) (settled run.rules (holding rows pending)).rows)
@@ -158,6 +164,7 @@ joined_walk rows pending (JobsIn x other xs) =
 joined_walk rows pending (JobsBy value) = short_walk rows pending 61 value
 joined_walk rows pending (StopBy value) = refl
 joined_walk rows pending (RetryBy value) = refl
+joined_walk rows pending (MutationsBy value) = refl
 
 pub alone_turn : (rows : List Row) (pending : Option (Text × List Text)) (waiting : Waiting) (f : Flag)
     → turn_fault run [] (at 1 (holding rows pending) waiting) (alone f) ≡ or_else (settle_fault run.rules false (holding rows pending)) []
@@ -165,18 +172,22 @@ unfolding clap_on_literals
 alone_turn rows pending idle Jobs = refl
 alone_turn rows pending idle Stop = refl
 alone_turn rows pending idle Retry = refl
+alone_turn rows pending idle Mutations = refl
 alone_turn rows pending (option id) Jobs = refl
 alone_turn rows pending (option id) Stop = refl
 alone_turn rows pending (option id) Retry = refl
+alone_turn rows pending (option id) Mutations = refl
 alone_turn rows pending positional Jobs = refl
 alone_turn rows pending positional Stop = refl
 alone_turn rows pending positional Retry = refl
+alone_turn rows pending positional Mutations = refl
 
 pub alone_walk : (rows : List Row) (pending : Option (Text × List Text)) (f : Flag) → walked run.rules [] (at 1 (holding rows pending) idle) (alone f) ≡ waits f (settled run.rules (holding rows pending)).rows
 unfolding clap_on_literals
 alone_walk rows pending Jobs = refl
 alone_walk rows pending Stop = refl
 alone_walk rows pending Retry = refl
+alone_walk rows pending Mutations = refl
 
 -- ---- what is pending
 
@@ -185,17 +196,20 @@ pub settle_given : (f : Flag) (v : Text) (rows : List Row) → settle_fault run.
 settle_given Jobs v rows = refl
 settle_given Stop v rows = refl
 settle_given Retry v rows = refl
+settle_given Mutations v rows = refl
 
 pub settled_given : (f : Flag) (v : Text) (rows : List Row) → (settled run.rules (holding rows (Some (name_of f, v ∷ [])))).rows ≡ used (rule_of f) (v ∷ []) rows
 settled_given Jobs v rows = refl
 settled_given Stop v rows = refl
 settled_given Retry v rows = refl
+settled_given Mutations v rows = refl
 
 -- an option that waits may not be left
 settle_waits : (f : Flag) (rows : List Row) → IsRefused (settle_fault run.rules false (holding rows (Some (name_of f, []))))
 settle_waits Jobs rows = tt
 settle_waits Stop rows = tt
 settle_waits Retry rows = tt
+settle_waits Mutations rows = tt
 
 pub waits_alone_refused : (f g : Flag) (rows : List Row) → IsRefused (turn_fault run [] (waits f rows) (alone g))
 waits_alone_refused f g rows =
@@ -216,3 +230,4 @@ unfolding clap_on_literals
 waits_plain Jobs word rows = refl
 waits_plain Stop word rows = refl
 waits_plain Retry word rows = refl
+waits_plain Mutations word rows = refl

@@ -10,7 +10,6 @@ use Rattle.clap.specs.Simple.{Shape}
 use Rattle.clap.specs.Kinds.{Kinds, or_else}
 use Rattle.clap.specs.Faults.{bundle_fault, bundle_step_fault, check_fault, defaults_fault, flag_word_fault, flags_fault, long_fault, other_fault, positional_fault, settle_fault, short_fault, step_fault, stray_fault, turn_fault, walk_fault, word_fault}
 use Rattle.clap.specs.declared.error.ErrorKind.TheVariants.{UnknownArgument, InvalidSubcommand}
-use Rattle.command_words.specs.declared.command.Command.{Command}
 use Rattle.command_words.proofs.WordParts.{long_parts, short_parts}
 
 abbrev pub dashes : Text
@@ -27,15 +26,15 @@ or_refused [] g h = absurd h
 or_refused (k ∷ ks) g h = tt
 
 -- what is answered where these kinds are the fault
-abbrev pub taken : Kinds → Option Command → Option Command
+abbrev pub taken : {C : Type 0} → Kinds → Option C → Option C
 taken [] command = command
 taken (k ∷ ks) command = None
 
-pub taken_refused : (f g : Kinds) (command : Option Command) → IsRefused f → taken (or_else f g) command ≡ None
+pub taken_refused : {C : Type 0} (f g : Kinds) (command : Option C) → IsRefused f → taken (or_else f g) command ≡ None
 taken_refused [] g command h = absurd h
 taken_refused (k ∷ ks) g command h = refl
 
-pub taken_last : (f : Kinds) (command : Option Command) → taken (or_else f []) command ≡ taken f command
+pub taken_last : {C : Type 0} (f : Kinds) (command : Option C) → taken (or_else f []) command ≡ taken f command
 taken_last [] command = refl
 taken_last (k ∷ ks) command = refl
 
@@ -163,13 +162,13 @@ end_fault s h has_subcommand =
     or_else (settle_fault s.rules s.args_override_self h)
     (or_else (defaults_fault (settled s.rules h).rows s.rules) (check_fault s (finished s.rules h) has_subcommand))
 
--- the command that the words behind a subcommand give, from this place on, where its rows give `command`
-abbrev pub verdict : Shape → (List Row → Option Command) → Walk → List Text → Option Command
+-- what the words behind a subcommand give, from this place on, where its rows give `command`
+abbrev pub verdict : {C : Type 0} → Shape → (List Row → Option C) → Walk → List Text → Option C
 verdict s command w words =
     taken (or_else (walk_fault s [] w words) (end_fault s (fold (walked s.rules []) w words).held false)) (command (finished s.rules (fold (walked s.rules []) w words).held))
 
-module _ (s : Shape) (command : List Row → Option Command) (w : Walk) (word : Text) (rest : List Text) where
-  abbrev with_turn : Kinds → Walk → Option Command
+module _ {C : Type 0} (s : Shape) (command : List Row → Option C) (w : Walk) (word : Text) (rest : List Text) where
+  abbrev with_turn : Kinds → Walk → Option C
   with_turn f next =
       taken (or_else (or_else f (walk_fault s [] next rest)) (end_fault s (fold (walked s.rules []) next rest).held false))
       (command (finished s.rules (fold (walked s.rules []) next rest).held))
@@ -185,7 +184,7 @@ module _ (s : Shape) (command : List Row → Option Command) (w : Walk) (word : 
   moves_to next none step = turn_first ∙ ap (λ f. with_turn f (walked s.rules [] w word)) none ∙ ap (λ v. with_turn [] v) step
 
 -- two places at which a word does the same
-pub same_turn : (s : Shape) (command : List Row → Option Command) (v w : Walk) (word : Text) (rest : List Text) → turn_fault s [] v word ≡ turn_fault s [] w word → walked s.rules [] v word ≡ walked s.rules [] w word
+pub same_turn : {C : Type 0} (s : Shape) (command : List Row → Option C) (v w : Walk) (word : Text) (rest : List Text) → turn_fault s [] v word ≡ turn_fault s [] w word → walked s.rules [] v word ≡ walked s.rules [] w word
     → verdict s command v (word ∷ rest) ≡ verdict s command w (word ∷ rest)
 same_turn s command v w word rest fault step =
     turn_first s command v word rest ∙ ap₂ (λ (f : Kinds) (next : Walk). with_turn s command v word rest f next) fault step ∙ sym (turn_first s command w word rest)

@@ -1,21 +1,23 @@
-//! Reading the words after the program's name: `init`, `run`, `list`, `status` or `source`, alone, or `run` with its options, each at
-//! most once and in any order: `-j N`, `-jN` or `-j=N`, `--stop-after N` or `--stop-after=N`, and `--retry N` or `--retry=N`; or `demo`
-//! with two numbers.
+//! Reading the words after the program's name: `init`, `list`, `source` or `baseline`, alone; `status`, alone or with `--strict`; `run`
+//! with its options, each at most once and in any order: `-j N`, `-jN` or `-j=N`, and `--stop-after`, `--retry` and `--mutations`, each
+//! with its value behind it or joined to it with a `=`; or `demo` with two numbers.
 ghost use Rattle.std.specs.Prelude.{◌≡◌, IfOk, bytes_eq, codes, map, string_bytes};
 ghost use Rattle.std.specs.List.{list_any};
-ghost use Rattle.clap.specs.Words.{subcommand_rows_of};
-ghost use Rattle.command_words.specs.Commands.{command_of};
-ghost use Rattle.command_words.specs.Program.{command_by};
+ghost use Rattle.clap.specs.Words.{found_of, rows_of, subcommand_rows_of};
+ghost use Rattle.command_words.specs.Commands.{asked_of};
+ghost use Rattle.command_words.specs.Program.{asked_by, run_found};
 
-use crate::command::{Command, demo_by, run_by};
+use crate::asked::Asked;
+use crate::command::Command;
 use crate::program::command_line;
+use crate::values::{RunValues, demo_by, run_by, status_by};
 use clap::ArgMatches;
 use clap::error::ErrorKind;
 use std::alloc::{AllocError, Global};
 
-/// The command that the words give, if they give one.
-pub fn read_words<'a>(alloc: Global, words: &'a [String]) -> Result<Option<Command>, AllocError>
-    ensures { IfOk result (λ command. command ≡ command_of (map string_bytes words.now)) }
+/// What the words ask for, if they ask for something.
+pub fn read_words<'a>(alloc: Global, words: &'a [String]) -> Result<Option<Asked>, AllocError>
+    ensures { IfOk result (λ asked. asked ≡ asked_of (map string_bytes words.now)) }
 {
     // `clap` takes a `--` behind which nothing stands.
     if has_dashes(words) {
@@ -23,7 +25,7 @@ pub fn read_words<'a>(alloc: Global, words: &'a [String]) -> Result<Option<Comma
     }
     let command: clap::Command<'a> = command_line(alloc)?;
     match command.try_get_matches_from(words) {
-        Ok(matches) => Ok(matched(&matches)),
+        Ok(matches) => matched(alloc, &matches),
         Err(error) => {
             if error.kind() == ErrorKind::OutOfMemory {
                 Err(AllocError)
@@ -40,22 +42,34 @@ fn has_dashes(words: &[String]) -> bool
     words.iter().any(|word| word.as_str() == "--")
 }
 
-/// The command that `clap` found in the words.
-fn matched(matches: &ArgMatches<'_>) -> Option<Command>
-    ensures { result ≡ command_by (subcommand_rows_of matches.now) }
+/// What was found of `run`.
+fn run_found(alloc: Global, found: &ArgMatches<'_>) -> Result<Option<Asked>, AllocError>
+    ensures { IfOk result (λ asked. asked ≡ run_found (rows_of (found_of found.now))) }
 {
-    let (name, inner) = matches.subcommand()?;
+    let values = RunValues {
+        jobs: found.get_str("jobs"),
+        stop_after: found.get_str("stop-after"),
+        retry: found.get_str("retry"),
+        mutations: found.get_str("mutations"),
+    };
+    run_by(alloc, values)
+}
+
+/// What is asked by what `clap` found in the words.
+fn matched(alloc: Global, matches: &ArgMatches<'_>) -> Result<Option<Asked>, AllocError>
+    ensures { IfOk result (λ asked. asked ≡ asked_by (subcommand_rows_of matches.now)) }
+{
+    let Some((name, inner)) = matches.subcommand() else {
+        return Ok(None);
+    };
     match name {
-        "init" => Some(Command::Init),
-        "run" => run_by(
-            inner.get_str("jobs"),
-            inner.get_str("stop-after"),
-            inner.get_str("retry"),
-        ),
-        "list" => Some(Command::List),
-        "status" => Some(Command::Status),
-        "source" => Some(Command::Source),
-        "demo" => demo_by(inner.get_str("seed"), inner.get_str("cells")),
-        _ => None,
+        "init" => Ok(Some(Asked::plainly(alloc, Command::Init))),
+        "run" => run_found(alloc, inner),
+        "list" => Ok(Some(Asked::plainly(alloc, Command::List))),
+        "status" => Ok(Some(status_by(alloc, inner.get_str("strict")))),
+        "source" => Ok(Some(Asked::plainly(alloc, Command::Source))),
+        "baseline" => Ok(Some(Asked::plainly(alloc, Command::Baseline))),
+        "demo" => Ok(demo_by(alloc, inner.get_str("seed"), inner.get_str("cells"))),
+        _ => Ok(None),
     }
 }

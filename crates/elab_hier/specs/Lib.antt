@@ -2,3 +2,5 @@ pub mod Tops
 pub mod Elaborations
 pub mod Refusals
 pub mod Parts
+pub use Rattle.elab_writers.specs.Numbers
+pub use Rattle.elab_lefts.specs.Lefts

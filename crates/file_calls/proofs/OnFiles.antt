@@ -21,7 +21,7 @@ module _ (words : List (List ℕ)) (held : Option Held) (holds : Book → Type 0
 
   unloaded_on : (new : Option Book → Type 0) (taken taken' : ℕ) (outcome : Outcome) → Unloaded words old new taken taken' outcome → Unloaded words found new taken taken' outcome
   unloaded_on new taken taken' outcome (inl early) = inl (early_on new taken taken' outcome early)
-  unloaded_on new taken taken' outcome (inr aside) = inr (record { seed = aside.seed; cells = aside.cells; asked = aside.asked; leaves_is = λ left is. only left (aside.leaves_is left is) })
+  unloaded_on new taken taken' outcome (inr aside) = inr (record { asked = aside.asked; leaves_is = λ left is. only left (aside.leaves_is left is) })
 
   life_on : (new : Option Book → Type 0) (written written' : Option (List ℕ)) (taken taken' : ℕ) (outcome : Outcome)
       → Life words held holds old new written written' taken taken' outcome → Life words held (λ _. ⊥) found new written written' taken taken' outcome

@@ -27,8 +27,8 @@ use Rattle.elab_items.proofs.Turning.{all_within}
 use Rattle.elab_finish.specs.declared.error.DesignError.{DesignError}
 use Rattle.elab_finish.specs.declared.error.DesignError.TheVariants as ending
 use Rattle.elab_finish.specs.Refusals.{IsRefused}
-use Rattle.elab_lefts.specs.Lefts.{design_lefts}
-use Rattle.elab_writers.specs.Numbers.{declared_numbers}
+use Rattle.elab_hier.specs.Lefts.{design_lefts}
+use Rattle.elab_hier.specs.Numbers.{declared_numbers}
 use Rattle.elab_once.proofs.Building.{begin_alike}
 use Rattle.elab_once.proofs.Built.{built_once}
 use Rattle.elab_hier.specs.Tops.{Source, clock_name, inputs, outputs}

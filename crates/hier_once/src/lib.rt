@@ -9,4 +9,5 @@
 
 mod laws;
 
+pub use elab_hier::{ElabError, elaborate};
 pub use laws::sources_have_one_answer;

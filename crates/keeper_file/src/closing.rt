@@ -24,6 +24,9 @@ pub fn close_keeper<D: Disk + Drop, O: Opener<FileStore<D>>>(
     };
     match connection.close_files() {
         Ok(files) => Ok(Some(files)),
-        Err((error, _store)) => Err(error),
+        Err((error, store)) => {
+            drop(store);
+            Err(error)
+        }
     }
 }

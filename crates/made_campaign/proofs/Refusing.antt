@@ -7,7 +7,7 @@ use Rattle.mcy_outside.specs.Files.{Gives, Held, IsLarge, look_up}
 use Rattle.project_file.specs.declared.project.Project.{Project}
 use Rattle.project_file.specs.Projects.{IsProject}
 use Rattle.campaign_choice.specs.Limits.{max_bytes}
-use Rattle.campaign_plan.specs.declared.prepared.Prepared.{Prepared}
+use Rattle.campaign_reading.specs.Prepared.{Prepared}
 use Rattle.campaign_reading.specs.declared.refusal.Refusal.{Refusal}
 use Rattle.campaign_reading.specs.declared.refusal.Refusal.TheVariants.{ProjectBad, ScriptBad, SourceBad, Missing, TooLarge, ReadFault, Memory}
 use Rattle.campaign_reading.specs.Files.{config_name, Exceeds, IsMade, Lacks}

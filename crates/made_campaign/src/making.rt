@@ -4,8 +4,7 @@ ghost use Rattle.campaign_reading.specs.Files.{IsMade};
 ghost use Rattle.campaign_reading.specs.Reads.{IsUnmade};
 ghost use Rattle.made_campaign.specs.Made.{made_held, made_limit, IsOfTexts};
 
-use campaign_plan::Prepared;
-use campaign_reading::{Refusal, read_campaign};
+use campaign_reading::{Prepared, Refusal, read_campaign};
 use made_project::made_files;
 use mcy_outside::CleanFiles;
 use std::alloc::Global;

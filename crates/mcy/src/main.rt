@@ -1,16 +1,16 @@
 //! `mcy`: one call over the real files, standard output and the database of the current folder.
 //!
 //! The words, the files, the sink and the database are made here and nowhere else. What the call does is
-//! `call_on_file`'s. Where standard error is a terminal, a `Meter` tells there how far the campaign is and which tests may be asked
-//! again, and main what to do next where a call was refused for what the database holds.
+//! `call_on_file`'s. Where standard error is a terminal, a `Meter` tells there how far the campaign is and what to do next, and
+//! `hint_text` where a refusal is, with a hint.
 #![tactic(auto)]
 
-use file_calls::call_on_file;
+use file_calls::{Outcome, call_on_file, exit_status, fault_line};
 use keeper_file::{Database, close_keeper};
 use keeper_opening::DatabaseFault;
 use mcy_outside::{RealFiles, RealSink, Sink};
 use mcy_terminal::{Meter, asked_of, words_of};
-use mcy_top::{Outcome, exit_status, fault_line};
+use outcome_hints::hint_text;
 use sqlite::{Start, Unknown};
 use std::io::{self, IsTerminal};
 use std::process::ExitCode;
@@ -24,18 +24,6 @@ fn database_line(fault: DatabaseFault) -> &'static str {
         DatabaseFault::Locked => "mcy: mcy.db: locked\n",
         DatabaseFault::NoBook => "mcy: mcy.db: another program's, or damaged\n",
         DatabaseFault::NoAccess => "mcy: mcy.db: cannot be read or written\n",
-    }
-}
-
-/// What to do next, a line behind the one of the outcome, where there is something to tell.
-fn next_line(outcome: &Outcome) -> &'static str {
-    match outcome {
-        Outcome::NoCampaign => "mcy: run or init begins one\n",
-        Outcome::AlreadyBegun => "mcy: run goes on with it\n",
-        Outcome::BookBad(_) => {
-            "mcy: config.mcy, a source or mcy.db has changed: undo that, or move mcy.db and mcy.db-wal away to begin anew\n"
-        }
-        _ => "",
     }
 }
 
@@ -62,12 +50,14 @@ fn call_here<S: Start>(rt: HostRuntime, words: &[String], start: S) -> Ended {
     );
     match &outcome {
         // The line was cleared after the last row; what stands now is the text.
-        Outcome::Done | Outcome::Unfinished(_) => meter.tell_unknown(),
+        Outcome::Done | Outcome::RequirementMissed | Outcome::Unfinished(_) => {
+            meter.tell_next(&mut files)
+        }
         _ => meter.end(),
     }
     let fault = keeper.fault();
     // A log that was not copied stays beside the file, and the next call finds its rows.
-    let _closed = close_keeper(keeper);
+    drop(close_keeper(keeper));
     Ended { outcome, fault }
 }
 
@@ -84,6 +74,14 @@ fn call_of_words(rt: HostRuntime) -> Ended {
     }
 }
 
+/// Writes what a terminal is told behind the line of an outcome.
+fn tell_hint<O: Sink>(rt: HostRuntime, errors: &mut O, outcome: &Outcome) {
+    let alloc = rt.alloc();
+    if let Ok(text) = hint_text(alloc, &mut RealFiles::new(alloc, rt), outcome) {
+        let _written = errors.write_all(text.as_slice());
+    }
+}
+
 fn main(rt: HostRuntime) -> ExitCode {
     let mut errors = RealSink::new(rt.stderr());
     let Ended { outcome, fault } = call_of_words(rt);
@@ -95,7 +93,7 @@ fn main(rt: HostRuntime) -> ExitCode {
         let _written = errors.write_all(database_line(fault).as_bytes());
     }
     if rt.stderr().is_terminal() {
-        let _written = errors.write_all(next_line(&outcome).as_bytes());
+        tell_hint(rt, &mut errors, &outcome);
     }
     ExitCode::from(exit_status(&outcome))
 }

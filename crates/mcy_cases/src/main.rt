@@ -89,11 +89,17 @@ fn make_call<R: Print + AllocGlobal>(rt: &R, stage: &mut Stage, line: &str) -> i
     make_on(rt, stage, words.as_slice())
 }
 
-/// Prints the command that the words give.
+/// Prints the command that the words give, and the mutations that they name.
 fn tell_command<R: Print + AllocGlobal>(rt: &R, line: &str) -> io::Result<()> {
     let words = words_of(rt.alloc(), line)?;
-    let command = read_words(rt.alloc(), &words)?;
-    println!(rt; "{line}: {command:?}")
+    let asked = read_words(rt.alloc(), &words)?;
+    let command = asked.as_ref().map(|asked| asked.command);
+    match &asked {
+        Some(asked) if !asked.mutations.as_slice().is_empty() => {
+            println!(rt; "{line}: {command:?} of {:?}", asked.mutations.as_slice())
+        }
+        _ => println!(rt; "{line}: {command:?}"),
+    }
 }
 
 /// Carries out a statement.

@@ -3,6 +3,7 @@
 
 mod marks;
 mod meter;
+mod next;
 mod words;
 
 pub use meter::{Asked, Meter};

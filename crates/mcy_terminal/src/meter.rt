@@ -1,12 +1,14 @@
 //! How far a running campaign is, told on standard error where that is a terminal, at most ten times a second.
 //!
 //! It is one line, which is written over itself and cleared after the last row, before the call writes its text. The cursor waits below
-//! it, so that a call which is cut off leaves a whole line. Behind the text a line tells of the tests that are UNKNOWN, and which retry
-//! asks them again. Nothing else depends on it: it is told of the rows that were added, reads the clock, and passes over what goes wrong
-//! with either, or want of memory.
+//! it, so that a call which is cut off leaves a whole line. Behind the text lines tell what to do next (`next`). Nothing else depends on it:
+//! it is told of the rows that were added, reads the clock, and passes over what goes wrong with either, or want of memory.
 use crate::marks::Marks;
+use crate::next::{project_of, tell_project, tell_unfinished, tell_unknown};
+use command_words::MutationNumbers;
 use mcy_base::BytesList;
 use mcy_keeper::{Book, Entry};
+use mcy_outside::SourceFiles;
 use std::alloc::Global;
 use std::io;
 use std::rt::Clock;
@@ -19,11 +21,11 @@ const PAUSE: u64 = 100;
 /// Leads from below the line back to it.
 const BACK: &str = "\x1b[A";
 
-/// When rows began to be added, how many mutations were finished then, and when the line was written last, if it was.
+/// When rows began to be added, how many mutations were left then, and when the line was written last, if it was.
 #[derive(Clone, Copy)]
 struct Pace {
     begun: Instant,
-    finished: u64,
+    left: u64,
     written: Option<Instant>,
 }
 
@@ -38,7 +40,7 @@ impl Pace {
 }
 
 /// What the words of a call say that a meter of it takes account of.
-#[derive(Clone, Copy)]
+#[derive(Drop)]
 pub struct Asked {
     /// Whether the call tells the state of the campaign.
     pub is_of_status: bool,
@@ -46,6 +48,8 @@ pub struct Asked {
     pub stop_after: Option<u32>,
     /// Below which limit it asks tests again; 0 without one.
     pub retry: u32,
+    /// The mutations that it looks at; none where it looks at all.
+    pub mutations: MutationNumbers,
 }
 
 /// How far a campaign is.
@@ -90,7 +94,8 @@ impl<R: Eprint + Clock> Meter<R> {
         if !self.is_shown {
             return;
         }
-        let Ok(mut marks) = Marks::new(self.alloc, mutations, self.asked.retry) else {
+        let named = self.asked.mutations.as_slice();
+        let Ok(mut marks) = Marks::new(self.alloc, mutations, self.asked.retry, named) else {
             return;
         };
         for row in rows {
@@ -99,7 +104,7 @@ impl<R: Eprint + Clock> Meter<R> {
         if let Ok(now) = Instant::now(&self.rt) {
             self.pace = Some(Pace {
                 begun: now,
-                finished: marks.finished(),
+                left: marks.left(),
                 written: None,
             });
         }
@@ -115,19 +120,23 @@ impl<R: Eprint + Clock> Meter<R> {
         }
     }
 
-    /// Whether no row is added after the last one.
-    fn has_all(&self) -> bool {
-        let has_marks = match &self.marks {
-            Some(marks) => marks.has_all(),
-            None => true,
-        };
-        has_marks || self.asked.stop_after == Some(self.tests)
+    /// How many mutations have a test that is to be run still.
+    fn left(&self) -> u64 {
+        match &self.marks {
+            Some(marks) => marks.left(),
+            None => 0,
+        }
     }
 
-    /// How many seconds are left at most, as far as the mutations that were finished in this call tell it.
+    /// Whether no row is added after the last one.
+    fn has_all(&self) -> bool {
+        self.left() == 0 || self.asked.stop_after == Some(self.tests)
+    }
+
+    /// How many seconds are left at most, as far as the mutations that were done in this call tell it.
     fn seconds_left(&self, pace: Pace, spent: u64) -> Option<u64> {
-        let left = self.mutations.saturating_sub(self.finished());
-        let done = self.finished().saturating_sub(pace.finished);
+        let left = self.left();
+        let done = pace.left.saturating_sub(left);
         let millis = left.saturating_mul(spent).checked_div(done)?;
         Some(millis / 1000 + 1)
     }
@@ -176,25 +185,19 @@ impl<R: Eprint + Clock> Meter<R> {
         }
     }
 
-    /// Tells how many tests are UNKNOWN, where there are some and this call tells their state, and which retry asks them again. In a
-    /// book of the first format no row tells of a bound.
-    pub fn tell_unknown(&self) {
+    /// Tells what to do next, where this call tells the state of the campaign. A line that cannot be written is left out.
+    pub fn tell_next<F: SourceFiles>(&self, files: &mut F) {
         let Some(marks) = &self.marks else {
             return;
         };
-        let count = marks.unknown();
-        if count == 0 || !self.asked.is_of_status {
+        if !self.asked.is_of_status {
             return;
         }
-        let _written = match marks.next_limit() {
-            None => Ok(()),
-            Some(_) if !marks.has_bound() => eprint!(self.rt;
-                "mcy: {count} UNKNOWN: run --retry N asks again, with N above the project's conflicts\n"
-            ),
-            Some(limit) => eprint!(self.rt;
-                "mcy: {count} UNKNOWN: run --retry {limit} asks again\n"
-            ),
-        };
+        if let Some(project) = project_of(self.alloc, files) {
+            let _written = tell_project(&self.rt, &project, marks);
+        }
+        let _written = tell_unfinished(&self.rt, marks);
+        let _written = tell_unknown(&self.rt, marks);
     }
 }
 

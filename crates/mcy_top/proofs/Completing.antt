@@ -7,16 +7,15 @@ use Rattle.result_book.specs.declared.check.BookError.{BookError}
 use Rattle.result_book.specs.declared.check.BookError.TheVariants.{Stray, Memory as NoMemoryFor}
 use Rattle.result_book.specs.Rows.{meta_in_second, IsWellFormed}
 use Rattle.command_words.specs.declared.command.Command.{Command}
-use Rattle.command_words.specs.declared.command.Command.TheVariants.{Init, Run, List as Listing, Status, Source, Demo}
+use Rattle.command_words.specs.declared.command.Command.TheVariants.{Init, Run, List as Listing, Status, Source, Baseline, Demo}
 use Rattle.campaign_plan.specs.declared.prepared.Prepared.{Prepared}
 use Rattle.campaign_reading.specs.declared.refusal.Refusal.{Refusal}
 use Rattle.campaign_reading.specs.declared.refusal.Refusal.TheVariants.{ProjectBad as RefusedProject, ScriptBad as RefusedScript, SourceBad as RefusedSource, Missing as RefusedMissing, TooLarge as RefusedTooLarge}
 use Rattle.mcy_top.specs.declared.refusal.BookRefusal.{BookRefusal}
 use Rattle.mcy_top.specs.declared.refusal.BookRefusal.TheVariants.{NoCampaign as RefusedNone, AlreadyBegun as RefusedBegun, BookBad as RefusedBook, Memory as NoMemory}
 use Rattle.campaign_outcomes.specs.declared.outcome.Outcome.{Outcome}
-use Rattle.campaign_outcomes.specs.declared.outcome.Outcome.TheVariants.{Done, Unfinished, Usage, ProjectBad, ScriptBad, SourceBad, Missing, TooLarge, NoCampaign, AlreadyBegun, BookBad, ReadFault, KeeperFault, WriteFault, Memory}
-use Rattle.command_words.specs.Commands.{command_of}
-use Rattle.mcy_top.specs.Commands.{stop_of, AsksNoDemo, OnBook}
+use Rattle.campaign_outcomes.specs.declared.outcome.Outcome.TheVariants.{Done, Unfinished, Usage, ProjectBad, ScriptBad, SourceBad, Missing, TooLarge, NoCampaign, AlreadyBegun, BookBad, ReadFault, KeeperFault, WriteFault, Memory, RequirementMissed}
+use Rattle.mcy_top.specs.Commands.{command_of, stop_of, AsksNoDemo, IsAside, OnBook}
 use Rattle.campaign_choice.specs.Campaigns.{meta_of}
 use Rattle.campaign_plan.specs.Campaigns.{IsPlan}
 use Rattle.campaign_reading.specs.Reads.{IsUnmade}
@@ -41,8 +40,9 @@ taken_as : (command : Command) (c : Prepared) (book : Book) → Takes command c 
 taken_as Init c book takes = inl takes
 taken_as (Run jobs stop retry) c book takes = takes
 taken_as Listing c book takes = inr takes
-taken_as Status c book takes = inr takes
+taken_as (Status strict) c book takes = inr takes
 taken_as Source c book takes = inr takes
+taken_as Baseline c book takes = absurd takes
 taken_as (Demo seed cells) c book takes = absurd takes
 
 -- a blank book is not bad, and neither is the campaign's, nor one that a command finds begun already
@@ -69,8 +69,9 @@ none_not : (command : Command) (c : Prepared) (book : Book) → IsPlan c → Tak
 none_not Init c book plan takes refuses = refuses.1
 none_not (Run jobs stop retry) c book plan takes refuses = refuses.1
 none_not Listing c book plan form refuses = form_meta c book plan form (blank_meta book refuses.0)
-none_not Status c book plan form refuses = form_meta c book plan form (blank_meta book refuses.0)
+none_not (Status strict) c book plan form refuses = form_meta c book plan form (blank_meta book refuses.0)
 none_not Source c book plan form refuses = form_meta c book plan form (blank_meta book refuses.0)
+none_not Baseline c book plan takes refuses = takes
 none_not (Demo seed cells) c book plan takes refuses = takes
 
 begun_not : (command : Command) (c : Prepared) (book : Book) → Takes command c book → ¬ RefusesBook command c book RefusedBegun
@@ -88,6 +89,14 @@ no_demo words command asked on seed cells demo =
     let is : Some command ≡ Some (Demo seed cells) = sym asked ∙ demo in
     let same : command ≡ Demo seed cells = cc in
     subst OnBook same on
+
+-- nor for anything that is done without a book
+not_aside : (words : List (List ℕ)) (command : Command) → command_of words ≡ Some command → OnBook command → ¬ IsAside words
+not_aside words command asked on (inl baseline) =
+    let is : Some command ≡ Some Baseline = sym asked ∙ baseline in
+    let same : command ≡ Baseline = cc in
+    subst OnBook same on
+not_aside words command asked on (inr demo) = no_demo words command asked on demo.0 demo.1 demo.2
 
 pub completes : (words : List (List ℕ)) (held : Option Held) (holds : Book → Type 0) (leaves leaves' : Option Book → Type 0) (written written' : Option (List ℕ)) (taken taken' f f' k k' s s' : ℕ) (command : Command) (o : Outcome)
     → IsReady words held holds leaves command → NoneRose f f' k k' s s' → (AsksNoDemo words → Answered words held o) → HasCause f f' k k' s s' o
@@ -108,7 +117,7 @@ completes words held holds leaves leaves' written written' taken taken' f f' k k
     go KeeperFault a h e = absurd (none.keeps h)
     go Memory a h e = tt
     go o a h e = absurd e
-completes words held holds leaves leaves' written written' taken taken' f f' k k' s s' command o ready none answer cause (inl (inr aside)) = absurd (no_demo words command ready.asked ready.on_book aside.seed aside.cells aside.asked)
+completes words held holds leaves leaves' written written' taken taken' f f' k k' s s' command o ready none answer cause (inl (inr aside)) = absurd (not_aside words command ready.asked ready.on_book aside.asked)
 completes words held holds leaves leaves' written written' taken taken' f f' k k' s s' command o ready none answer cause (inr life) = go o cause life.work.answer
   where
     same : life.command ≡ command
@@ -125,6 +134,7 @@ completes words held holds leaves leaves' written written' taken taken' f f' k k
 
     go : (o : Outcome) → HasCause f f' k k' s s' o → Answers life.command life.prepared life.loaded life.work.sure o → Completes command o
     go Done h a = tt
+    go RequirementMissed h a = tt
     go (Unfinished left) h a = λ none. let is : Some a.2.stop ≡ None = sym a.2.asked ∙ ap stop_of same ∙ none in cc
     go Memory h a = tt
     go NoCampaign h a = let is : RefusedNone ≡ NoMemory = refused RefusedNone a in cc

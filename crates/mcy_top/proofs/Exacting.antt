@@ -11,8 +11,8 @@ use Rattle.campaign_reading.specs.declared.refusal.Refusal.TheVariants.{ProjectB
 use Rattle.mcy_top.specs.declared.refusal.BookRefusal.{BookRefusal}
 use Rattle.mcy_top.specs.declared.refusal.BookRefusal.TheVariants.{NoCampaign as RefusedNone, AlreadyBegun as RefusedBegun, BookBad as RefusedBook, Memory as NoMemory}
 use Rattle.campaign_outcomes.specs.declared.outcome.Outcome.{Outcome}
-use Rattle.campaign_outcomes.specs.declared.outcome.Outcome.TheVariants.{Done, Unfinished, Usage, ProjectBad, ScriptBad, SourceBad, Missing, TooLarge, NoCampaign, AlreadyBegun, BookBad, ReadFault, KeeperFault, WriteFault, Memory}
-use Rattle.command_words.specs.Commands.{command_of}
+use Rattle.campaign_outcomes.specs.declared.outcome.Outcome.TheVariants.{Done, Unfinished, Usage, ProjectBad, ScriptBad, SourceBad, Missing, TooLarge, NoCampaign, AlreadyBegun, BookBad, ReadFault, KeeperFault, WriteFault, Memory, RequirementMissed}
+use Rattle.mcy_top.specs.Commands.{command_of}
 use Rattle.campaign_reading.specs.Files.{IsMade}
 use Rattle.campaign_plan.specs.Campaigns.{IsPlan}
 use Rattle.campaign_reading.specs.Laws.{IsByFiles}
@@ -113,7 +113,8 @@ exact_book command c loaded sure q o plan h a = go o a
     taken takes = h.by_book (taken_not_refused command c loaded q plan takes h.cause)
 
     go : (o : Outcome) → Answers command c loaded sure o → (o ≡ book_outcome q) ⊎ (o ≡ Memory)
-    go Done a = absurd (taken a.0)
+    go Done a = absurd (taken a.0.takes)
+    go RequirementMissed a = absurd (taken a.0.takes)
     go (Unfinished left) a = absurd (taken a.0)
     go NoCampaign a = inl (none_once command c loaded q a h)
     go AlreadyBegun a = inl (begun_once command c loaded q a h)

@@ -8,6 +8,7 @@ pub mod Gaining
 pub mod Aiming
 pub mod Finishing
 pub mod InOrder
+pub mod Doing
 pub mod Working
 pub mod Busy
 pub mod Turning
@@ -24,6 +25,8 @@ pub mod NoneUp
 pub mod Showing
 pub mod ShownEnds
 pub mod ShownExact
+pub mod BaselineEnds
+pub mod BaselineExact
 pub mod Living
 pub mod Upgrading
 pub mod Histories

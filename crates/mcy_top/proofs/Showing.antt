@@ -103,7 +103,7 @@ module _ (once : BenchesSayOnce) (leaves : Option Book → Type 0) (text : List 
   own = has once leaves (Some []) (Some text) before now jobs c Done plan w
 
   ended : IsFinished c.campaign w.sure
-  ended = (w.answer.2 tt).finished
+  ended = (w.answer.0.whole tt).finished
 
   told : text ≡ lines c.campaign (groups c.campaign w.sure.journal)
   told = let is : Some text ≡ Some ([] ++ lines c.campaign (groups c.campaign w.sure.journal)) = w.text in cc

@@ -1,21 +1,20 @@
 -- A bench says one word of a mutation, whichever netlist that runs as its mutant was simulated.
-use Rattle.std.proofs.Common.{◌≡◌, ℕ, true, false, List, refl, sym, ap, subst, ◌∙◌}
+use Rattle.std.proofs.Common.{◌≡◌, ℕ, List, sym, ap, subst, ◌∙◌}
 use Rattle.netlist_core.specs.declared.raw.RawNetlist.{RawNetlist}
 use Rattle.mutation_sites.specs.declared.site.Site.{Site}
 use Rattle.vlog_syntax.specs.declared.stmt.Stmt.{Stmt}
 use Rattle.tb_machine.specs.Nodes.{tree_of}
 use Rattle.tb_machine.specs.Phases.{Setting, State}
 use Rattle.tb_bench.specs.declared.parts.Parts.{Parts}
-use Rattle.tb_reading.specs.Laws.{AreAlike}
+use Rattle.campaign_plan.specs.Laws.{AreAlike}
 use Rattle.tb_machine.specs.Simulations.{Outcome, phases_of}
-use Rattle.tb_turns.specs.declared.verdict.SimVerdict.{SimVerdict}
-use Rattle.tb_turns.specs.declared.verdict.SimVerdict.TheVariants as v
 use Rattle.tb_turns.specs.Verdicts.{IsVerdict, IsWord}
 use Rattle.tb_bench.specs.Settings.{setting_of, start_of}
 use Rattle.tb_process.specs.Running.{generator}
 use Rattle.tb_once.specs.Laws.{BenchesHaveOneOutcome, SettingsByDesign, StartsByRegisters}
 use Rattle.sim_words.specs.SimWords.{IsMutant, RunsDesigns, SimBench}
 use Rattle.sim_words.specs.Laws.{MutantsTellTheSame}
+use Rattle.campaign_baseline.proofs.Words.{word_once}
 use Rattle.campaign_run.specs.GivenUp.{IsMutantAt}
 use Rattle.campaign_run.specs.Simulated.{told_verdict, IsSimulated, Run}
 
@@ -31,18 +30,6 @@ runs_designs settings starts run trees = record {
   setting = λ a b same. settings run.bench (tree_of trees) a b same;
   start = λ a b same. starts run.bench (tree_of trees) a b (generator run.seed) same;
 }
-
--- an outcome has one word
-word_once : (o : Outcome) (pass fail : List ℕ) (x y : SimVerdict) → IsWord o pass fail x → IsWord o pass fail y → x ≡ y
-word_once o pass fail v.Pass v.Pass h k = refl
-word_once o pass fail v.Pass v.Fail h k = absurd (k.1 h.1)
-word_once o pass fail v.Pass v.Hang h k = let is : true ≡ false = sym h.0 ∙ k in cc
-word_once o pass fail v.Fail v.Pass h k = absurd (h.1 k.1)
-word_once o pass fail v.Fail v.Fail h k = refl
-word_once o pass fail v.Fail v.Hang h k = let is : true ≡ false = sym h.0 ∙ k in cc
-word_once o pass fail v.Hang v.Pass h k = let is : true ≡ false = sym k.0 ∙ h in cc
-word_once o pass fail v.Hang v.Fail h k = let is : true ≡ false = sym k.0 ∙ h in cc
-word_once o pass fail v.Hang v.Hang h k = refl
 
 -- Benches that are alike say one word of a mutation.
 abbrev pub BenchesSayOnce : Type 0

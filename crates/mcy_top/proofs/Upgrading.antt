@@ -12,14 +12,14 @@ use Rattle.campaign_plan.specs.declared.prepared.Prepared.{Prepared}
 use Rattle.campaign_plan.specs.Campaigns.{IsPlan}
 use Rattle.campaign_plan.proofs.Plans.{plan_fit}
 use Rattle.campaign_outcomes.specs.declared.outcome.Outcome.{Outcome}
-use Rattle.campaign_outcomes.specs.declared.outcome.Outcome.TheVariants.{Done, Unfinished, NoCampaign, AlreadyBegun, BookBad, KeeperFault, WriteFault, Memory}
+use Rattle.campaign_outcomes.specs.declared.outcome.Outcome.TheVariants.{Done, Unfinished, NoCampaign, AlreadyBegun, BookBad, KeeperFault, WriteFault, Memory, RequirementMissed}
 use Rattle.campaign_run.specs.Changes.{IsNear, Upgraded}
 use Rattle.campaign_run.specs.Rows.{IsBlankOrGood, IsGood, IsPrefix, IsWithinOne}
 use Rattle.campaign_run.specs.Running.{book_of, AreWanted, IsWithin}
 use Rattle.campaign_run.proofs.Crashes.{either_books, weaker_books}
 use Rattle.mcy_top.specs.Commands.{run_goal}
 use Rattle.mcy_top.specs.Endings.{failed_outcome}
-use Rattle.mcy_top.specs.Life.{Answers, Carried, GainsWanted, Grew, Work}
+use Rattle.mcy_top.specs.Life.{Answers, Carried, DidAll, GainsWanted, Grew, Work}
 use Rattle.mcy_top.specs.ProgramOrder.{IsInOrder}
 use Rattle.mcy_top.proofs.Advancing.{good_history, history_else, history_first, history_second, within_itself}
 use Rattle.mcy_top.proofs.Completing.{form_not_bad}
@@ -73,9 +73,16 @@ moved_good c loaded plan form was = inr (good_history c loaded plan form (right_
 
 -- A run from the history is one from the book.
 
+moved_all : (jobs : ℕ) (stop retry : Option ℕ) (c : Prepared) (loaded sure : Book) → IsPlan c → IsWellFormed c.campaign loaded → DidAll (Run jobs stop retry) c (history c.campaign loaded) sure → DidAll (Run jobs stop retry) c loaded sure
+moved_all jobs stop retry c loaded sure plan form all = record {
+  takes = inr form;
+  form = all.form;
+  whole = λ runs. record { wants_none = (all.whole runs).wants_none; finished = (all.whole runs).finished; final = λ was. (all.whole runs).final (moved_good c loaded plan form was) };
+}
+
 moved_answer : (jobs : ℕ) (stop retry : Option ℕ) (c : Prepared) (loaded sure : Book) (outcome : Outcome) → IsPlan c → IsWellFormed c.campaign loaded → Answers (Run jobs stop retry) c (history c.campaign loaded) sure outcome → Answers (Run jobs stop retry) c loaded sure outcome
-moved_answer jobs stop retry c loaded sure Done plan form (takes, well, whole) =
-    (inr form, well, λ runs. record { wants_none = (whole runs).wants_none; finished = (whole runs).finished; final = λ was. (whole runs).final (moved_good c loaded plan form was) })
+moved_answer jobs stop retry c loaded sure Done plan form answer = (moved_all jobs stop retry c loaded sure plan form answer.0, answer.1)
+moved_answer jobs stop retry c loaded sure RequirementMissed plan form answer = (moved_all jobs stop retry c loaded sure plan form answer.0, answer.1)
 moved_answer jobs stop retry c loaded sure (Unfinished left) plan form (takes, well, s) =
     (inr form, well, record { stop = s.stop; asked = s.asked; gained = s.gained ∙ ap (λ (n : ℕ). n + s.stop) (history_length c loaded); left_is = s.left_is; some = s.some })
 moved_answer jobs stop retry c loaded sure NoCampaign plan form answer = absurd answer.1

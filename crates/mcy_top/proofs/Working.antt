@@ -1,5 +1,5 @@
 -- The work of a command, put together.
-use Rattle.std.proofs.Common.{◌≡◌, ◌≢◌, ◌⊎◌, inl, inr, arith, ℕ, ◌+◌, ◌%◌, ◌≤◌, true, List, [], ◌∷◌, ◌++◌, length, refl, sym, ap, subst, ◌∙◌, Option, None, Some, Result, Ok, Err, OnErr, IsErrOf}
+use Rattle.std.proofs.Common.{◌≡◌, ◌≢◌, ◌⊎◌, inl, inr, arith, ℕ, ◌+◌, ◌%◌, ◌≤◌, Bool, true, List, [], ◌∷◌, ◌++◌, length, refl, sym, ap, subst, ◌∙◌, Option, None, Some, Result, Ok, Err, OnErr, IsErrOf}
 use Rattle.std.proofs.lemmas.Bool.Decides.{eqb_tells}
 use Rattle.mcy_base.specs.Causes.{Rose}
 use Rattle.mcy_keeper.specs.declared.book.Entry.{Entry}
@@ -13,14 +13,14 @@ use Rattle.result_book.specs.Rows.{groups, history, meta_in_second, IsFinished, 
 use Rattle.result_book.proofs.Formats.{has_history}
 use Rattle.source_report.specs.Texts.{status_text}
 use Rattle.command_words.specs.declared.command.Command.{Command}
-use Rattle.command_words.specs.declared.command.Command.TheVariants.{Init, Run, List as Listing, Status, Source, Demo}
+use Rattle.command_words.specs.declared.command.Command.TheVariants.{Init, Run, List as Listing, Status, Source, Baseline, Demo}
 use Rattle.campaign_plan.specs.declared.prepared.Prepared.{Prepared}
 use Rattle.mcy_top.specs.declared.work.Ending.{Ending}
 use Rattle.mcy_top.specs.declared.work.Ending.TheVariants.{Written, Refused, NoMemory}
 use Rattle.mcy_top.specs.declared.refusal.BookRefusal.{BookRefusal}
 use Rattle.mcy_top.specs.declared.refusal.BookRefusal.TheVariants.{NoCampaign as RefusedNone, AlreadyBegun as RefusedBegun, BookBad as RefusedBook, Memory as RefusedMemory}
 use Rattle.campaign_outcomes.specs.declared.outcome.Outcome.{Outcome}
-use Rattle.campaign_outcomes.specs.declared.outcome.Outcome.TheVariants.{Done, Unfinished, NoCampaign, AlreadyBegun, BookBad, KeeperFault, WriteFault, Memory}
+use Rattle.campaign_outcomes.specs.declared.outcome.Outcome.TheVariants.{Done, Unfinished, NoCampaign, AlreadyBegun, BookBad, KeeperFault, WriteFault, Memory, RequirementMissed}
 use Rattle.mcy_top.specs.Commands.{goal_of, run_goal, slots_of, stop_of, OnlyReads, Runs}
 use Rattle.campaign_plan.specs.Campaigns.{IsPlan}
 use Rattle.campaign_run.specs.Rows.{AreRight, IsBlankOrGood, IsGood, IsNextRow, IsPrefix, IsWithinOne}
@@ -34,13 +34,15 @@ use Rattle.mcy_top.proofs.Prefixes.{prefix_on}
 use Rattle.mcy_top.proofs.InOrder.{none_in_order, order_from}
 use Rattle.campaign_run.specs.Crashes.{LeavesBooks}
 use Rattle.mcy_top.specs.Texts.{answers_text, init_text, text_of}
+use Rattle.mcy_top.specs.Requirements.{misses, misses_on}
 use Rattle.mcy_top.specs.Outcomes.{book_outcome}
 use Rattle.mcy_top.specs.BookRefusals.{IsBookBad, RefusesBook}
-use Rattle.mcy_top.specs.Endings.{ended_outcome, failed_outcome, run_outcome, Delivers, Ends}
-use Rattle.mcy_top.specs.Life.{wanting, Answers, Carried, GainsWanted, Grew, IsCounted, StartsFew, Takes, Work, Wrote}
+use Rattle.mcy_top.specs.Endings.{done_outcome, ended_outcome, failed_outcome, run_outcome, Delivers, Ends}
+use Rattle.mcy_top.specs.Life.{wanting, Answers, Carried, DidAll, GainsWanted, Grew, IsCounted, StartsFew, Takes, Work, Wrote}
 use Rattle.mcy_top.specs.ProgramOrder.{IsInOrder}
 use Rattle.mcy_top.proofs.Advancing.{good_more, good_rows, history_second, opened_form, within_itself, within_more}
 use Rattle.mcy_top.proofs.Counting.{counted_none, none_counted}
+use Rattle.mcy_top.proofs.Doing.{all_answers, text_wrote}
 use Rattle.campaign_run.proofs.Crashes.{either_books, only_books, weaker_books}
 use Rattle.mcy_top.proofs.Finishing.{final_is}
 use Rattle.campaign_run.proofs.Growing.{book_second, length_more}
@@ -118,24 +120,27 @@ reads_takes : (command : Command) (c : Prepared) (book : Book) → OnlyReads com
 reads_takes Init c book reads form = absurd reads
 reads_takes (Run jobs stop retry) c book reads form = absurd reads
 reads_takes Listing c book reads form = form
-reads_takes Status c book reads form = form
+reads_takes (Status strict) c book reads form = form
 reads_takes Source c book reads form = form
+reads_takes Baseline c book reads form = absurd reads
 reads_takes (Demo seed cells) c book reads form = absurd reads
 
 reads_not_runs : (command : Command) → OnlyReads command → ¬ Runs command
 reads_not_runs Init reads runs = runs
 reads_not_runs (Run jobs stop retry) reads runs = reads
 reads_not_runs Listing reads runs = runs
-reads_not_runs Status reads runs = runs
+reads_not_runs (Status strict) reads runs = runs
 reads_not_runs Source reads runs = runs
+reads_not_runs Baseline reads runs = runs
 reads_not_runs (Demo seed cells) reads runs = runs
 
 pub reads_not_init : (command : Command) → OnlyReads command → command ≢ Init
 reads_not_init Init reads is = reads
 reads_not_init (Run jobs stop retry) reads is = reads
 reads_not_init Listing reads is = cc
-reads_not_init Status reads is = cc
+reads_not_init (Status strict) reads is = cc
 reads_not_init Source reads is = cc
+reads_not_init Baseline reads is = reads
 reads_not_init (Demo seed cells) reads is = reads
 
 -- the text of a command by the read tests of the book alone, which are those of its history
@@ -145,12 +150,20 @@ text_by_groups command c book other same = ap (answers_text command c) same
 pub text_of_history : (command : Command) (c : Prepared) (book : Book) → IsPlan c → IsWellFormed c.campaign book → text_of command c book ≡ text_of command c (book_of c (history c.campaign book).journal)
 text_of_history command c book plan form = sym (text_by_groups command c book (book_of c (history c.campaign book).journal) (has_history c.campaign book (plan_fit c plan) form).groups)
 
+-- and so is what it misses
+pub misses_history : (command : Command) (c : Prepared) (book : Book) (rows : List Entry) → IsPlan c → IsWellFormed c.campaign book → rows ≡ (history c.campaign book).journal → misses_on command c book ≡ misses command c (groups c.campaign rows)
+misses_history command c book rows plan form are = ap (misses command c) (sym (ap (groups c.campaign) are ∙ (has_history c.campaign book (plan_fit c plan) form).groups))
+
 -- what a command tells that only reads the book
-pub work_told : (holds : Book → Type 0) (leaves : Option Book → Type 0) (written written' : Option (List ℕ)) (n : ℕ) (command : Command) (c : Prepared) (loaded : Book) (ending : Ending) → OnlyReads command → IsPlan c → IsWellFormed c.campaign loaded → Keeps holds leaves loaded
-    → Delivers written written' (text_of command c loaded) ending → Work leaves written written' n n command c loaded (ended_outcome Done ending)
-work_told holds leaves written written' n command c loaded Written reads plan form kept wrote = work_kept holds leaves written written' n command c loaded Done kept wrote (reads_takes command c loaded reads form, form, λ runs. absurd (reads_not_runs command reads runs)) (λ h. form_meta c loaded plan form) (λ h runs. absurd (reads_not_runs command reads runs))
-work_told holds leaves written written' n command c loaded Refused reads plan form kept wrote = work_kept holds leaves written written' n command c loaded WriteFault kept wrote (reads_takes command c loaded reads form) (λ h. absurd h) (λ h. absurd h)
-work_told holds leaves written written' n command c loaded NoMemory reads plan form kept wrote = work_kept holds leaves written written' n command c loaded Memory kept wrote tt (λ h. absurd h) (λ h. absurd h)
+told_all : (command : Command) (c : Prepared) (loaded : Book) → OnlyReads command → IsWellFormed c.campaign loaded → DidAll command c loaded loaded
+told_all command c loaded reads form = record { takes = reads_takes command c loaded reads form; form = form; whole = λ runs. absurd (reads_not_runs command reads runs) }
+
+pub work_told : (holds : Book → Type 0) (leaves : Option Book → Type 0) (written written' : Option (List ℕ)) (n : ℕ) (command : Command) (c : Prepared) (loaded : Book) (missed : Bool) (ending : Ending) → OnlyReads command → IsPlan c → IsWellFormed c.campaign loaded → Keeps holds leaves loaded
+    → misses_on command c loaded ≡ missed → Delivers written written' (text_of command c loaded) ending → Work leaves written written' n n command c loaded (ended_outcome (done_outcome missed) ending)
+work_told holds leaves written written' n command c loaded missed Written reads plan form kept is wrote = work_kept holds leaves written written' n command c loaded (done_outcome missed) kept (text_wrote written written' (text_of command c loaded) missed wrote)
+    (all_answers command c loaded loaded missed is (told_all command c loaded reads form)) (λ h. form_meta c loaded plan form) (λ h runs. absurd (reads_not_runs command reads runs))
+work_told holds leaves written written' n command c loaded missed Refused reads plan form kept is wrote = work_kept holds leaves written written' n command c loaded WriteFault kept wrote (reads_takes command c loaded reads form) (λ h. absurd h) (λ h. absurd h)
+work_told holds leaves written written' n command c loaded missed NoMemory reads plan form kept is wrote = work_kept holds leaves written written' n command c loaded Memory kept wrote tt (λ h. absurd h) (λ h. absurd h)
 
 -- the book was begun, and nothing more
 opened_good : (c : Prepared) → IsPlan c → IsGood (opened c)
@@ -168,7 +181,7 @@ work_begun holds leaves written written' n c outcome plan kept wrote answer = re
 
 pub work_init : (holds : Book → Type 0) (leaves : Option Book → Type 0) (written written' : Option (List ℕ)) (n : ℕ) (c : Prepared) (ending : Ending) → IsPlan c → Keeps holds leaves (opened c)
     → Delivers written written' (init_text c) ending → Work leaves written written' n n Init c blank (ended_outcome Done ending)
-work_init holds leaves written written' n c Written plan kept wrote = work_begun holds leaves written written' n c Done plan kept wrote (refl, opened_form c plan, λ h. absurd h)
+work_init holds leaves written written' n c Written plan kept wrote = work_begun holds leaves written written' n c Done plan kept wrote (record { takes = refl; form = opened_form c plan; whole = λ h. absurd h }, refl)
 work_init holds leaves written written' n c Refused plan kept wrote = work_begun holds leaves written written' n c WriteFault plan kept wrote refl
 work_init holds leaves written written' n c NoMemory plan kept wrote = work_begun holds leaves written written' n c Memory plan kept wrote tt
 
@@ -327,18 +340,18 @@ in_all retry m = let rest : m % 1 ≡ 0 = omega arith in rw rest refl
 finished_of : (c : Prepared) (retry : Option ℕ) (rows : List Entry) → IsGoal (run_goal retry) → WantsNone c (run_goal retry) rows → IsFinished c.campaign (book_of c rows)
 finished_of c retry rows goal none m below = unwanted_ended c.campaign rows m (run_goal retry) (in_all retry m) (none m below)
 
-whole : (c : Prepared) (jobs : ℕ) (stop retry : Option ℕ) (start rows : List Entry) → Went c (run_goal retry) stop start rows → WantsNone c (run_goal retry) rows → Answers (Run jobs stop retry) c (book_of c start) (book_of c rows) Done
-whole c jobs stop retry start rows went none = (
-  inr went.form,
-  went.ran.form,
-  λ runs.
+whole : (c : Prepared) (jobs : ℕ) (stop retry : Option ℕ) (start rows : List Entry) → Went c (run_goal retry) stop start rows → WantsNone c (run_goal retry) rows → DidAll (Run jobs stop retry) c (book_of c start) (book_of c rows)
+whole c jobs stop retry start rows went none = record {
+  takes = inr went.form;
+  form = went.ran.form;
+  whole = λ runs.
       let finished : IsFinished c.campaign (book_of c rows) = finished_of c retry rows went.goal none in
       record {
         wants_none = none;
         finished = finished;
         final = λ was. final_is (Run jobs stop retry) c (book_of c rows) went.plan (right_rows c rows went.plan (went.ran.words_right (right_start c start went.plan went.form was))) finished;
-      },
-)
+      };
+}
 
 stopped : (c : Prepared) (jobs : ℕ) (stop retry : Option ℕ) (start rows : List Entry) → Went c (run_goal retry) stop start rows → (count c retry rows ≢ 0) → Reached stop start rows → Answers (Run jobs stop retry) c (book_of c start) (book_of c rows) (Unfinished (count c retry rows))
 stopped c jobs None retry start rows went some reached = absurd reached
@@ -350,7 +363,7 @@ stopped c jobs (Some k) retry start rows went some reached = (
 
 ran_answer : (c : Prepared) (jobs : ℕ) (stop retry : Option ℕ) (start rows : List Entry) → Went c (run_goal retry) stop start rows → Answers (Run jobs stop retry) c (book_of c start) (book_of c rows) (run_outcome c (run_goal retry) rows)
 ran_answer c jobs stop retry start rows went = elim (eqb_tells (count c retry rows) 0) [
-  | inl h ↦ rw h.0 (whole c jobs stop retry start rows went (none_of c retry rows h.1))
+  | inl h ↦ rw h.0 (whole c jobs stop retry start rows went (none_of c retry rows h.1), refl)
   | inr h ↦ rw h.0 (elim went.ends [ inl none ↦ absurd (h.1 (count_of c retry rows none)) | inr reached ↦ stopped c jobs stop retry start rows went h.1 reached ])
 ]
 
@@ -395,8 +408,16 @@ opened_not_bad c (Meta place old new) plan bad = bad.1 (opened_form c plan)
 opened_not_bad c (Mutation place old new) plan bad = bad.1 (opened_form c plan)
 opened_not_bad c (Row e fault) plan bad = bad.1 (opened_form c plan)
 
+opened_all : (jobs : ℕ) (stop retry : Option ℕ) (c : Prepared) (sure : Book) → IsPlan c → DidAll (Run jobs stop retry) c (opened c) sure → DidAll (Run jobs stop retry) c blank sure
+opened_all jobs stop retry c sure plan all = record {
+  takes = inl refl;
+  form = all.form;
+  whole = λ runs. record { wants_none = (all.whole runs).wants_none; finished = (all.whole runs).finished; final = λ was. (all.whole runs).final (inr (opened_good c plan)) };
+}
+
 opened_answer : (jobs : ℕ) (stop retry : Option ℕ) (c : Prepared) (sure : Book) (outcome : Outcome) → IsPlan c → Answers (Run jobs stop retry) c (opened c) sure outcome → Answers (Run jobs stop retry) c blank sure outcome
-opened_answer jobs stop retry c sure Done plan (takes, form, whole) = (inl refl, form, λ runs. record { wants_none = (whole runs).wants_none; finished = (whole runs).finished; final = λ was. (whole runs).final (inr (opened_good c plan)) })
+opened_answer jobs stop retry c sure Done plan answer = (opened_all jobs stop retry c sure plan answer.0, answer.1)
+opened_answer jobs stop retry c sure RequirementMissed plan answer = (opened_all jobs stop retry c sure plan answer.0, answer.1)
 opened_answer jobs stop retry c sure (Unfinished left) plan (takes, form, s) = (inl refl, form, record { stop = s.stop; asked = s.asked; gained = s.gained; left_is = s.left_is; some = s.some })
 opened_answer jobs stop retry c sure NoCampaign plan answer = absurd answer.1
 opened_answer jobs stop retry c sure AlreadyBegun plan answer = absurd (let is : Run jobs stop retry ≡ Init = answer.1 in cc)
@@ -444,6 +465,7 @@ work_opened leaves written written' before now jobs stop retry c outcome plan w 
 -- What holds whatever the keeper tells.
 pub ending_ends : (written written' : Option (List ℕ)) (k k' s s' : ℕ) (text : List ℕ) (o : Outcome) (ending : Ending) → Carried o → Delivers written written' text ending → (ending ≡ Refused → Rose s s') → Ends written written' k k' s s' (ended_outcome o ending)
 ending_ends written written' k k' s s' text Done Written carried wrote rose = record { quiet = tt; cause = tt }
+ending_ends written written' k k' s s' text RequirementMissed Written carried wrote rose = record { quiet = tt; cause = tt }
 ending_ends written written' k k' s s' text (Unfinished left) Written carried wrote rose = record { quiet = tt; cause = tt }
 ending_ends written written' k k' s s' text o Written carried wrote rose = absurd carried
 ending_ends written written' k k' s s' text o Refused carried wrote rose = record { quiet = tt; cause = rose refl }

@@ -1,10 +1,20 @@
 -- What the commands do: which of them work on the book of a campaign, the tests that they may have under way, when they are to stop,
 -- what they aim at, and which of them change the book.
-use Rattle.std.specs.Prelude.{◌≡◌, ℕ, ◌≤◌, List, Option, None, Some, unwrap_or, ⊤}
+use Rattle.std.specs.Prelude.{◌≡◌, ◌⊎◌, ℕ, ◌≤◌, List, [], ◌∷◌, Option, None, Some, option_and_then, unwrap_or, ⊤}
 use Rattle.result_book.specs.declared.goal.Goal.{Goal}
 use Rattle.command_words.specs.declared.command.Command.{Command}
-use Rattle.command_words.specs.declared.command.Command.TheVariants.{Init, Run, List as Listing, Status, Source, Demo}
-use Rattle.command_words.specs.Commands.{command_of}
+use Rattle.command_words.specs.declared.command.Command.TheVariants.{Init, Run, List as Listing, Status, Source, Baseline, Demo}
+use Rattle.command_words.specs.declared.asked.Asked.{Asked}
+use Rattle.command_words.specs.Commands.{asked_of}
+
+-- the command of words that name no mutations
+abbrev pub unnamed : Command → List ℕ → Option Command
+unnamed command [] = Some command
+unnamed command (number ∷ more) = None
+
+-- the command that the words give, if they give one
+abbrev pub command_of : List (List ℕ) → Option Command
+command_of words = option_and_then (λ (asked : Asked). unnamed asked.command asked.mutations) (asked_of words)
 
 -- the words ask for the demo that two numbers make
 abbrev pub AsksDemo : List (List ℕ) → ℕ → ℕ → Type 0
@@ -14,13 +24,22 @@ AsksDemo words seed cells = command_of words ≡ Some (Demo seed cells)
 abbrev pub AsksNoDemo : List (List ℕ) → Type 0
 AsksNoDemo words = (seed cells : ℕ) → ¬ AsksDemo words seed cells
 
--- the command works on the book of a campaign, as each does but a demo
+-- the words ask for what the benches say of the design itself
+abbrev pub AsksBaseline : List (List ℕ) → Type 0
+AsksBaseline words = command_of words ≡ Some Baseline
+
+-- they ask for what is done without a book
+abbrev pub IsAside : List (List ℕ) → Type 0
+IsAside words = AsksBaseline words ⊎ ((seed : ℕ) × (cells : ℕ) × AsksDemo words seed cells)
+
+-- the command works on the book of a campaign, as each does but a demo and the one for the benches
 abbrev pub OnBook : Command → Type 0
 OnBook Init = ⊤
 OnBook (Run jobs stop_after retry) = ⊤
 OnBook Listing = ⊤
-OnBook Status = ⊤
+OnBook (Status strict) = ⊤
 OnBook Source = ⊤
+OnBook Baseline = ⊥
 OnBook (Demo seed cells) = ⊥
 
 -- how many tests a command may have under way at once
@@ -28,8 +47,9 @@ abbrev pub slots_of : Command → ℕ
 slots_of Init = 0
 slots_of (Run jobs stop_after retry) = jobs
 slots_of Listing = 0
-slots_of Status = 0
+slots_of (Status strict) = 0
 slots_of Source = 0
+slots_of Baseline = 0
 slots_of (Demo seed cells) = 4
 
 -- and a run may have at least one, and at most 64
@@ -40,8 +60,9 @@ abbrev pub HasSlots : Command → Type 0
 HasSlots Init = ⊤
 HasSlots (Run jobs stop_after retry) = AreSlots jobs
 HasSlots Listing = ⊤
-HasSlots Status = ⊤
+HasSlots (Status strict) = ⊤
 HasSlots Source = ⊤
+HasSlots Baseline = ⊤
 HasSlots (Demo seed cells) = ⊤
 
 -- the number of rows after which a command is to stop, if it has one
@@ -49,8 +70,9 @@ abbrev pub stop_of : Command → Option ℕ
 stop_of Init = None
 stop_of (Run jobs stop_after retry) = stop_after
 stop_of Listing = None
-stop_of Status = None
+stop_of (Status strict) = None
 stop_of Source = None
+stop_of Baseline = None
 stop_of (Demo seed cells) = None
 
 -- all mutations are aimed at, and the pairs that were given up under less than the number of the option; without it none
@@ -62,8 +84,9 @@ abbrev pub goal_of : Command → Goal
 goal_of Init = run_goal None
 goal_of (Run jobs stop_after retry) = run_goal retry
 goal_of Listing = run_goal None
-goal_of Status = run_goal None
+goal_of (Status strict) = run_goal None
 goal_of Source = run_goal None
+goal_of Baseline = run_goal None
 goal_of (Demo seed cells) = run_goal None
 
 -- the command runs tests of the book's campaign
@@ -71,8 +94,9 @@ abbrev pub Runs : Command → Type 0
 Runs Init = ⊥
 Runs (Run jobs stop retry) = ⊤
 Runs Listing = ⊥
-Runs Status = ⊥
+Runs (Status strict) = ⊥
 Runs Source = ⊥
+Runs Baseline = ⊥
 Runs (Demo seed cells) = ⊥
 
 -- the command only reads the book
@@ -80,6 +104,7 @@ abbrev pub OnlyReads : Command → Type 0
 OnlyReads Init = ⊥
 OnlyReads (Run jobs stop retry) = ⊥
 OnlyReads Listing = ⊤
-OnlyReads Status = ⊤
+OnlyReads (Status strict) = ⊤
 OnlyReads Source = ⊤
+OnlyReads Baseline = ⊥
 OnlyReads (Demo seed cells) = ⊥

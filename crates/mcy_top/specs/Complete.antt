@@ -6,9 +6,8 @@ use Rattle.mcy_outside.specs.Files.{Held}
 use Rattle.command_words.specs.declared.command.Command.{Command}
 use Rattle.campaign_plan.specs.declared.prepared.Prepared.{Prepared}
 use Rattle.campaign_outcomes.specs.declared.outcome.Outcome.{Outcome}
-use Rattle.campaign_outcomes.specs.declared.outcome.Outcome.TheVariants.{Done, Unfinished, Memory}
-use Rattle.command_words.specs.Commands.{command_of}
-use Rattle.mcy_top.specs.Commands.{stop_of, OnBook}
+use Rattle.campaign_outcomes.specs.declared.outcome.Outcome.TheVariants.{Done, Unfinished, Memory, RequirementMissed}
+use Rattle.mcy_top.specs.Commands.{command_of, stop_of, OnBook}
 use Rattle.campaign_reading.specs.Files.{IsMade}
 use Rattle.campaign_reading.specs.Readable.{IsReadable}
 use Rattle.mcy_top.specs.Life.{Takes}
@@ -29,6 +28,7 @@ pub record NoneRose (files files' keeper keeper' sink sink' : ℕ) : Type 0 wher
 -- the command was carried out, as far as was asked for, or there was no memory
 abbrev pub Completes : Command → Outcome → Type 0
 Completes command Done = ⊤
+Completes command RequirementMissed = ⊤
 Completes command (Unfinished left) = stop_of command ≢ None
 Completes command Memory = ⊤
 Completes command outcome = ⊥

@@ -1,5 +1,5 @@
 -- How the work of a command ends.
-use Rattle.std.specs.Prelude.{◌≡◌, ℕ, ◌==◌, List, Option, ⊤, if◌then◌else◌}
+use Rattle.std.specs.Prelude.{◌≡◌, ℕ, Bool, true, false, ◌==◌, List, Option, ⊤, if◌then◌else◌}
 use Rattle.mcy_base.specs.Causes.{Rose}
 use Rattle.mcy_keeper.specs.declared.book.Entry.{Entry}
 use Rattle.mcy_keeper.specs.declared.keeper.KeepError.{KeepError}
@@ -10,10 +10,15 @@ use Rattle.mcy_outside.specs.Written.{Appends, AppendsPart}
 use Rattle.mcy_top.specs.declared.work.Ending.{Ending}
 use Rattle.mcy_top.specs.declared.work.Ending.TheVariants.{Written, Refused, NoMemory}
 use Rattle.campaign_outcomes.specs.declared.outcome.Outcome.{Outcome}
-use Rattle.campaign_outcomes.specs.declared.outcome.Outcome.TheVariants.{Done, Unfinished, NoCampaign, AlreadyBegun, BookBad, KeeperFault, WriteFault, Memory}
+use Rattle.campaign_outcomes.specs.declared.outcome.Outcome.TheVariants.{Done, Unfinished, NoCampaign, AlreadyBegun, BookBad, KeeperFault, WriteFault, Memory, RequirementMissed}
 use Rattle.campaign_plan.specs.declared.prepared.Prepared.{Prepared}
 use Rattle.result_book.specs.declared.goal.Goal.{Goal}
 use Rattle.mcy_top.specs.Life.{wanting, IsQuiet}
+
+-- the outcome of a command that was done
+abbrev pub done_outcome : (missed : Bool) → Outcome
+done_outcome true = RequirementMissed
+done_outcome false = Done
 
 -- the outcome of a command, from its outcome where the text is written
 abbrev pub ended_outcome : Outcome → Ending → Outcome
@@ -42,6 +47,7 @@ abbrev pub HasLateCause : (keeper keeper' sink sink' : ℕ) → Outcome → Type
 HasLateCause keeper keeper' sink sink' KeeperFault = Rose keeper keeper'
 HasLateCause keeper keeper' sink sink' WriteFault = Rose sink sink'
 HasLateCause keeper keeper' sink sink' Done = ⊤
+HasLateCause keeper keeper' sink sink' RequirementMissed = ⊤
 HasLateCause keeper keeper' sink sink' (Unfinished left) = ⊤
 HasLateCause keeper keeper' sink sink' NoCampaign = ⊤
 HasLateCause keeper keeper' sink sink' AlreadyBegun = ⊤

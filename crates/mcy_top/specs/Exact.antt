@@ -9,10 +9,10 @@ use Rattle.mcy_top.specs.declared.refusal.BookRefusal.{BookRefusal}
 use Rattle.mcy_top.specs.declared.refusal.BookRefusal.TheVariants.{Memory as NoMemory}
 use Rattle.campaign_outcomes.specs.declared.outcome.Outcome.{Outcome}
 use Rattle.campaign_outcomes.specs.declared.outcome.Outcome.TheVariants.{Usage, ReadFault, Memory}
-use Rattle.command_words.specs.Commands.{command_of}
 use Rattle.campaign_reading.specs.Files.{IsMade}
 use Rattle.campaign_plan.specs.Campaigns.{IsPlan}
 use Rattle.campaign_reading.specs.Reads.{IsUnmade}
+use Rattle.mcy_top.specs.Commands.{command_of}
 use Rattle.mcy_top.specs.Outcomes.{book_outcome, outcome_of}
 use Rattle.mcy_top.specs.BookRefusals.{RefusesBook}
 use Rattle.mcy_top.specs.Life.{Answered, Answers, Commands}

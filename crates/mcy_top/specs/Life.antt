@@ -1,5 +1,5 @@
 -- One call of the program, from end to end.
-use Rattle.std.specs.Prelude.{◌≡◌, ◌≢◌, ◌⊎◌, ℕ, ◌+◌, zero, suc, ◌<◌, ◌≤◌, List, [], ◌++◌, length, ⊤, Option, None, Some, is_some, if◌then◌else◌}
+use Rattle.std.specs.Prelude.{◌≡◌, ◌≢◌, ◌⊎◌, ℕ, ◌+◌, true, false, zero, suc, ◌<◌, ◌≤◌, List, [], ◌++◌, length, ⊤, Option, None, Some, is_some, if◌then◌else◌}
 use Rattle.mcy_base.specs.Causes.{Rose}
 use Rattle.mcy_keeper.specs.declared.book.Book.{Book}
 use Rattle.mcy_keeper.specs.declared.book.Entry.{Entry}
@@ -10,15 +10,14 @@ use Rattle.result_book.specs.Goals.{wanted}
 use Rattle.result_book.specs.Rows.{history, IsFinished, IsWellFormed}
 use Rattle.mcy_outside.specs.Written.{Appends, AppendsPart}
 use Rattle.command_words.specs.declared.command.Command.{Command}
-use Rattle.command_words.specs.declared.command.Command.TheVariants.{Init, Run, List as Listing, Status, Source, Demo}
+use Rattle.command_words.specs.declared.command.Command.TheVariants.{Init, Run, List as Listing, Status, Source, Baseline, Demo}
 use Rattle.campaign_plan.specs.declared.prepared.Prepared.{Prepared}
 use Rattle.campaign_reading.specs.declared.refusal.Refusal.TheVariants.{ProjectBad as RefusedProject, ScriptBad as RefusedScript, SourceBad as RefusedSource, Missing as RefusedMissing, TooLarge as RefusedTooLarge, ReadFault as RefusedRead}
 use Rattle.mcy_top.specs.declared.refusal.BookRefusal.TheVariants.{NoCampaign as RefusedNone, AlreadyBegun as RefusedBegun, BookBad as RefusedBook}
 use Rattle.campaign_outcomes.specs.declared.outcome.Outcome.{Outcome}
-use Rattle.campaign_outcomes.specs.declared.outcome.Outcome.TheVariants.{Done, Unfinished, Usage, ProjectBad, ScriptBad, SourceBad, Missing, TooLarge, NoCampaign, AlreadyBegun, BookBad, ReadFault, KeeperFault, WriteFault, Memory}
-use Rattle.command_words.specs.Commands.{command_of}
+use Rattle.campaign_outcomes.specs.declared.outcome.Outcome.TheVariants.{Done, Unfinished, Usage, ProjectBad, ScriptBad, SourceBad, Missing, TooLarge, NoCampaign, AlreadyBegun, BookBad, ReadFault, KeeperFault, WriteFault, Memory, BaselineBad, RequirementMissed}
 use Rattle.campaign_run.specs.Running.{AreWanted, IsWithin, WantsNone}
-use Rattle.mcy_top.specs.Commands.{goal_of, slots_of, stop_of, AsksDemo, OnBook, OnlyReads, Runs}
+use Rattle.mcy_top.specs.Commands.{command_of, goal_of, slots_of, stop_of, IsAside, OnBook, OnlyReads, Runs}
 use Rattle.campaign_reading.specs.Files.{IsMade}
 use Rattle.campaign_reading.specs.Reads.{IsUnmade}
 use Rattle.mcy_top.specs.BookRefusals.{RefusesBook}
@@ -26,6 +25,7 @@ use Rattle.campaign_run.specs.Rows.{IsGood, IsBlankOrGood, IsPrefix, IsWithinOne
 use Rattle.campaign_run.specs.Crashes.{LeavesBooks}
 use Rattle.campaign_run.specs.Changes.{Course, IsNear}
 use Rattle.mcy_top.specs.Texts.{text_of}
+use Rattle.mcy_top.specs.Requirements.{misses_on}
 use Rattle.mcy_top.specs.Defined.{given_up, IsFinalText}
 use Rattle.mcy_top.specs.ProgramOrder.{IsInOrder}
 
@@ -71,9 +71,16 @@ HasCause files files' keeper keeper' sink sink' KeeperFault = Rose keeper keeper
 HasCause files files' keeper keeper' sink sink' WriteFault = Rose sink sink'
 HasCause files files' keeper keeper' sink sink' outcome = ⊤
 
+-- The command was done. What is required of the campaign is met, or missed: that is told apart by the outcome alone.
+abbrev pub IsDone : Outcome → Type 0
+IsDone Done = ⊤
+IsDone RequirementMissed = ⊤
+IsDone outcome = ⊥
+
 -- what was written at each outcome
 abbrev pub Wrote : Option (List ℕ) → Option (List ℕ) → List ℕ → Outcome → Type 0
 Wrote before now text Done = Appends before now text
+Wrote before now text RequirementMissed = Appends before now text
 Wrote before now text (Unfinished left) = Appends before now text
 Wrote before now text WriteFault = AppendsPart before now text
 Wrote before now text outcome = now ≡ before
@@ -81,6 +88,8 @@ Wrote before now text outcome = now ≡ before
 -- Nothing is written at a refusal.
 abbrev pub IsQuiet : Option (List ℕ) → Option (List ℕ) → Outcome → Type 0
 IsQuiet before now Done = ⊤
+IsQuiet before now RequirementMissed = ⊤
+IsQuiet before now BaselineBad = ⊤
 IsQuiet before now (Unfinished left) = ⊤
 IsQuiet before now WriteFault = ⊤
 IsQuiet before now outcome = now ≡ before
@@ -90,8 +99,9 @@ abbrev pub Takes : Command → Prepared → Book → Type 0
 Takes Init c book = IsBlank book
 Takes (Run jobs stop retry) c book = IsBlank book ⊎ IsWellFormed c.campaign book
 Takes Listing c book = IsWellFormed c.campaign book
-Takes Status c book = IsWellFormed c.campaign book
+Takes (Status strict) c book = IsWellFormed c.campaign book
 Takes Source c book = IsWellFormed c.campaign book
+Takes Baseline c book = ⊥
 Takes (Demo seed cells) c book = ⊥
 
 -- No mutation wants a test under the goal of the command, so that every mutation is finished; and the text is the one that the
@@ -118,9 +128,16 @@ pub record IsStopped (command : Command) (c : Prepared) (loaded book : Book) (le
   pub left_is : left ≡ wanting c (goal_of command) book.journal
   pub some : 0 < left
 
+-- The command took the book, and did all that it was to do.
+pub record DidAll (command : Command) (c : Prepared) (loaded sure : Book) : Type 0 where
+  pub takes : Takes command c loaded
+  pub form : IsWellFormed c.campaign sure
+  pub whole : Runs command → IsWhole command c loaded sure (text_of command c sure)
+
 -- How a call ends that has loaded a book.
 abbrev pub Answers : Command → Prepared → Book → Book → Outcome → Type 0
-Answers command c loaded sure Done = Takes command c loaded × IsWellFormed c.campaign sure × (Runs command → IsWhole command c loaded sure (text_of command c sure))
+Answers command c loaded sure Done = DidAll command c loaded sure × (misses_on command c sure ≡ false)
+Answers command c loaded sure RequirementMissed = DidAll command c loaded sure × (misses_on command c sure ≡ true)
 Answers command c loaded sure (Unfinished left) = Takes command c loaded × IsWellFormed c.campaign sure × IsStopped command c loaded sure left
 Answers command c loaded sure NoCampaign = RefusesBook command c loaded RefusedNone
 Answers command c loaded sure AlreadyBegun = RefusesBook command c loaded RefusedBegun
@@ -133,6 +150,7 @@ Answers command c loaded sure outcome = ⊥
 -- the text was made and written
 abbrev pub Carried : Outcome → Type 0
 Carried Done = ⊤
+Carried RequirementMissed = ⊤
 Carried (Unfinished left) = ⊤
 Carried outcome = ⊥
 
@@ -175,7 +193,7 @@ StartsFew None slots before now = ⊤
 StartsFew (Some stop) slots before now = now < before + stop + slots
 
 -- Each entry that the sure book gained was of a test that was started in the call, and took a step then. The steps are at most these
--- entries and the slots, and at most these and the mutations that want a test still. They are exactly the entries at Done; a refused call
+-- entries and the slots, and at most these and the mutations that want a test still. They are exactly the entries where the command was done; a refused call
 -- takes none. With one slot no test is started beyond the rows that were asked for, and with each further slot one at most. A command
 -- that runs no tests takes none.
 pub record Stepped (command : Command) (c : Prepared) (loaded sure : Book) (before now : ℕ) (outcome : Outcome) : Type 0 where
@@ -212,11 +230,10 @@ pub record Early (leaves leaves' : Option Book → Type 0) (taken taken' : ℕ) 
   pub leaves_is : LeavesNothingNew leaves leaves'
   pub steps_is : taken' ≡ taken
 
--- A call for a demo, which loads no book and leaves the keeper as it was. What it does the clause `demo` says.
+-- A call for a demo or for what the benches say of the design itself, which loads no book and leaves the keeper as it was. What it does
+-- the clauses `demo` and `baseline` say.
 pub record Aside (words : List (List ℕ)) (leaves leaves' : Option Book → Type 0) : Type 0 where
-  pub seed : ℕ
-  pub cells : ℕ
-  pub asked : AsksDemo words seed cells
+  pub asked : IsAside words
   pub leaves_is : LeavesNothingNew leaves leaves'
 
 -- A call that has loaded no book.

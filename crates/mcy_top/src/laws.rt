@@ -72,8 +72,8 @@ pub fn call_is_a_life<K: Keeper>(before: &K, after: &K)
 
 /// Over every list of calls on one keeper that begins with the empty book or with a good one of the first format, each of which
 /// ended by itself or was cut off at any moment, and whose next call starts from nothing but what the one before may have left: the
-/// calls that have loaded a book are lives, these are safe, each `run` that ended with Done has left no test that it aims at and
-/// finished its campaign, and each call that ended with Done over a finished book, be it `run`, `status`, `list` or `source`, has
+/// calls that have loaded a book are lives, these are safe, each `run` that was done has left no test that it aims at and
+/// finished its campaign, and each call that was done over a finished book, be it `run`, `status`, `list` or `source`, has
 /// written the text that its campaign defines for it. Of a call that ended the law takes what the clause `life` of `mcy_main` says
 /// where the keeper tells. A call that was cut off leaves the book after one of its changes, or that with the one change that was
 /// under way. So each restart finds a book, empty or good.

@@ -1,11 +1,13 @@
 //! The one call of the program.
-ghost use Rattle.std.specs.Prelude.{◌≡◌, ◌⊎◌, ◌<◌, ℕ, map, string_bytes};
+ghost use Rattle.std.specs.Prelude.{◌≡◌, ◌⊎◌, ◌<◌, ℕ, IfOk, map, string_bytes};
 ghost use Rattle.command_words.specs.declared.command.Command.{Command as Asked};
-ghost use Rattle.mcy_top.specs.Commands.{AsksDemo, AsksNoDemo};
+ghost use Rattle.mcy_top.specs.Baselines.{ToldBaselines};
+ghost use Rattle.mcy_top.specs.Commands.{command_of, AsksBaseline, AsksDemo, AsksNoDemo};
 ghost use Rattle.mcy_top.specs.Complete.{Completes, IsReady, NoneRose};
 ghost use Rattle.mcy_top.specs.Life.{Answered, HasCause, IsQuiet, Life, Unloaded};
 ghost use Rattle.mcy_top.specs.Shown.{Shown};
 
+use crate::baseline::baseline;
 use crate::demo::demo;
 use crate::refusal::refused;
 use crate::work::{Task, failed};
@@ -15,13 +17,28 @@ use command_words::{Command, read_words};
 use mcy_base::Steps;
 use mcy_keeper::Keeper;
 use mcy_outside::{Sink, SourceFiles};
-use std::alloc::Global;
+use std::alloc::{AllocError, Global};
 use std::marker::Brand;
 use std::sync::ledger::{Blank, Ledger};
 
+/// The command that the words give, if they give one.
+fn read_command(alloc: Global, words: &[String]) -> Result<Option<Command>, AllocError>
+    ensures { IfOk result (λ found. found ≡ command_of (map string_bytes words.now)) }
+{
+    let Some(asked) = read_words(alloc, words)? else {
+        return Ok(None);
+    };
+    if asked.mutations.as_slice().is_empty() {
+        Ok(Some(asked.command))
+    } else {
+        Ok(None)
+    }
+}
+
 /// Carries out the command that the words after the program's name give: reads the project and its
 /// source from `files`, keeps the campaign's results in `keeper`, and writes the command's text to
-/// `out`. A step of `steps` is one test started. A demo is shown with none of these but `out` and `steps`.
+/// `out`. A step of `steps` is one test started. A demo is shown with none of these but `out` and `steps`, and what
+/// the benches say of the design itself is told with neither `keeper` nor `steps`.
 pub fn mcy_main<F: SourceFiles, K: Keeper, O: Sink, L: Ledger>(
     alloc: Global,
     words: &[String],
@@ -48,6 +65,9 @@ pub fn mcy_main<F: SourceFiles, K: Keeper, O: Sink, L: Ledger>(
     // A demo reads no file and makes no call on the keeper.
     ensures demo { (seed cells : ℕ) → AsksDemo (map string_bytes words.now) seed cells → Shown seed cells (O.written out.old) (O.written out.new) steps.old steps.new result × (files.new ≡ files.old) × (keeper.new ≡ keeper.old) }
 
+    // What the benches say of the design itself is told without a call on the keeper, and no test is started.
+    ensures baseline { AsksBaseline (map string_bytes words.now) → ToldBaselines (F.held files.old) (O.written out.old) (O.written out.new) result × (steps.new ≡ steps.old) × (keeper.new ≡ keeper.old) }
+
     // Where all is there and nothing fails, the command is carried out, or there is no memory.
     ensures complete { K.tells keeper.new → (command : Asked) → IsReady (map string_bytes words.now) (F.held files.old) (K.holds keeper.old) (K.leaves keeper.old) command
         → NoneRose (F.faults files.old) (F.faults files.new) (K.faults keeper.old) (K.faults keeper.new) (O.faults out.old) (O.faults out.new) → Completes command result }
@@ -71,8 +91,9 @@ fn carry_out_words<F: SourceFiles, K: Keeper, O: Sink, L: Ledger>(
     ensures life { K.tells keeper.new → Unloaded (map string_bytes words.now) (K.leaves keeper.old) (K.leaves keeper.new) steps.old steps.new result
         ⊎ Life (map string_bytes words.now) (F.held files.old) (K.holds keeper.old) (K.leaves keeper.old) (K.leaves keeper.new) (O.written out.old) (O.written out.new) steps.old steps.new result }
     ensures demo { (seed cells : ℕ) → AsksDemo (map string_bytes words.now) seed cells → Shown seed cells (O.written out.old) (O.written out.new) steps.old steps.new result × (files.new ≡ files.old) × (keeper.new ≡ keeper.old) }
+    ensures baseline { AsksBaseline (map string_bytes words.now) → ToldBaselines (F.held files.old) (O.written out.old) (O.written out.new) result × (steps.new ≡ steps.old) × (keeper.new ≡ keeper.old) }
 {
-    let command = match read_words(alloc, words) {
+    let command = match read_command(alloc, words) {
         Ok(Some(command)) => command,
         Ok(None) => return Outcome::Usage,
         Err(_) => return Outcome::Memory,
@@ -84,6 +105,9 @@ fn carry_out_words<F: SourceFiles, K: Keeper, O: Sink, L: Ledger>(
         Ok(prepared) => prepared,
         Err(refusal) => return refused(refusal),
     };
+    if let Command::Baseline = command {
+        return baseline(alloc, &prepared, out);
+    }
     match keeper.load() {
         Ok(loaded) => {
             let task = Task {
@@ -111,6 +135,7 @@ pub fn mcy_call<F: SourceFiles, K: Keeper, O: Sink>(
     ensures life { K.tells keeper.new → (n : ℕ) × (Unloaded (map string_bytes words.now) (K.leaves keeper.old) (K.leaves keeper.new) 0 n result
         ⊎ Life (map string_bytes words.now) (F.held files.old) (K.holds keeper.old) (K.leaves keeper.old) (K.leaves keeper.new) (O.written out.old) (O.written out.new) 0 n result) }
     ensures demo { (seed cells : ℕ) → AsksDemo (map string_bytes words.now) seed cells → (n : ℕ) × Shown seed cells (O.written out.old) (O.written out.new) 0 n result × (files.new ≡ files.old) × (keeper.new ≡ keeper.old) }
+    ensures baseline { AsksBaseline (map string_bytes words.now) → ToldBaselines (F.held files.old) (O.written out.old) (O.written out.new) result × (keeper.new ≡ keeper.old) }
     ensures complete { K.tells keeper.new → (command : Asked) → IsReady (map string_bytes words.now) (F.held files.old) (K.holds keeper.old) (K.leaves keeper.old) command
         → NoneRose (F.faults files.old) (F.faults files.new) (K.faults keeper.old) (K.faults keeper.new) (O.faults out.old) (O.faults out.new) → Completes command result }
 {
@@ -136,6 +161,7 @@ fn call_with<F: SourceFiles, K: Keeper, O: Sink, L: Ledger>(
     ensures life { K.tells keeper.new → (n : ℕ) × (Unloaded (map string_bytes words.now) (K.leaves keeper.old) (K.leaves keeper.new) 0 n result
         ⊎ Life (map string_bytes words.now) (F.held files.old) (K.holds keeper.old) (K.leaves keeper.old) (K.leaves keeper.new) (O.written out.old) (O.written out.new) 0 n result) }
     ensures demo { (seed cells : ℕ) → AsksDemo (map string_bytes words.now) seed cells → (n : ℕ) × Shown seed cells (O.written out.old) (O.written out.new) 0 n result × (files.new ≡ files.old) × (keeper.new ≡ keeper.old) }
+    ensures baseline { AsksBaseline (map string_bytes words.now) → ToldBaselines (F.held files.old) (O.written out.old) (O.written out.new) result × (keeper.new ≡ keeper.old) }
     ensures complete { K.tells keeper.new → (command : Asked) → IsReady (map string_bytes words.now) (F.held files.old) (K.holds keeper.old) (K.leaves keeper.old) command
         → NoneRose (F.faults files.old) (F.faults files.new) (K.faults keeper.old) (K.faults keeper.new) (O.faults out.old) (O.faults out.new) → Completes command result }
 {

@@ -139,9 +139,11 @@ impl Task<'_> {
         match command {
             Command::List => self.list(state, out),
             Command::Source => self.show_source(state, out),
-            Command::Init | Command::Run { .. } | Command::Status | Command::Demo { .. } => {
-                self.report(state, out)
-            }
+            Command::Init
+            | Command::Run { .. }
+            | Command::Status { .. }
+            | Command::Baseline
+            | Command::Demo { .. } => self.report(state, out),
         }
     }
 
@@ -203,9 +205,11 @@ impl Task<'_> {
                 stop_after,
                 retry,
             } => { self.begin_and_run(jobs, stop_after, retry, keeper, out, steps) }
-            Command::List | Command::Status | Command::Source | Command::Demo { .. } => {
-                Outcome::NoCampaign
-            }
+            Command::List
+            | Command::Status { .. }
+            | Command::Source
+            | Command::Baseline
+            | Command::Demo { .. } => Outcome::NoCampaign,
         }
     }
 
@@ -241,7 +245,9 @@ impl Task<'_> {
         ensures ends { Ends (O.written out.old) (O.written out.new) (K.faults keeper.now) (K.faults keeper.now) (O.faults out.old) (O.faults out.new) result }
     {
         match self.read_state(loaded) {
-            Ok(state) => self.tell(command, &state, out).outcome(Outcome::Done),
+            Ok(state) => self
+                .tell(command, &state, out)
+                .outcome(self.done_outcome(command, &state)),
             Err(refusal) => refusal.into_outcome(),
         }
     }
@@ -273,9 +279,11 @@ impl Task<'_> {
                 stop_after,
                 retry,
             } => { self.resume(jobs, stop_after, retry, loaded, keeper, out, steps) }
-            Command::List | Command::Status | Command::Source | Command::Demo { .. } => {
-                self.show(command, loaded, keeper, out)
-            }
+            Command::List
+            | Command::Status { .. }
+            | Command::Source
+            | Command::Baseline
+            | Command::Demo { .. } => self.show(command, loaded, keeper, out),
         }
     }
 

@@ -10,3 +10,4 @@ mod choice;
 
 pub use bench::{benches_are_alike, one_answer, read_bench_of};
 pub use choice::{Found, find_bench};
+pub use project_sources::CheckedNetlist;

@@ -4,8 +4,9 @@ use Rattle.mcy_base.specs.declared.file.SourceFile.{SourceFile}
 use Rattle.netlist_core.specs.declared.raw.RawNetlist.{RawNetlist}
 use Rattle.source_trees.proofs.OneAnswer.{faults_are_one as reading_once, modules_are_one, read_without_fault}
 use Rattle.hier_once.proofs.OneAnswer.{no_refusal, one_netlist, one_refusal}
-use Rattle.elab_hier.specs.Elaborations.{Elaborates}
-use Rattle.elab_hier.specs.Refusals.{IsElabRefusal}
+pub use Rattle.hier_once.proofs.OneAnswer.{netlist_cells}
+use Rattle.hier_once.specs.Elaborations.{Elaborates}
+use Rattle.hier_once.specs.Refusals.{IsElabRefusal}
 use Rattle.source_faults.specs.declared.fault.SourceError.{SourceError}
 use Rattle.source_faults.specs.Faults.{elab_error, read_error}
 use Rattle.project_sources.specs.declared.netlist.NetlistError.{NetlistError}

@@ -7,10 +7,10 @@ use Rattle.source_trees.specs.declared.error.ReadError.{ReadError}
 use Rattle.source_trees.specs.declared.error.ReadError.TheVariants.{Memory as NotRead}
 use Rattle.source_trees.specs.Files.{AreRead}
 use Rattle.source_trees.specs.Faults.{IsUnread}
-use Rattle.elab_items.specs.declared.answer.ElabError.{ElabError}
-use Rattle.elab_items.specs.declared.answer.ElabError.TheVariants.{Memory as NotElaborated}
-use Rattle.elab_hier.specs.Elaborations.{Elaborates}
-use Rattle.elab_hier.specs.Refusals.{IsElabRefusal}
+use Rattle.hier_once.specs.ElabError.{ElabError}
+use Rattle.hier_once.specs.ElabError.TheVariants.{Memory as NotElaborated}
+use Rattle.hier_once.specs.Elaborations.{Elaborates}
+use Rattle.hier_once.specs.Refusals.{IsElabRefusal}
 use Rattle.source_faults.specs.declared.fault.SourceError.{SourceError}
 use Rattle.source_faults.specs.Faults.{elab_error, read_error}
 use Rattle.project_sources.specs.declared.netlist.NetlistError.{NetlistError}

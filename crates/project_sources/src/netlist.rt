@@ -7,7 +7,7 @@ ghost use Rattle.source_faults.specs.declared.fault.SourceError.{SourceError as 
 ghost use Rattle.project_sources.specs.Netlists.{HasNetlist, HasNoNetlist, AreUnread, IsUnmade};
 
 use crate::checked::CheckedNetlist;
-use elab_hier::{ElabError, elaborate};
+use hier_once::{ElabError, elaborate};
 use mcy_base::SourceFile;
 use source_faults::{SourceError, elab_error, read_error};
 use source_trees::{ReadError, read_modules};

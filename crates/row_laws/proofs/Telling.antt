@@ -13,12 +13,12 @@ use Rattle.pair_gates.specs.Copies.{pair_clauses}
 use Rattle.result_book.specs.declared.script.TestWord.TheVariants.{Pass, Fail, Unknown}
 use Rattle.result_book.specs.Rows.{history}
 use Rattle.result_book.specs.Scripts.{word_code}
-use Rattle.campaign_plan.specs.declared.prepared.Prepared.{Prepared}
+use Rattle.campaign_run.specs.Prepared.{Prepared}
 use Rattle.tb_bench.specs.declared.parts.Parts.{Parts}
 use Rattle.tb_turns.specs.declared.verdict.SimVerdict.{SimVerdict}
 use Rattle.tb_turns.specs.declared.verdict.SimVerdict.TheVariants as v
-use Rattle.campaign_plan.specs.declared.trial.Trial.{Trial}
-use Rattle.campaign_plan.specs.declared.trial.Trial.TheVariants.{Equality, Simulation}
+use Rattle.campaign_run.specs.Trial.{Trial}
+use Rattle.campaign_run.specs.Trial.TheVariants.{Equality, Simulation}
 use Rattle.campaign_run.specs.Simulated.{told_verdict}
 use Rattle.campaign_run.specs.GivenUp.{HasAttempt}
 use Rattle.campaign_run.specs.Rows.{AreRight, IsGivenUpAt, IsRightWord, IsTrueWordAt}

@@ -10,9 +10,9 @@ use Rattle.step_trials.specs.Equal.{EqualOnAllRuns, Machine, OneStepEqual, desig
 use Rattle.result_book.specs.declared.script.TestWord.TheVariants.{Pass, Fail, Unknown}
 use Rattle.result_book.specs.Rows.{history}
 use Rattle.result_book.specs.Scripts.{word_code}
-use Rattle.campaign_plan.specs.declared.prepared.Prepared.{Prepared}
+use Rattle.campaign_run.specs.Prepared.{Prepared}
 use Rattle.tb_bench.specs.declared.parts.Parts.{Parts}
-use Rattle.campaign_plan.specs.declared.trial.Trial.TheVariants.{Equality, Simulation}
+use Rattle.campaign_run.specs.Trial.TheVariants.{Equality, Simulation}
 use Rattle.campaign_run.specs.Rows.{IsGood, IsSaid}
 
 -- so it is of the design of a campaign and of its mutant of this number

@@ -1,7 +1,7 @@
 -- The text of the status, from the read tests of each mutation with their last words, in the order of the mutations: counts, and
 -- the project's report on the counts of tags. Neither the order of rows of different mutations nor a test that is not read plays a
 -- part.
-use Rattle.std.specs.Prelude.{ℕ, ◌+◌, ◌^◌, Bool, true, false, ◌==◌, List, [], ◌∷◌, ◌++◌, length, count_by, Option, None, Some, codes, decimal, if◌then◌else◌}
+use Rattle.std.specs.Prelude.{ℕ, ◌+◌, ◌^◌, Bool, true, false, ◌==◌, ◌||◌, List, [], ◌∷◌, ◌++◌, length, count_by, Option, None, Some, codes, decimal, nat_lt, if◌then◌else◌}
 use Rattle.mcy_keeper.specs.declared.book.Entry.{Entry}
 use Rattle.report_script.specs.Texts.{report_text}
 use Rattle.result_book.specs.declared.campaign.Campaign.{Campaign}
@@ -49,6 +49,10 @@ is_end end ask = false
 -- how many mutations' scripts ended in this way
 abbrev pub end_count : Campaign → List (List Answer) → End → ℕ
 end_count c groups end = count_by (λ answers. is_end end (ask c answers)) groups
+
+-- some script ended at a failed assertion, or at a word that is not expected
+abbrev pub has_faults : Campaign → List (List Answer) → Bool
+has_faults c groups = nat_lt 0 (end_count c groups Assert) || nat_lt 0 (end_count c groups Word)
 
 -- a line of a name and a number
 abbrev pub number_line : List ℕ → ℕ → List ℕ

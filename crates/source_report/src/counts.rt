@@ -5,7 +5,7 @@ ghost use Rattle.result_book.specs.Rows.{groups};
 ghost use Rattle.result_book.specs.Scripts.{words_of};
 ghost use Rattle.tag_script.specs.Outcomes.{word_at};
 ghost use Rattle.result_book.specs.States.{IsStateOf};
-ghost use Rattle.source_report.specs.Texts.{end_count, finished_count, is_end, is_word};
+ghost use Rattle.source_report.specs.Texts.{end_count, finished_count, has_faults, is_end, is_word};
 
 use result_book::{Campaign, State, TestWord, has_tag};
 use std::alloc::{AllocError, Global};
@@ -108,4 +108,13 @@ pub(crate) fn end_count(campaign: &Campaign, state: &State, end: End) -> u32
         }
     }
     count
+}
+
+/// Whether a script ended at a failed assertion, or at a word that is not expected.
+pub fn has_faults(campaign: &Campaign, state: &State) -> bool
+    requires fit { IsFit campaign.now }
+    requires state { IsStateOf campaign.now state.now.rows state.now }
+    ensures { result ≡ has_faults campaign.now (groups campaign.now state.now.rows) }
+{
+    0 < end_count(campaign, state, End::Assert) || 0 < end_count(campaign, state, End::Word)
 }

@@ -8,6 +8,7 @@ mod list;
 mod source;
 mod status;
 
+pub use counts::has_faults;
 pub use list::list_text;
 pub use source::source_text;
 pub use status::{add_number, status_text};

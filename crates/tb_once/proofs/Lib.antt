@@ -3,3 +3,4 @@ pub mod Staying
 pub mod Settled
 pub mod Outcomes
 pub mod Designs
+pub mod Steady

@@ -1,10 +1,10 @@
--- Simulations from one state come to one outcome, where stores stay of a kind from which what settles is determined.
-use Rattle.std.proofs.Common.{◌≡◌, ℕ, zero, suc, true, false, List, refl, sym, ◌∙◌, subst}
+-- Simulations from one state come to one outcome, and end in one phase, where stores stay of a kind from which what settles is determined.
+use Rattle.std.proofs.Common.{◌≡◌, ℕ, zero, suc, ◌<◌, true, false, List, refl, sym, ◌∙◌, subst, arith}
 use Rattle.rand_pcg.specs.Lcg.{Lcg}
 use Rattle.tb_machine.specs.Worlds.{World, all_applied}
 use Rattle.tb_machine.specs.Steps.{Suspended, Ran, Pauses, Finished, TooLong}
 use Rattle.tb_machine.specs.Phases.{Setting, State, Settles, Ending, Going, Finish, Limit, IsEnd, IsPhaseOf, IsPhase, active_part}
-use Rattle.tb_machine.specs.Simulations.{Outcome, outcome, IsSimulation}
+use Rattle.tb_machine.specs.Simulations.{Outcome, outcome, IsSimulation, Reaches}
 
 -- stores of a kind stay so in a phase, and from one of them what settles is determined
 pub record IsSteady (g : Setting) (Kind : List ℕ → Type 0) : Type 0 where
@@ -87,3 +87,13 @@ module _ (g : Setting) (Kind : List ℕ → Type 0) (steady : IsSteady g Kind) w
       let v = after_one n s p y in
       let same = same_phase s (active_part g s) u.0 v.0 u.1 v.1 kind refl u.2 v.2 in
       next_same n (λ t q r h d e. one_outcome n t q r h d e) o p u.0 u.1 same.2 u.3 (moved n p u.0 v.0 u.1 v.1 same.0 same.1 v.3)
+
+  -- where so many phases go on, the phase behind fewer of them does
+  pub goes_on : (n before : ℕ) (s t u v : State) (e : Ending) → Kind s.store → before < n → Reaches g n s t → Reaches g before s u → IsPhase g u e v → e ≡ Going
+  goes_on zero before s t u v e kind less all some phase = absurd (omega (arith, less))
+  goes_on (suc n) zero s t u v e kind less (w, first, rest) some phase =
+      let same = same_phase s (active_part g s) Going e w v kind refl first (subst (λ (x : State). IsPhase g x e v) some phase) in
+      sym same.0
+  goes_on (suc n) (suc before) s t u v e kind less (w, first, rest) (x, second, more) phase =
+      let same = same_phase s (active_part g s) Going Going w x kind refl first second in
+      goes_on n before w t u v e same.2 (omega (arith, less)) rest (subst (λ (y : State). Reaches g before y u) (sym same.1) more) phase

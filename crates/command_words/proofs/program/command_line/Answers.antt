@@ -1,24 +1,15 @@
--- The settings and subcommands, one after the other.
-use Rattle.std.proofs.Common.{rules, ap, ap₂, codes, true, ◌≡◌, ◌∙◌}
+-- The last commands, one after the other.
+use Rattle.std.proofs.Common.{rules, ap, ap₂, codes, ◌≡◌, ◌∙◌}
 use Rattle.std.proofs.lemmas.Result.{IfOk-weaker}
 use Rattle.clap.specs.Words.{App, app_of, with_subcommand}
-use Rattle.command_words.specs.Program.{bare_program, demo_line, leaf, run_line, run_shape}
+use Rattle.command_words.specs.Program.{demo_line, first_line, leaf}
 use Rattle.command_words.proofs.program.command_line.Goals as goal
 
 pub returns : goal.returns
 returns c =
-    let run_is : app_of c.in_ok-run.run' ≡ run_line = c.in_ok-run.ensures.shape in
     let demo_is : app_of c.in_ok-demo.demo ≡ demo_line = c.in_ok-demo.ensures.shape in
-    let bare_is : app_of c.disable_help_subcommand.result ≡ bare_program = rw (c.disable_help_subcommand.ensures, c.disable_help_flag.ensures, c.no_binary_name.ensures)
-    (ap (λ (a : App). record a { top = record a.top { no_binary_name = true; disable_help_flag = true; disable_help_subcommand = true } }) c.new.ensures.app) in
-    let with_init : app_of c.in_ok-subcommand.field-0 ≡ with_subcommand bare_program (leaf (codes "init")) = c.in_ok-subcommand.ensures.shape (search rules)
-    ∙ ap₂ with_subcommand bare_is (ap (λ (a : App). a.top) c.new-2.ensures.app) in
-    let with_run : app_of c.in_ok-subcommand-2.field-0 ≡ with_subcommand (with_subcommand bare_program (leaf (codes "init"))) run_shape = c.in_ok-subcommand-2.ensures.shape c.in_ok-run.ensures.local
-    ∙ ap₂ with_subcommand with_init (ap (λ (a : App). a.top) run_is) in
-    let with_list : app_of c.in_ok-subcommand-3.field-0 ≡ with_subcommand (with_subcommand (with_subcommand bare_program (leaf (codes "init"))) run_shape) (leaf (codes "list")) =
-    c.in_ok-subcommand-3.ensures.shape (search rules) ∙ ap₂ with_subcommand with_run (ap (λ (a : App). a.top) c.new-3.ensures.app) in
-    let with_status : app_of c.in_ok-subcommand-4.field-0 ≡ with_subcommand (with_subcommand (with_subcommand (with_subcommand bare_program (leaf (codes "init"))) run_shape) (leaf (codes "list"))) (leaf (codes "status")) =
-    c.in_ok-subcommand-4.ensures.shape (search rules) ∙ ap₂ with_subcommand with_list (ap (λ (a : App). a.top) c.new-4.ensures.app) in
-    let with_source : app_of c.in_ok-subcommand-5.field-0 ≡ with_subcommand (with_subcommand (with_subcommand (with_subcommand (with_subcommand bare_program (leaf (codes "init"))) run_shape) (leaf (codes "list"))) (leaf (codes "status"))) (leaf (codes "source")) =
-    c.in_ok-subcommand-5.ensures.shape (search rules) ∙ ap₂ with_subcommand with_status (ap (λ (a : App). a.top) c.new-5.ensures.app) in
-    IfOk-weaker c.subcommand-6.result _ _ (λ r adds. adds.shape c.in_ok-demo.ensures.local ∙ ap₂ with_subcommand with_source (ap (λ (a : App). a.top) demo_is)) c.subcommand-6.ensures
+    let with_source : app_of c.in_ok-subcommand.field-0 ≡ with_subcommand first_line (leaf (codes "source")) =
+    c.in_ok-subcommand.ensures.shape (search rules) ∙ ap₂ with_subcommand c.in_ok-first.ensures (ap (λ (a : App). a.top) c.new.ensures.app) in
+    let with_baseline : app_of c.in_ok-subcommand-2.field-0 ≡ with_subcommand (with_subcommand first_line (leaf (codes "source"))) (leaf (codes "baseline")) =
+    c.in_ok-subcommand-2.ensures.shape (search rules) ∙ ap₂ with_subcommand with_source (ap (λ (a : App). a.top) c.new-2.ensures.app) in
+    IfOk-weaker c.subcommand-3.result _ _ (λ r adds. adds.shape c.in_ok-demo.ensures.local ∙ ap₂ with_subcommand with_baseline (ap (λ (a : App). a.top) demo_is)) c.subcommand-3.ensures

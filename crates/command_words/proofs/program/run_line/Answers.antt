@@ -3,7 +3,7 @@ use Rattle.std.proofs.Common.{rules, ap₂, codes, false, refl, ◌≡◌, ◌�
 use Rattle.std.proofs.lemmas.Result.{IfOk-weaker}
 use Rattle.clap.specs.Words.{app_of, new_app, rule_of, with_rule}
 use Rattle.clap.specs.declared.builder.command.Command.TheViews.{out-Command as fields_of}
-use Rattle.command_words.specs.Program.{jobs_rule, retry_rule, stop_rule}
+use Rattle.command_words.specs.Program.{jobs_rule, mutations_rule, retry_rule, stop_rule}
 use Rattle.command_words.proofs.program.run_line.Goals as goal
 
 pub returns-clause-shape : goal.returns-clause-shape
@@ -11,15 +11,19 @@ returns-clause-shape c =
     let jobs_is : rule_of c.action-jobs.result ≡ jobs_rule = search rules in
     let stop_is : rule_of c.action-stop_after.result ≡ stop_rule = search rules in
     let retry_is : rule_of c.action-retry.result ≡ retry_rule = search rules in
-    let with_jobs : app_of c.in_ok-arg.field-0 ≡ with_rule (new_app (codes "run")) jobs_rule = c.in_ok-arg.ensures.shape (search rules) ∙ ap₂ with_rule c.new-4.ensures.app jobs_is in
+    let mutations_are : rule_of c.action-mutations.result ≡ mutations_rule = search rules in
+    let with_jobs : app_of c.in_ok-arg.field-0 ≡ with_rule (new_app (codes "run")) jobs_rule = c.in_ok-arg.ensures.shape (search rules) ∙ ap₂ with_rule c.new-5.ensures.app jobs_is in
     let with_stop : app_of c.in_ok-arg-2.field-0 ≡ with_rule (with_rule (new_app (codes "run")) jobs_rule) stop_rule = c.in_ok-arg-2.ensures.shape (search rules) ∙ ap₂ with_rule with_jobs stop_is in
-    IfOk-weaker c.arg-3.result _ _ (λ r adds. adds.shape (search rules) ∙ ap₂ with_rule with_stop retry_is) c.arg-3.ensures
+    let with_retry : app_of c.in_ok-arg-3.field-0 ≡ with_rule (with_rule (with_rule (new_app (codes "run")) jobs_rule) stop_rule) retry_rule = c.in_ok-arg-3.ensures.shape (search rules) ∙ ap₂ with_rule with_stop retry_is in
+    IfOk-weaker c.arg-4.result _ _ (λ r adds. adds.shape (search rules) ∙ ap₂ with_rule with_retry mutations_are) c.arg-4.ensures
 
 pub returns-clause-local : goal.returns-clause-local
 returns-clause-local c =
     let own : c.action-jobs.result.global ≡ false = search rules in
     let other : c.action-stop_after.result.global ≡ false = search rules in
-    let last : c.action-retry.result.global ≡ false = search rules in
-    let first : (fields_of c.in_ok-arg.field-0).has_globals ≡ false = c.in_ok-arg.ensures.globals ∙ rw (c.new-4.ensures.local, own) refl in
+    let next : c.action-retry.result.global ≡ false = search rules in
+    let last : c.action-mutations.result.global ≡ false = search rules in
+    let first : (fields_of c.in_ok-arg.field-0).has_globals ≡ false = c.in_ok-arg.ensures.globals ∙ rw (c.new-5.ensures.local, own) refl in
     let second : (fields_of c.in_ok-arg-2.field-0).has_globals ≡ false = c.in_ok-arg-2.ensures.globals ∙ rw (first, other) refl in
-    IfOk-weaker c.arg-3.result _ _ (λ r adds. adds.globals ∙ rw (second, last) refl) c.arg-3.ensures
+    let third : (fields_of c.in_ok-arg-3.field-0).has_globals ≡ false = c.in_ok-arg-3.ensures.globals ∙ rw (second, next) refl in
+    IfOk-weaker c.arg-4.result _ _ (λ r adds. adds.globals ∙ rw (third, last) refl) c.arg-4.ensures

@@ -1,11 +1,12 @@
--- What the parse's clauses say of the command line, turned into the command of the words.
+-- What the parse's clauses say of the command line, turned into what the words ask for.
 use Rattle.std.proofs.Common.{rules, ap, subst, refl, sym, true, false, true≢false, inl, inr, map, string_bytes, ◌≡◌, ◌∙◌, List, []}
 use Rattle.std.specs.Prelude.{bytes_eq}
 use Rattle.std.specs.List.{list_any}
+use Rattle.std.proofs.lemmas.Result.{IfOk-weaker}
 use Rattle.clap.specs.Words.{App, IsAmong, Text, app_of, fault_of, is_simple, is_simple_and_free, kind_of, subcommand_of, subcommand_rows_of}
 use Rattle.clap.proofs.WalkLemmas.{list_any-map}
 use Rattle.clap.proofs.OnLiterals.{clap_on_literals}
-use Rattle.command_words.specs.Program.{command_by, command_line}
+use Rattle.command_words.specs.Program.{asked_by, command_line}
 use Rattle.command_words.proofs.RunTurns.{IsClean}
 use Rattle.command_words.proofs.Turns.{dashes}
 use Rattle.command_words.proofs.Whole.{accepted, clean_from, refused, with_dashes}
@@ -35,7 +36,7 @@ returns-in-Ok c =
     let no_fault : fault_of command_line words ≡ [] = ap (λ (a : App). fault_of a words) (sym line_is) ∙ c.in-Ok.ensures.kinds free in
     let sub : subcommand_rows_of c.in-Ok.matches ≡ subcommand_of command_line words = (c.in-Ok.ensures.matches (ap is_simple line_is ∙ is_plain)).1
     ∙ ap (λ (a : App). subcommand_of a words) line_is in
-    c.matched.ensures ∙ ap command_by sub ∙ accepted words clean no_fault
+    IfOk-weaker c.matched.result _ _ (λ r e. e ∙ ap asked_by sub ∙ accepted words clean no_fault) c.matched.ensures
 
 pub returns : goal.returns
 returns c =

@@ -29,3 +29,8 @@ pub returns-clause-demo : goal.returns-clause-demo
 returns-clause-demo g c seed cells asked =
     let shown = c.mcy_call-outcome.ensures.demo seed cells asked in
     (shown.0, shown.1, shown.2, ap (λ k. k.watcher) shown.3, rw shown.3 c.new-opening.ensures.leaves)
+
+pub returns-clause-baseline : goal.returns-clause-baseline
+returns-clause-baseline g c asked =
+    let told = c.mcy_call-outcome.ensures.baseline asked in
+    (told.0, ap (λ k. k.watcher) told.1, rw told.1 c.new-opening.ensures.leaves)

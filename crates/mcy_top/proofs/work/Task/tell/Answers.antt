@@ -1,10 +1,10 @@
-use Rattle.std.proofs.Common.{◌≡◌, ◌⊎◌, inl, inr, ℕ, Option, ap, subst}
+use Rattle.std.proofs.Common.{◌≡◌, ◌⊎◌, inl, inr, ℕ, Bool, Option, ap, subst}
 use Rattle.mcy_keeper.specs.declared.book.Book.{Book}
 use Rattle.source_report.specs.Lists.{list_text}
 use Rattle.source_report.specs.Sources.{source_text}
 use Rattle.source_report.specs.Texts.{status_text}
 use Rattle.command_words.specs.declared.command.Command.{Command}
-use Rattle.command_words.specs.declared.command.Command.TheVariants.{Init, Run, Status, Demo}
+use Rattle.command_words.specs.declared.command.Command.TheVariants.{Init, Run, Status, Baseline, Demo}
 use Rattle.campaign_plan.specs.declared.prepared.Prepared.{Prepared}
 use Rattle.mcy_top.specs.Commands.{OnlyReads}
 use Rattle.campaign_run.specs.Running.{book_of}
@@ -20,11 +20,12 @@ unfolding source_text
 returns-in-Source-clause-wrote g c = rw c.in-Source.is c.show_source.ensures.wrote
 
 -- of the other commands one only reads, and tells the status
-told_text : (command : Command) (p : Prepared) (book : Book) → OnlyReads command → ((command ≡ Init) ⊎ (((jobs : ℕ) × (stop : Option ℕ) × (retry : Option ℕ) × (command ≡ Run jobs stop retry)) ⊎ ((command ≡ Status) ⊎ ((seed : ℕ) × (cells : ℕ) × (command ≡ Demo seed cells))))) → text_of command p book ≡ status_text p.campaign book.journal
+told_text : (command : Command) (p : Prepared) (book : Book) → OnlyReads command → ((command ≡ Init) ⊎ (((jobs : ℕ) × (stop : Option ℕ) × (retry : Option ℕ) × (command ≡ Run jobs stop retry)) ⊎ (((strict : Bool) × (command ≡ Status strict)) ⊎ ((command ≡ Baseline) ⊎ ((seed : ℕ) × (cells : ℕ) × (command ≡ Demo seed cells)))))) → text_of command p book ≡ status_text p.campaign book.journal
 told_text command p book reads (inl is) = absurd (subst OnlyReads is reads)
 told_text command p book reads (inr (inl run)) = absurd (subst OnlyReads run.3 reads)
-told_text command p book reads (inr (inr (inl is))) = ap (λ (k : Command). text_of k p book) is
-told_text command p book reads (inr (inr (inr demo))) = absurd (subst OnlyReads demo.2 reads)
+told_text command p book reads (inr (inr (inl status))) = ap (λ (k : Command). text_of k p book) status.1
+told_text command p book reads (inr (inr (inr (inl is)))) = absurd (subst OnlyReads is reads)
+told_text command p book reads (inr (inr (inr (inr demo)))) = absurd (subst OnlyReads demo.2 reads)
 
 pub returns-in-Init : goal.returns-in-Init
 returns-in-Init g c = record {

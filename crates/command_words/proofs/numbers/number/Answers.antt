@@ -5,8 +5,8 @@ use Rattle.std.proofs.lemmas.Bool.Decides.{Decides-ltb}
 use Rattle.std.proofs.lemmas.Str.Parse.{parse_digits}
 use Rattle.std.specs.Str.Parse.{ParsesUnsigned, digits_value}
 use Rattle.command_words.specs.Commands.{is_numeral, small_number}
-use Rattle.command_words.proofs.Numbers.{numeral_word, numerals}
-use Rattle.command_words.proofs.command.number.Goals as goal
+use Rattle.command_words.proofs.Numerals.{numeral_word, numerals}
+use Rattle.command_words.proofs.numbers.number.Goals as goal
 
 none_where_refused : {E : Type 0} (word : List ℕ) (e : E) → ParsesUnsigned 32 10 word (Err e) → None ≡ small_number word
 none_where_refused word e refused =

@@ -4,8 +4,8 @@ use Rattle.std.proofs.lemmas.Bool.{false_from_ne_true}
 use Rattle.std.proofs.lemmas.Str.Parse.{parse_digits}
 use Rattle.std.specs.Str.Parse.{ParsesUnsigned}
 use Rattle.command_words.specs.Commands.{is_numeral, seed_number}
-use Rattle.command_words.proofs.Numbers.{numeral_small, numeral_word, numerals}
-use Rattle.command_words.proofs.command.seed_number.Goals as goal
+use Rattle.command_words.proofs.Numerals.{numeral_small, numeral_word, numerals}
+use Rattle.command_words.proofs.numbers.seed_number.Goals as goal
 
 none_where_refused : {E : Type 0} (word : List ℕ) (e : E) → ParsesUnsigned 64 10 word (Err e) → None ≡ seed_number word
 none_where_refused word e refused =

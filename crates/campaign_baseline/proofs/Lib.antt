@@ -1,0 +1,7 @@
+pub mod Cycles
+pub mod Failing
+pub mod Listing
+pub mod OneEnd
+pub mod OneList
+pub mod Runnable
+pub mod Words

@@ -1,0 +1,92 @@
+-- How `baseline` ends.
+use Rattle.std.proofs.Common.{◌≡◌, ◌∙◌, ◌<◌, ℕ, List, Option, Bool, true, false, length, refl, sym, ap, subst}
+use Rattle.std.specs.Prelude.{◌↔◌, IsTrue}
+use Rattle.std.specs.List.{All}
+use Rattle.std.proofs.lemmas.List.Elements.{All-weaker}
+use Rattle.std.proofs.lemmas.Option.{slice_get_within}
+use Rattle.mcy_base.specs.Causes.{Rose}
+use Rattle.mcy_outside.specs.Files.{Held}
+use Rattle.campaign_plan.specs.declared.prepared.Prepared.{Prepared}
+use Rattle.campaign_plan.specs.declared.trial.Trial.TheVariants.{Simulation}
+use Rattle.campaign_plan.specs.Campaigns.{IsPlan}
+use Rattle.campaign_plan.proofs.Fitted.{plan_trials}
+use Rattle.campaign_plan.proofs.Plans.{plan_fit}
+use Rattle.campaign_reading.specs.declared.refusal.Refusal.{Refusal}
+use Rattle.campaign_reading.specs.declared.refusal.Refusal.TheVariants as r
+use Rattle.campaign_reading.specs.Files.{IsMade}
+use Rattle.campaign_reading.specs.Reads.{IsUnmade}
+use Rattle.campaign_baseline.specs.declared.baseline.Baseline.{Baseline}
+use Rattle.campaign_baseline.specs.Baselines.{AllPass, IsBaseline}
+use Rattle.campaign_outcomes.specs.declared.outcome.Outcome.{Outcome}
+use Rattle.campaign_outcomes.specs.declared.outcome.Outcome.TheVariants.{Done, BaselineBad, WriteFault, Memory}
+use Rattle.mcy_top.specs.declared.work.Ending.{Ending}
+use Rattle.mcy_top.specs.declared.work.Ending.TheVariants.{Written, Refused, NoMemory}
+use Rattle.mcy_top.specs.Baselines.{baseline_outcome, baselines_text, HasBaselines, TellsBaselines, ToldBaselines}
+use Rattle.mcy_top.specs.Endings.{ended_outcome, Delivers}
+use Rattle.mcy_top.specs.Life.{Answered, HasCause, IsAccepted, IsQuiet}
+use Rattle.mcy_top.specs.Outcomes.{outcome_of}
+
+-- each is of a test that has a name
+pub tests_have_names : (c : Prepared) (list read : List Baseline) → read ≡ list → IsPlan c → HasBaselines c list → All (λ (b : Baseline). b.test < length c.campaign.test_names) read
+tests_have_names c list read same plan are =
+    let names : length c.campaign.test_names ≡ length c.trials = (plan_fit c plan).names ∙ plan_trials c plan in
+    subst (All (λ (b : Baseline). b.test < length c.campaign.test_names)) (sym same)
+    (All-weaker (IsBaseline c c.cycles) (λ (b : Baseline). b.test < length c.campaign.test_names)
+    (λ b is. subst (λ (n : ℕ). b.test < n) (sym names) (slice_get_within c.trials b.test (Simulation is.bench is.pass is.fail) is.test)) list are.each)
+
+-- what was asked of the list and written of it
+pub passes_of : (pass : Bool) (list read : List Baseline) → read ≡ list → (IsTrue pass ↔ AllPass read) → (IsTrue pass ↔ AllPass list)
+passes_of pass list read same says = subst (λ (l : List Baseline). IsTrue pass ↔ AllPass l) same says
+
+pub delivers_of : (c : Prepared) (before now : Option (List ℕ)) (text : List ℕ) (list read : List Baseline) (ending : Ending) → read ≡ list → text ≡ baselines_text c read → Delivers before now text ending → Delivers before now (baselines_text c list) ending
+delivers_of c before now text list read ending same is wrote = subst (λ (t : List ℕ). Delivers before now t ending) (is ∙ ap (baselines_text c) same) wrote
+
+-- the text was made, and then written or not
+
+pub delivered_tells : (c : Prepared) (list : List Baseline) (before now : Option (List ℕ)) (pass : Bool) (ending : Ending) → HasBaselines c list → (IsTrue pass ↔ AllPass list) → Delivers before now (baselines_text c list) ending → TellsBaselines c before now (ended_outcome (baseline_outcome pass) ending)
+delivered_tells c list before now true Written are says wrote = (list, are, says.0 refl, wrote)
+delivered_tells c list before now false Written are says wrote = (list, are, (λ all. let never : false ≡ true = says.1 all in cc), wrote)
+delivered_tells c list before now pass Refused are says wrote = (list, are, wrote)
+delivered_tells c list before now pass NoMemory are says wrote = wrote
+
+pub delivered_quiet : (c : Prepared) (list : List Baseline) (before now : Option (List ℕ)) (pass : Bool) (ending : Ending) → Delivers before now (baselines_text c list) ending → IsQuiet before now (ended_outcome (baseline_outcome pass) ending)
+delivered_quiet c list before now true Written wrote = tt
+delivered_quiet c list before now false Written wrote = tt
+delivered_quiet c list before now pass Refused wrote = tt
+delivered_quiet c list before now pass NoMemory wrote = wrote
+
+pub delivered_cause : (files files' keeper sink sink' : ℕ) (pass : Bool) (ending : Ending) → (ending ≡ Refused → Rose sink sink') → HasCause files files' keeper keeper sink sink' (ended_outcome (baseline_outcome pass) ending)
+delivered_cause files files' keeper sink sink' true Written rose = tt
+delivered_cause files files' keeper sink sink' false Written rose = tt
+delivered_cause files files' keeper sink sink' pass Refused rose = rose refl
+delivered_cause files files' keeper sink sink' pass NoMemory rose = tt
+
+pub delivered_answered : (words : List (List ℕ)) (held : Option Held) (pass : Bool) (ending : Ending) → IsAccepted words held → Answered words held (ended_outcome (baseline_outcome pass) ending)
+delivered_answered words held true Written accepted = accepted
+delivered_answered words held false Written accepted = accepted
+delivered_answered words held pass Refused accepted = accepted
+delivered_answered words held pass NoMemory accepted = tt
+
+-- A call of `baseline`.
+
+-- the files were refused
+pub told_refused : (held : Option Held) (before : Option (List ℕ)) (refusal : Refusal) → IsUnmade held refusal → ToldBaselines held before before (outcome_of refusal)
+told_refused held before (r.ProjectBad error) why = record { why = why; quiet = refl }
+told_refused held before (r.ScriptBad error) why = record { why = why; quiet = refl }
+told_refused held before (r.SourceBad error) why = record { why = why; quiet = refl }
+told_refused held before (r.Missing name) why = record { why = why; quiet = refl }
+told_refused held before (r.TooLarge name) why = record { why = why; quiet = refl }
+told_refused held before (r.ReadFault name) why = record { why = why; quiet = refl }
+told_refused held before r.Memory why = refl
+
+-- they make a campaign
+pub told_made : (held : Option Held) (c : Prepared) (before now : Option (List ℕ)) (o : Outcome) → IsMade held c → TellsBaselines c before now o → ToldBaselines held before now o
+told_made held c before now Done made tells = (c, made, tells)
+told_made held c before now BaselineBad made tells = (c, made, tells)
+told_made held c before now WriteFault made tells = (c, made, tells)
+told_made held c before now Memory made tells = tells
+told_made held c before now o made tells = absurd tells
+
+-- there was no memory for them
+pub told_memory : (held : Option Held) (before : Option (List ℕ)) → ToldBaselines held before before Memory
+told_memory held before = refl

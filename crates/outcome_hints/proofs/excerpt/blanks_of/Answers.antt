@@ -1,0 +1,10 @@
+use Rattle.std.proofs.Common.{rules, tests, ◌∙◌}
+use Rattle.std.proofs.lemmas.Iterator.{YieldsList-from_slice}
+use Rattle.std.proofs.lemmas.Iterator.Consumers.{count_from_yields_List}
+use Rattle.std.proofs.lemmas.Iterator.Search.{YieldsList-from_take_while}
+use Rattle.std.proofs.lemmas.List.Folds.{length-prefix_len}
+use Rattle.project_lines.specs.Lines.{is_blank}
+use Rattle.outcome_hints.proofs.excerpt.blanks_of.Goals as goal
+
+pub returns : goal.returns
+returns c = count_from_yields_List c.take_while.result c.count-blanks.result c.count-blanks.ensures.ran (YieldsList-from_take_while _ is_blank (YieldsList-from_slice c.args.line.now cc) c.take_while.ensures.closure c.take_while.ensures.done (λ x b q k. search (rules, tests))) ∙ length-prefix_len is_blank c.args.line.now

@@ -1,0 +1,4 @@
+pub mod Changes
+pub mod Excerpts
+pub mod Filled
+pub mod Spots
