@@ -1,7 +1,7 @@
 #!/usr/bin/env python3
 """Expressions of Verilog with the values that Icarus Verilog gives them.
 
-    tests/expressions.py [FOLDER]      the tables of crates/expression_values and crates/expression_cells; needs iverilog and vvp
+    tests/expressions.py [FOLDER]      the tables of crates/value_cases and crates/expression_cells; needs iverilog and vvp
 
 A line of the first is the width to which the value is extended, the values of the names, `;` and the expression in postfix
 form. Rows whose value is not of two values are left out, but for selects beyond a vector, whose missing bits are 0. CELLS
@@ -277,8 +277,8 @@ def line_of(width, row, values):
     return f"{width} {given} ; {' '.join(postfix(row))}"
 
 
-def write(crate, tests):
-    tables.save(crate, [line_of(*row) for row, _ in tests], [answer for _, answer in tests])
+def write(crate, name, tests):
+    tables.save(crate, [line_of(*row) for row, _ in tests], [answer for _, answer in tests], name)
 
 
 def main():
@@ -288,8 +288,8 @@ def main():
         for row, (seen, zeroed) in zip(rows, simulated(rows))
         if not set(seen) - set("01") or selects_only(row[1])
     ]
-    write("expression_values", tests + nested())
-    write("expression_cells", [(row, answer) for row, answer in tests if not divides_names(row[1])])
+    write("value_cases", "constants", tests + nested())
+    write("expression_cells", None, [(row, answer) for row, answer in tests if not divides_names(row[1])])
 
 
 if __name__ == "__main__":

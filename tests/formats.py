@@ -1,7 +1,7 @@
 #!/usr/bin/env python3
-"""Makes the table of formats that the crate format_cases prints: its input, and the answers of Icarus Verilog.
+"""Makes the table of formats that the program value_cases prints: its input, and the answers of Icarus Verilog.
 
-    tests/formats.py [FOLDER]      the table of crates/format_cases; needs iverilog and vvp
+    tests/formats.py [FOLDER]      the table 'formats' of crates/value_cases; needs iverilog and vvp
 
 A line of the input is the sign of a value, its width and its number, and a format text, as `signed 8:255 <%d>`. Each line is one
 `$display` in Verilog, whose arguments are that value, once for each format, and its answer is what the simulator prints. The formats
@@ -77,7 +77,7 @@ def main():
         printed = subprocess.run([program], check=True, capture_output=True, text=True).stdout.split("\n")[:-1]
     assert len(printed) == len(rows), (len(printed), len(rows))
     given = [f"{sign} {width}:{value} {text}" for sign, width, value, text in rows] + [f"unsigned 8:1 {text}" for text in REFUSED]
-    tables.save("format_cases", given, [*map(answer, rows, printed), *("not supported" for _ in REFUSED)])
+    tables.save("value_cases", given, [*map(answer, rows, printed), *("not supported" for _ in REFUSED)], "formats")
 
 
 if __name__ == "__main__":

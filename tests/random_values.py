@@ -1,7 +1,7 @@
 #!/usr/bin/env python3
 """Expressions of testbenches with `$random` and `$time`, and their values in three evaluations.
 
-    tests/random_values.py [FOLDER]      the table of crates/random_cases
+    tests/random_values.py [FOLDER]      the table 'draws' of crates/value_cases
 
 Written from the standard and from O'Neill's reference of PCG (XSH RR 64/32), and not from the program. Each evaluation first
 draws every `$random`, from left to right, and then evaluates at the expression's own size (IEEE 1364-2005, 5.4 and 5.5).
@@ -186,7 +186,7 @@ def main():
         for _ in range(3):
             y = drawn(x, words, phase)
             values.append(own(y))
-    tables.save("random_cases", lines, values)
+    tables.save("value_cases", lines, values, "draws")
 
 
 def wide(x):

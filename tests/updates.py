@@ -1,7 +1,7 @@
 #!/usr/bin/env python3
-"""Makes the table of assignments that the crate update_cases carries out: its input, and the answers of Icarus Verilog.
+"""Makes the table of assignments that the program value_cases carries out: its input, and the answers of Icarus Verilog.
 
-    tests/updates.py [FOLDER]      the table of crates/update_cases; needs iverilog and vvp
+    tests/updates.py [FOLDER]      the table 'updates' of crates/value_cases; needs iverilog and vvp
 
 A line of the input is an assignment, as `{a[5:2], c} = d[c +: 8]`. Each has as answer the values of four signals after it, from the same
 values on. The right sides read no bit out of range, so that the simulator has no unknown bits. The left sides lie out of range now and
@@ -79,7 +79,7 @@ def main():
             out.write(f"module m; {DECLARATIONS}\ninitial begin\n{body}\nend\nendmodule\n")
         subprocess.run(["iverilog", "-g2005", "-o", f"{work}/m.vvp", f"{work}/m.v"], check=True)
         shown = subprocess.run(["vvp", "-n", f"{work}/m.vvp"], check=True, capture_output=True, text=True).stdout
-    tables.save("update_cases", cases, shown)
+    tables.save("value_cases", cases, shown, "updates")
 
 
 main()

@@ -53,6 +53,12 @@ impl Page {
         }
     }
 
+    /// A whole line.
+    pub fn put_line(&mut self, line: &str) {
+        self.put(line);
+        self.put("\n");
+    }
+
     pub fn put_number(&mut self, number: u128) {
         match format!(in self.alloc; "{number}") {
             Ok(part) => self.put(part.as_str()),

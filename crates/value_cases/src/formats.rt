@@ -1,10 +1,6 @@
-//! Prints values by format texts, to compare the texts with another simulator's.
-//!
-//! A line is the sign of a value, its width and its number, and a format text, as `signed 8:255 <%d>`. Each format of the text is given
-//! this value, and `%s` the string `word`. The lines and what has to be printed come from `tests/formats.py`.
-#![tactic(auto)]
-
+//! Values as format texts print them.
 use anyhow::{Context, Result, bail};
+use case_lines::Page;
 use mcy_base::Word;
 use std::alloc::{AllocError, Global};
 use tb_formats::{Piece, push_value, read_format};
@@ -40,9 +36,26 @@ fn printed(
     Ok(text)
 }
 
-/// Prints what a line asks for.
-fn answer<R: Print + AllocGlobal>(rt: &R, line: &str) -> Result<()> {
-    let (sign, rest) = line.split_once(' ').context("no value")?;
+/// Puts a value by a format text.
+fn put_value(
+    alloc: Global,
+    page: &mut Page,
+    is_signed: bool,
+    word: Word,
+    text: &str,
+) -> Result<()> {
+    let Some(pieces) = read_format(alloc, text.as_bytes())? else {
+        page.put_line("not supported");
+        return Ok(());
+    };
+    let text = printed(alloc, pieces.as_slice(), is_signed, word)?;
+    page.put_line(str::from_utf8(text.as_slice()).ok().context("no text")?);
+    Ok(())
+}
+
+/// Puts a row's value by its format text.
+pub(crate) fn put_format(alloc: Global, page: &mut Page, row: &str) -> Result<()> {
+    let (sign, rest) = row.split_once(' ').context("no value")?;
     let is_signed = match sign {
         "signed" => true,
         "unsigned" => false,
@@ -50,20 +63,5 @@ fn answer<R: Print + AllocGlobal>(rt: &R, line: &str) -> Result<()> {
     };
     let (word, text) = rest.split_once(' ').context("no format")?;
     let word = word_of(word).context("no word")?;
-    let Some(pieces) = read_format(rt.alloc(), text.as_bytes())? else {
-        println!(rt; "not supported")?;
-        return Ok(());
-    };
-    let text = printed(rt.alloc(), pieces.as_slice(), is_signed, word)?;
-    let text = str::from_utf8(text.as_slice()).ok().context("no text")?;
-    println!(rt; "{text}")?;
-    Ok(())
-}
-
-fn main(rt: HostRuntime) -> Result<()> {
-    for line in rt.lines(rt.alloc()) {
-        let line = line?;
-        answer(&rt, line.as_str())?;
-    }
-    Ok(())
+    put_value(alloc, page, is_signed, word, text)
 }
