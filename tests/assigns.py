@@ -1,7 +1,7 @@
 #!/usr/bin/env python3
-"""Makes stdin and stdout of crates/assign_cases: assignments over declared signals, and what is built of them.
+"""The table 'assigns' of crates/elab_cases: assignments over declared signals, and what is built of them.
 
-    tests/assigns.py [FOLDER]      the table of crates/assign_cases
+    tests/assigns.py [FOLDER]      the table 'assigns' of crates/elab_cases
 
 The rows at the head are worked out by hand. The others are drawn by a seeded generator from few names, so that writers meet and
 faults stand beside one another. What each gives is worked out here from the parts of which it is put together, by the rules of
@@ -386,7 +386,7 @@ def main():
     rng = random.Random(6)
     for _ in range(CASES):
         put_case(rng, lines, wanted)
-    tables.save("assign_cases", lines, wanted)
+    tables.save("elab_cases", lines, wanted, "assigns")
 
 
 if __name__ == "__main__":

@@ -1,7 +1,7 @@
 #!/usr/bin/env python3
-"""The cases of crates/builder_cases: builders, and what is made of them by the definition alone.
+"""The table 'builders' of crates/elab_cases: builders, and what is made of them by the definition alone.
 
-    tests/builders.py [FOLDER]      the table of crates/builder_cases
+    tests/builders.py [FOLDER]      the table 'builders' of crates/elab_cases
 
 A net that is joined leads where the bit leads that it is joined to. A net of an input or of a register stays, and any
 other bit of a signal is that of the signal's start value. A net is on a loop where a walk along the joints comes back to it.
@@ -334,7 +334,7 @@ def main():
     for line in lines:
         builder, texts = carry_out(builder, line)
         told += texts
-    tables.save("builder_cases", lines, told)
+    tables.save("elab_cases", lines, told, "builders")
 
 
 main()

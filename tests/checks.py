@@ -1,7 +1,7 @@
 #!/usr/bin/env python3
-"""Makes the table of crates/check_cases: assigns and processes of testbenches, and what is wrong first in each.
+"""Makes the table 'checks' of crates/elab_cases: assigns and processes of testbenches, and what is wrong first in each.
 
-    tests/checks.py [FOLDER]      the table of crates/check_cases
+    tests/checks.py [FOLDER]      the table 'checks' of crates/elab_cases
 
 Writes stdin and stdout of the crate. The rows are written by hand from docs/PROFILE.md: `>` stands in front of the token at
 which the fault is, and is taken out of the line.
@@ -245,7 +245,7 @@ def main():
         at = text.index(">")
         lines.append(text[:at] + text[at + 1 :])
         answers.append(f"{fault} {at + 1}")
-    tables.save("check_cases", lines, answers)
+    tables.save("elab_cases", lines, answers, "checks")
 
 
 if __name__ == "__main__":

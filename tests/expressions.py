@@ -1,7 +1,7 @@
 #!/usr/bin/env python3
 """Expressions of Verilog with the values that Icarus Verilog gives them.
 
-    tests/expressions.py [FOLDER]      the tables of crates/value_cases and crates/expression_cells; needs iverilog and vvp
+    tests/expressions.py [FOLDER]      the tables of crates/value_cases and crates/elab_cases; needs iverilog and vvp
 
 A line of the first is the width to which the value is extended, the values of the names, `;` and the expression in postfix
 form. Rows whose value is not of two values are left out, but for selects beyond a vector, whose missing bits are 0. CELLS
@@ -289,7 +289,7 @@ def main():
         if not set(seen) - set("01") or selects_only(row[1])
     ]
     write("value_cases", "constants", tests + nested())
-    write("expression_cells", None, [(row, answer) for row, answer in tests if not divides_names(row[1])])
+    write("elab_cases", "expressions", [(row, answer) for row, answer in tests if not divides_names(row[1])])
 
 
 if __name__ == "__main__":

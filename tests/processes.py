@@ -1,7 +1,7 @@
 #!/usr/bin/env python3
-"""Makes stdin and stdout of crates/process_cases: processes over declared signals, and the first refusal of each.
+"""Makes the table 'processes' of crates/elab_cases: processes over declared signals, and the first refusal of each.
 
-    tests/processes.py [FOLDER]      the table of crates/process_cases
+    tests/processes.py [FOLDER]      the table 'processes' of crates/elab_cases
 
 The rows at the head are worked out by hand. The others are drawn by a seeded generator from few names, so that latches, second
 writers and second kinds of assignments meet. What is refused is worked out here from the parts of which a process is put together,
@@ -1068,7 +1068,7 @@ def main():
         put_case(rng, lines, wanted)
     for _ in range(STARTS):
         put_starts(rng, lines, wanted)
-    tables.save("process_cases", lines, wanted)
+    tables.save("elab_cases", lines, wanted, "processes")
 
 
 if __name__ == "__main__":

@@ -1,8 +1,0 @@
--- Declared names, and a builder that has the signals.
-use Rattle.vlog_meaning.specs.Scopes.{names_of}
-use Rattle.net_builder.specs.Building.{HasSignals}
-use Rattle.flat_assigns.specs.Built.{IsReady}
-use Rattle.assign_cases.specs.declared.bench.Bench.{Bench}
-
-abbrev pub IsSound : Bench → Type 0
-IsSound b = IsReady b.builder × HasSignals (names_of b.scope) b.builder

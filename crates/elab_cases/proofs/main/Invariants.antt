@@ -1,0 +1,8 @@
+use Rattle.elab_cases.specs.Benches.{IsSound}
+use Rattle.elab_cases.proofs.main.Given as goal
+
+abbrev pub invariant-loop-line : goal.invariant-loop-line
+invariant-loop-line l =
+    (goal.iterator-loop-line).can_next l.line-iterator ×
+    (goal.iterator-loop-line).is_finite l.line-iterator ×
+    IsSound l.bench

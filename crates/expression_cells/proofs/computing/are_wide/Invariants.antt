@@ -1,6 +1,0 @@
-use Rattle.std.proofs.Common.{drop}
-use Rattle.netlist_core.specs.Checked.{AllWide}
-use Rattle.expression_cells.proofs.computing.are_wide.Given as goal
-
-abbrev pub invariant-loop-port : goal.invariant-loop-port
-invariant-loop-port l = AllWide (drop l.port-index l.ports) → AllWide l.ports
