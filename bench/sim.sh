@@ -12,7 +12,7 @@ room=$(mktemp -d "$root/out-bench.XXXXXX")
 trap 'rm -rf "$room"' EXIT
 
 . "$root/bench/lib/build.sh"
-build_program bench_cases
+build_program design_cases
 program=$room/program
 
 # The sources of an example, with so many times as many turns of its bench: `texts NAME CONSTANT TURNS TIMES`.

@@ -1,12 +1,16 @@
-"""The rows of crates/refusal_cases: testbenches, each with the first reason why it is refused, written by hand from the rules of
-docs/PROFILE.md and IEEE 1364-2005. A `@@` stands in front of the token at which the reason is told.
+"""The table 'refusals' of crates/design_cases: testbenches, each with the first reason why it is refused, written by hand from the
+rules of docs/PROFILE.md and IEEE 1364-2005. A `@@` stands in front of the token at which the reason is told.
 
-    tests/bench_refusals.py [FOLDER]      the table of crates/refusal_cases
+    tests/bench_refusals.py [FOLDER]      the table 'refusals' of crates/design_cases
 """
 
 from lib import tables
 
-DESIGN = "module d(input clk, input a, output [1:0] q); endmodule"
+# The designs by the name of their clock.
+DESIGNS = {
+    "clk": "module d(input clk, input a, output reg [1:0] q); always @(posedge clk) q <= {a, a}; endmodule",
+    "-": "module d(input clk, input a, output [1:0] q); endmodule",
+}
 NAMES = "  reg c, x; reg [1:0] r; wire w; wire [1:0] y, v;"
 INSTANCE = "  d u(.clk(c), .a(x), .q(y));"
 GENERATOR = "  initial begin c = 0; forever #5 c = ~c; end"
@@ -167,9 +171,9 @@ def main():
             given.append(name)
             told.append(name)
         else:
-            given += ["\n".join(lines).replace("@@", ""), DESIGN, f"look t d {clock}"]
+            given += ["\n".join(lines).replace("@@", ""), DESIGNS[clock], "look t d"]
             told.append(answer(name, lines))
-    tables.save("refusal_cases", given, told)
+    tables.save("design_cases", given, told, "refusals")
 
 
 main()

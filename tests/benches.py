@@ -1,7 +1,7 @@
 #!/usr/bin/env python3
-"""Makes the testbenches that the crate bench_cases simulates: its input, and what Icarus Verilog prints for each.
+"""Makes the testbenches that the program design_cases simulates: its input, and what Icarus Verilog prints for each.
 
-    tests/benches.py [FOLDER]      the table of crates/bench_cases; needs iverilog and vvp
+    tests/benches.py [FOLDER]      the table 'benches' of crates/design_cases; needs iverilog and vvp
 
 A case is a source with a design and a testbench, and a line `simulate BENCH TOP SEED CYCLES`. Its answer is the transcript, and whether
 `$finish` was reached. The answers of the cases that are drawn here are Icarus Verilog's. Where the order of processes or of assignments
@@ -411,7 +411,7 @@ def main():
         if answer is not None and not re.search("[xz]", answer):
             cases.append(f"{source}simulate bench dut 1 2000\n")
             answers.append(f"{answer}finished\n")
-    tables.save("bench_cases", "".join(cases), "".join(answers))
+    tables.save("design_cases", "".join(cases), "".join(answers), "benches")
 
 
 if __name__ == "__main__":

@@ -1,7 +1,7 @@
 #!/usr/bin/env python3
-"""Makes stdin and stdout of crates/design_cases: designs, their netlists or what is refused in them, and their outputs.
+"""Makes the table 'designs' of crates/design_cases: designs, their netlists or what is refused in them, and their outputs.
 
-    tests/designs.py [FOLDER]      the table of crates/design_cases; needs iverilog and vvp
+    tests/designs.py [FOLDER]      the table 'designs' of crates/design_cases; needs iverilog and vvp
 
 What design_told.py says is worked out by hand. The outputs of the other designs over 20 cycles are those of Icarus Verilog: the
 designs of design_hand.py are written by hand, those of design_draw.py drawn by a seeded generator. So are those of design_standard.py,
@@ -114,7 +114,7 @@ def main():
     for given, shown in itertools.chain(by_hand, one, several, standard()):
         lines += given
         wanted += shown
-    tables.save("design_cases", lines, wanted)
+    tables.save("design_cases", lines, wanted, "designs")
 
 
 if __name__ == "__main__":

@@ -1,4 +1,5 @@
-//! Elaborates short Verilog sources, prints their netlists or what is refused, and simulates them.
+//! Elaborates short Verilog sources, prints their netlists or what is refused, and runs them; and simulates testbenches with their
+//! designs, and prints their transcripts or why they are refused.
 //!
 //! A line of standard input is a line of a source, but for these:
 //!
@@ -7,36 +8,23 @@
 //! | `elaborate TOP` | Makes the netlist of the lines before it with this top, and prints what is refused. |
 //! | `netlist TOP` | The same, and prints the clock, the ports, the registers and the cells. |
 //! | `step NUMBER ..` | Settles the nets of the last netlist for these inputs, prints the outputs, and gives each register its D. |
+//! | `simulate BENCH TOP SEED CYCLES` | Simulates the module BENCH of the lines before it with the design of this top, for at most so many cycles, with the words of `$random` by the seed. It prints the transcript, and whether `$finish` was reached, or why the bench is refused. |
+//! | `look BENCH TOP` | Prints the first reason why an item of the module BENCH is refused, as a testbench of the design of this top, or that none is. |
 //! | `# ..` | It is printed. |
+//! | `§ ..` | It is printed, and begins the table of this name. |
 //!
-//! The next line behind `elaborate` or `netlist` that is none of these is the first of another source.
+//! The next line behind one that takes a source, and that is none of these, is the first of another source.
 #![tactic(auto)]
 
-mod netlist;
-mod page;
-mod refusals;
+mod benches;
+mod designs;
 
-use anyhow::{Context, Result, bail};
+use anyhow::Result;
+use benches::{look, simulate};
+use case_lines::Page;
 use cycle_sim::Sim;
-use elab_hier::elaborate;
-use mcy_base::{Span, Word};
-use netlist::put_netlist;
-use netlist_core::Netlist;
-use page::Page;
-use refusals::put_error;
+use designs::{sim_of, step};
 use std::alloc::Global;
-use vlog_parse::parse;
-use vlog_token::tokens;
-
-/// The place behind the last token.
-const END: Span = Span {
-    file: 0,
-    line: 0,
-    col: 0,
-};
-
-/// The length from which on a text is not cut into tokens.
-const TOO_LONG: usize = 1 << 31;
 
 /// A source that is read, and the simulator of the netlist before it.
 #[derive(Drop)]
@@ -45,71 +33,22 @@ struct Case {
     sim: Option<Sim>,
 }
 
-/// The netlist of a source; where it is refused, that is put on the page.
-fn netlist_of(alloc: Global, page: &mut Page, text: &str, top: &str) -> Result<Option<Netlist>> {
-    if text.len() >= TOO_LONG {
-        bail!("too long");
+/// Puts what a line asks of the source before it.
+fn put_answer(
+    alloc: Global,
+    page: &mut Page,
+    case: &mut Case,
+    verb: &str,
+    words: &str,
+) -> Result<()> {
+    let text = case.source.as_str();
+    match verb {
+        "elaborate" => case.sim = sim_of(alloc, page, text, words, false)?,
+        "netlist" => case.sim = sim_of(alloc, page, text, words, true)?,
+        "simulate" => simulate(alloc, page, text, words)?,
+        _ => look(alloc, page, text, words)?,
     }
-    let list = tokens(alloc, 0, text).ok().context("no tokens")?;
-    let modules = parse(alloc, list.as_slice(), END).ok().context("no trees")?;
-    match elaborate(alloc, modules.as_slice(), top) {
-        Ok(netlist) => Ok(Some(netlist)),
-        Err(error) => {
-            put_error(page, &error);
-            Ok(None)
-        }
-    }
-}
-
-/// Makes the netlist of the source, prints what is asked for, and begins another source.
-fn answer<R: Print + AllocGlobal>(rt: &R, case: &mut Case, top: &str, is_told: bool) -> Result<()> {
-    let alloc = rt.alloc();
-    let mut page = Page::new(alloc);
-    let made = netlist_of(alloc, &mut page, case.source.as_str(), top)?;
     case.source = String::new(alloc);
-    case.sim = None;
-    if let Some(netlist) = made {
-        if is_told {
-            put_netlist(&mut page, &netlist);
-        }
-        case.sim = Some(Sim::new(alloc, netlist)?);
-    }
-    Ok(print!(rt; "{}", page.text())?)
-}
-
-/// The words of the inputs, from their numbers.
-fn inputs_of(alloc: Global, sim: &Sim, numbers: &str) -> Result<Vec<Word>> {
-    let mut words = Vec::new(alloc);
-    let mut numbers = numbers.split(' ');
-    for port in sim.netlist().raw().inputs.as_slice() {
-        let number = numbers.next().context("no number")?.parse::<u128>().ok();
-        let width = u8::try_from(port.bits.as_slice().len()).ok();
-        let word = Word::new(width.context("no width")?, number.context("no number")?);
-        words.push(word.context("no word")?)?;
-    }
-    Ok(words)
-}
-
-/// Prints the words at the outputs.
-fn tell_outputs<R: Print>(rt: &R, sim: &Sim) -> Result<()> {
-    print!(rt; "outputs")?;
-    for port in 0..sim.netlist().raw().outputs.as_slice().len() {
-        if let Ok(port) = u32::try_from(port) {
-            print!(rt; " {}", sim.output(port).bits())?;
-        }
-    }
-    Ok(println!(rt;)?)
-}
-
-/// Settles the nets, prints the outputs, and gives each register its D.
-fn step<R: Print + AllocGlobal>(rt: &R, sim: &mut Sim, numbers: &str) -> Result<()> {
-    let inputs = inputs_of(rt.alloc(), sim, numbers)?;
-    if !sim.takes(inputs.as_slice()) {
-        bail!("other inputs");
-    }
-    sim.settle(inputs.as_slice());
-    tell_outputs(rt, sim)?;
-    sim.clock();
     Ok(())
 }
 
@@ -120,16 +59,47 @@ fn add(source: &mut String, line: &str) -> Result<()> {
     Ok(())
 }
 
+/// Makes a step of the last netlist; where there is none, the line is one of a source.
+fn put_step(
+    alloc: Global,
+    page: &mut Page,
+    case: &mut Case,
+    line: &str,
+    numbers: &str,
+) -> Result<()> {
+    match &mut case.sim {
+        Some(sim) => step(alloc, page, sim, numbers),
+        None => add(&mut case.source, line),
+    }
+}
+
 /// Carries out a line.
-fn carry_out<R: Print + AllocGlobal>(rt: &R, case: &mut Case, line: &str) -> Result<()> {
+fn carry_out(alloc: Global, page: &mut Page, case: &mut Case, line: &str) -> Result<()> {
     let (verb, rest) = line.split_once(' ').unwrap_or((line, ""));
-    match (verb, &mut case.sim) {
-        ("elaborate", _) => answer(rt, case, rest, false),
-        ("netlist", _) => answer(rt, case, rest, true),
-        ("step", Some(sim)) => step(rt, sim, rest),
-        ("#", _) => Ok(println!(rt; "{line}")?),
+    match verb {
+        "elaborate" | "netlist" | "simulate" | "look" => put_answer(alloc, page, case, verb, rest),
+        "step" => put_step(alloc, page, case, line, rest),
+        "#" | "§" => {
+            page.put_line(line);
+            Ok(())
+        }
         _ => add(&mut case.source, line),
     }
+}
+
+/// Prints what comes of a line.
+fn answer<R: Print + AllocGlobal>(rt: &R, case: &mut Case, line: &str) -> Result<()> {
+    let mut page = Page::new(rt.alloc());
+    carry_out(rt.alloc(), &mut page, case, line)?;
+    Ok(print!(rt; "{}", page.text())?)
+}
+
+/// Prints what comes of all lines.
+fn answer_all<R: Print + Input + AllocGlobal>(rt: &R, case: &mut Case) -> Result<()> {
+    for line in rt.lines(rt.alloc()) {
+        answer(rt, case, line?.as_str())?;
+    }
+    Ok(())
 }
 
 fn main(rt: HostRuntime) -> Result<()> {
@@ -137,8 +107,5 @@ fn main(rt: HostRuntime) -> Result<()> {
         source: String::new(rt.alloc()),
         sim: None,
     };
-    for line in rt.lines(rt.alloc()) {
-        carry_out(&rt, &mut case, line?.as_str())?;
-    }
-    Ok(())
+    answer_all(&rt, &mut case)
 }

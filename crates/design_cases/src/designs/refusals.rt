@@ -1,17 +1,11 @@
 //! What is printed of refusals: the kind, the place, and the name of the signal.
-use crate::page::Page;
+use case_lines::Page;
 use elab_hier::ElabError;
 use mcy_base::{Kind, Span};
 use vlog_syntax::Feature;
 
-fn put_at(page: &mut Page, word: &str, place: Span) {
-    page.put(word);
-    page.put(" ");
-    page.put_place(place);
-}
-
 fn put_named(page: &mut Page, word: &str, place: Span, name: &str) {
-    put_at(page, word, place);
+    page.put_at(word, place);
     page.put(" ");
     page.put(name);
 }
@@ -48,19 +42,19 @@ fn kind_of(kind: Kind) -> &'static str {
     }
 }
 
-pub fn put_error(page: &mut Page, error: &ElabError) {
+pub(crate) fn put_error(page: &mut Page, error: &ElabError) {
     match error {
         ElabError::NoTop => page.put("NoTop"),
-        ElabError::Twice(place) => put_at(page, "Twice", *place),
-        ElabError::Unknown(place) => put_at(page, "Unknown", *place),
-        ElabError::Recursive(place) => put_at(page, "Recursive", *place),
-        ElabError::PortMismatch(place) => put_at(page, "PortMismatch", *place),
-        ElabError::NotConstant(place) => put_at(page, "NotConstant", *place),
-        ElabError::DivideByZero(place) => put_at(page, "DivideByZero", *place),
-        ElabError::TooWide(place) => put_at(page, "TooWide", *place),
+        ElabError::Twice(place) => page.put_at("Twice", *place),
+        ElabError::Unknown(place) => page.put_at("Unknown", *place),
+        ElabError::Recursive(place) => page.put_at("Recursive", *place),
+        ElabError::PortMismatch(place) => page.put_at("PortMismatch", *place),
+        ElabError::NotConstant(place) => page.put_at("NotConstant", *place),
+        ElabError::DivideByZero(place) => page.put_at("DivideByZero", *place),
+        ElabError::TooWide(place) => page.put_at("TooWide", *place),
         ElabError::Unsupported(place, feature) => {
             page.put("Unsupported ");
-            put_at(page, feature_name(*feature), *place);
+            page.put_at(feature_name(*feature), *place);
         }
         ElabError::TwoWriters(place, name) => put_named(page, "TwoWriters", *place, name.as_str()),
         ElabError::Latch(place, name) => put_named(page, "Latch", *place, name.as_str()),
@@ -68,7 +62,7 @@ pub fn put_error(page: &mut Page, error: &ElabError) {
             page.put("TooMany ");
             page.put(kind_of(*kind));
         }
-        ElabError::Loop(place) => put_at(page, "Loop", *place),
+        ElabError::Loop(place) => page.put_at("Loop", *place),
         ElabError::Memory => page.put("no memory"),
     }
     page.put("\n");

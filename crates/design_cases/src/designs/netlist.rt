@@ -1,5 +1,5 @@
 //! What is printed of a netlist: the clock, the ports, the registers and the cells, one a line.
-use crate::page::Page;
+use case_lines::Page;
 use mcy_base::Span;
 use mutation_sites::kind_text;
 use netlist_core::{Cell, Netlist, Port, Register};
@@ -51,7 +51,7 @@ fn put_ports(page: &mut Page, word: &str, ports: &[Port]) {
     }
 }
 
-pub fn put_netlist(page: &mut Page, netlist: &Netlist) {
+pub(crate) fn put_netlist(page: &mut Page, netlist: &Netlist) {
     let raw = netlist.raw();
     if let Some(clock) = &raw.clock {
         page.put("clock ");
