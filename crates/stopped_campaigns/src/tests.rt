@@ -1,11 +1,15 @@
 //! Campaigns over files in memory that stop at a call of the disk.
+//!
+//! What makes, runs and ends a keeper is generic in the store, and what opens a database in the disk, so that each is proved over one of
+//! which nothing is known, and no function lets a keeper go: it is ended, and gives its database back. All tests are over one disk,
+//! `Stopping`, since a test program holds all of SQLite once for each disk that it names.
 use keeper_sqlite::SqlKeeper;
 use mcy_base::{Bytes, FileList, SourceFile, Text};
 use mcy_keeper::{KeepError, Keeper};
 use mcy_outside::{CleanFiles, MemorySink};
 use mcy_top::{Outcome, mcy_call};
-use sqlite::{Connection, Files, Options};
-use sqlite_disk::{Crash, Fuse, Memory};
+use sqlite::{Alter, Connection, FileStore, Files, Options};
+use sqlite_disk::{Crash, Disk, Fuse, Memory};
 use std::alloc::{AllocError, Global};
 use std::process::Abort;
 use std::test::Fail;
@@ -35,7 +39,7 @@ fn campaign(alloc: Global) -> Result<CleanFiles, AllocError> {
 }
 
 /// The outcome and the text of a run with this option.
-pub(crate) fn run<K: Keeper>(
+fn run<K: Keeper>(
     alloc: Global,
     slots: &str,
     keeper: &mut K,
@@ -49,11 +53,77 @@ pub(crate) fn run<K: Keeper>(
     Ok((outcome, out))
 }
 
+/// Runs the campaign over this keeper. Whether it was done, with its whole text; else the keeper has failed.
+fn finishes<K: Keeper>(
+    rt: &impl Abort,
+    alloc: Global,
+    slots: &str,
+    keeper: &mut K,
+) -> Result<bool, AllocError> {
+    let (outcome, out) = run(alloc, slots, keeper)?;
+    let is_done = matches!(&outcome, Outcome::Done);
+    assert!(rt; is_done || matches!(&outcome, Outcome::KeeperFault));
+    assert!(rt; !is_done || out.seen() == FINISHED.as_bytes());
+    Ok(is_done)
+}
+
+/// The database in these files; where it is not opened, the files.
+pub(crate) fn opened<D: Disk + Drop>(
+    rt: &impl Abort,
+    alloc: Global,
+    files: Files<D>,
+) -> Result<Connection<FileStore<D>>, Files<D>> {
+    assert!(rt; files.may_be_used());
+    match Connection::open_files(alloc, files, Options::new(7)) {
+        Ok(connection) => Ok(connection),
+        Err((_, left)) => Err(left.into_files()),
+    }
+}
+
+/// Runs the campaign over this database. Whether it was done, and the database.
+fn worked<S: Alter + Drop>(
+    rt: &impl Abort,
+    alloc: Global,
+    slots: &str,
+    connection: Connection<S>,
+) -> (Result<bool, AllocError>, Option<Connection<S>>) {
+    let mut keeper = SqlKeeper::adopt(alloc, Some(connection));
+    let is_done = finishes(rt, alloc, slots, &mut keeper);
+    (is_done, keeper.into_connection())
+}
+
+/// The files of this database, as they are.
+fn left_of<D: Disk + Drop>(
+    connection: Option<Connection<FileStore<D>>>,
+) -> Result<Files<D>, KeepError> {
+    match connection {
+        Some(connection) => Ok(connection.into_store().close()),
+        None => Err(KeepError::Fault),
+    }
+}
+
+/// Runs the campaign over these files, in so many slots as the option says. Whether it was done, with its whole text, and what is left of
+/// the files.
+pub(crate) fn run_over<D: Disk + Drop>(
+    rt: &impl Abort,
+    alloc: Global,
+    slots: &str,
+    files: Files<D>,
+) -> Result<(bool, Files<D>), Fail> {
+    let connection = match opened(rt, alloc, files) {
+        Ok(connection) => connection,
+        Err(left) => return Ok((false, left)),
+    };
+    let (is_done, connection) = worked(rt, alloc, slots, connection);
+    let left = left_of(connection)?;
+    Ok((is_done?, left))
+}
+
 /// A file in memory whose calls fail once so many were made.
 pub(crate) type Stopping = Fuse<Memory>;
 
 /// New files: the log and the database, each of which stops after so many calls.
-fn stopping_files(alloc: Global, log_calls: u64, db_calls: u64) -> Files<Stopping> {
+pub(crate) fn stopping_files(alloc: Global, log_calls: u64, db_calls: u64) -> Files<Stopping> {
     Files {
         log: Fuse::new(Memory::new(alloc), log_calls),
         db: Fuse::new(Memory::new(alloc), db_calls),
@@ -61,34 +131,22 @@ fn stopping_files(alloc: Global, log_calls: u64, db_calls: u64) -> Files<Stoppin
 }
 
 /// The files after a crash: what was not synced is lost, and the calls no longer stop.
-pub(crate) fn crashed(mut files: Files<Stopping>) -> Files<Stopping> {
+pub(crate) fn crashed<D: Crash>(mut files: Files<D>) -> Files<D> {
     files.log.crash();
     files.db.crash();
     files
 }
 
-/// Runs the campaign over these files, in so many slots as the option says. Whether it was done, with its whole text, and what is left of
-/// the files.
-pub(crate) fn run_over(
+/// Runs the campaign over the files after a crash, in so many slots as the option says, to its end. What is left of them.
+pub(crate) fn gone_on<D: Crash + Drop>(
     rt: &impl Abort,
     alloc: Global,
     slots: &str,
-    files: Files<Stopping>,
-) -> Result<(bool, Files<Stopping>), Fail> {
-    assert!(rt; files.may_be_used());
-    let connection = match Connection::open_files(alloc, files, Options::new(7)) {
-        Ok(connection) => connection,
-        Err((_, left)) => return Ok((false, left.into_files())),
-    };
-    let mut keeper = SqlKeeper::adopt(alloc, Some(connection));
-    let (outcome, out) = run(alloc, slots, &mut keeper)?;
-    let is_done = matches!(&outcome, Outcome::Done);
-    assert!(rt; is_done || matches!(&outcome, Outcome::KeeperFault));
-    assert!(rt; !is_done || out.seen() == FINISHED.as_bytes());
-    let Some(connection) = keeper.into_connection() else {
-        return Err(KeepError::Fault.into());
-    };
-    Ok((is_done, connection.into_store().close()))
+    files: Files<D>,
+) -> Result<Files<D>, Fail> {
+    let (is_done, left) = run_over(rt, alloc, slots, crashed(files))?;
+    assert!(rt; is_done);
+    Ok(left)
 }
 
 /// Stops a campaign's first run after so many calls of the log and of the database. After the crash the
@@ -101,10 +159,8 @@ fn stop_and_go_on(
 ) -> Result<bool, Fail> {
     let files = stopping_files(alloc, log_calls, db_calls);
     let (is_done, left) = run_over(rt, alloc, "-j3", files)?;
-    let (goes_on, left) = run_over(rt, alloc, "-j1", crashed(left))?;
-    assert!(rt; goes_on);
-    let (is_kept, _) = run_over(rt, alloc, "-j64", crashed(left))?;
-    assert!(rt; is_kept);
+    let left = gone_on(rt, alloc, "-j1", left)?;
+    drop(gone_on(rt, alloc, "-j64", left)?);
     Ok(is_done)
 }
 

@@ -1,11 +1,10 @@
 //! Campaigns over a database of the first format that stop in the midst of the migration to the second.
-use crate::tests::{MOST_CALLS, Stopping, crashed, run, run_over};
-use keeper_sqlite::SqlKeeper;
+use crate::tests::{MOST_CALLS, Stopping, crashed, gone_on, opened, run_over, stopping_files};
 use mcy_keeper::KeepError;
-use mcy_top::Outcome;
-use sqlite::{Connection, Files, Options};
-use sqlite_disk::{Fuse, Memory};
+use sqlite::Files;
+use sqlite_disk::{Disk, Fuse, Memory};
 use std::alloc::Global;
+use std::io;
 use std::process::Abort;
 use std::test::Fail;
 
@@ -17,6 +16,27 @@ const TO_FIRST: &str =
 const BOUNDED: &str =
     "SELECT count(*) FROM journal2 WHERE bound = 20000 AND (SELECT count(*) FROM journal) = 0 AND (SELECT body FROM meta WHERE item = 0) = x'32'";
 
+/// The database in these files made one of the first format. What is left of them.
+fn to_first<D: Disk + Drop>(
+    rt: &impl Abort,
+    alloc: Global,
+    files: Files<D>,
+) -> Result<Files<D>, KeepError> {
+    let Ok(mut connection) = opened(rt, alloc, files) else {
+        return Err(KeepError::Fault);
+    };
+    assert!(rt; connection.execute_batch(TO_FIRST).is_ok());
+    Ok(connection.into_store().close())
+}
+
+/// A file of the same bytes, which stops after so many calls.
+fn stopping_copy(alloc: Global, file: &Stopping, calls: u64) -> io::Result<Stopping> {
+    let mut copy = Memory::new(alloc);
+    copy.write_at(0, file.inner().bytes())?;
+    copy.sync()?;
+    Ok(Fuse::new(copy, calls))
+}
+
 /// The files of a finished campaign of the first format, each of which stops after so many calls.
 fn first_files(
     rt: &impl Abort,
@@ -24,38 +44,30 @@ fn first_files(
     log_calls: u64,
     db_calls: u64,
 ) -> Result<Files<Stopping>, Fail> {
-    let files = Files {
-        log: Memory::new(alloc),
-        db: Memory::new(alloc),
-    };
-    assert!(rt; files.may_be_used());
-    let Ok(connection) = Connection::open_files(alloc, files, Options::new(7)) else {
-        return Err(KeepError::Fault.into());
-    };
-    let mut keeper = SqlKeeper::adopt(alloc, Some(connection));
-    let (outcome, _) = run(alloc, "-j1", &mut keeper)?;
-    assert!(rt; matches!(&outcome, Outcome::Done));
-    let Some(mut connection) = keeper.into_connection() else {
-        return Err(KeepError::Fault.into());
-    };
-    assert!(rt; connection.execute_batch(TO_FIRST).is_ok());
-    let left = connection.into_store().close();
+    let files = stopping_files(alloc, u64::MAX, u64::MAX);
+    let (is_done, left) = run_over(rt, alloc, "-j1", files)?;
+    assert!(rt; is_done);
+    let first = to_first(rt, alloc, left)?;
     Ok(Files {
-        log: Fuse::new(left.log, log_calls),
-        db: Fuse::new(left.db, db_calls),
+        log: stopping_copy(alloc, &first.log, log_calls)?,
+        db: stopping_copy(alloc, &first.db, db_calls)?,
     })
 }
 
 /// How many rows of these files have the project's limit, in the second format.
-fn bounded_rows(rt: &impl Abort, alloc: Global, files: Files<Stopping>) -> Result<i64, Fail> {
-    assert!(rt; files.may_be_used());
-    let Ok(mut connection) = Connection::open_files(alloc, files, Options::new(7)) else {
-        return Err(KeepError::Fault.into());
+fn bounded_rows<D: Disk + Drop>(
+    rt: &impl Abort,
+    alloc: Global,
+    files: Files<D>,
+) -> Result<i64, KeepError> {
+    let Ok(mut connection) = opened(rt, alloc, files) else {
+        return Err(KeepError::Fault);
     };
-    match connection.query_row(BOUNDED, &[]) {
-        Ok(row) => Ok(row.get(0).unwrap_or(0)),
-        Err(_) => Ok(0),
-    }
+    let rows = match connection.query_row(BOUNDED, &[]) {
+        Ok(row) => row.get(0).unwrap_or(0),
+        Err(_) => 0,
+    };
+    Ok(rows)
 }
 
 /// Stops a run over a database of the first format after so many calls. After the crash the next run ends, with the text of the
@@ -68,8 +80,7 @@ fn stop_and_upgrade(
 ) -> Result<bool, Fail> {
     let files = first_files(rt, alloc, log_calls, db_calls)?;
     let (is_done, left) = run_over(rt, alloc, "-j1", files)?;
-    let (goes_on, left) = run_over(rt, alloc, "-j3", crashed(left))?;
-    assert!(rt; goes_on);
+    let left = gone_on(rt, alloc, "-j3", left)?;
     assert_eq!(rt; bounded_rows(rt, alloc, crashed(left))?, 3);
     Ok(is_done)
 }
