@@ -4,7 +4,9 @@
     tests/baseline_rows.py [FOLDER]      a part of the table of crates/mcy_cases
 
 `baseline` gives each bench the design in the mutants' place and tells its word, and the cycle in which it ends: 1 for what ends before
-the first one. No book is looked at, and none is changed. Where a bench does not pass, the call says so with its status, behind the text.
+the first one. No book is looked at, and none is changed. Where a bench does not pass, the call says so with its status, behind the text. With a
+line `baseline on` in [options] `init` and `run` say so behind the check of the book, and do nothing. With a line `cycles auto` the tests have ten
+times the cycles that the longest bench takes with the design, from 1 to 1,000,000, and `init` and `run` ask that each passes under 100,000.
 The bench of the saturating counter makes its last check behind the falling edge of cycle 261 (tests/simulation_rows.py). That one which
 ends at the first difference does so in the cycle of the check: the count I is looked at in cycle I + 2.
 """
@@ -17,6 +19,7 @@ from simulation_rows import BENCH, CYCLES, Both, both_project
 from slot_rows import SHORT
 
 LAST = 261
+ON, AUTO = "baseline on", "cycles auto"
 BAD = ["status 20", "mcy: baseline not passed"]
 WRITE = ["status 13", "mcy: write fault"]
 NO_BOOK = ["0 items, 0 mutations"]
@@ -24,9 +27,11 @@ BOTH = Both(CYCLES)
 BEGUN = ["> init", "status 0", "Sites: 550", "Mutations: 20", "25 bytes", *BOTH.rows(0)]
 
 
-def files(bench=BENCH, cycles=CYCLES):
-    """The counter's project with a bench."""
-    return ["new", both_project(cycles), f"hold sat.v {tilde(saturating.DESIGN)}", f"hold sat_tb.v {tilde(bench)}"]
+def files(bench=BENCH, cycles=CYCLES, option=None):
+    """The counter's project with a bench, and with a line more in [options] or another one for the cycles."""
+    line = f"cycles {cycles}~"
+    lines = {None: line, ON: f"{line}{ON}~", AUTO: f"{AUTO}~"}[option]
+    return ["new", both_project(cycles).replace(line, lines), f"hold sat.v {tilde(saturating.DESIGN)}", f"hold sat_tb.v {tilde(bench)}"]
 
 
 def other(bench, limit):
@@ -118,9 +123,90 @@ def refused_cases():
     ]
 
 
+def refusing(words, book=NO_BOOK):
+    return [f"> {words}", *BAD, *book]
+
+
+def on_cases():
+    """`baseline on`."""
+    failing = files(other(BENCH, 254), option=ON)
+    none = ["status 8", "mcy: no campaign", *NO_BOOK]
+    yield "# A project may ask that its benches pass with the design before anything is begun.", [*files(option=ON), "call init", "call run --stop-after 3", "call baseline", "call run"], (
+        [*BEGUN, *BOTH.run("run --stop-after 3", 3), *called([line("PASS", LAST)], ["status 0"], BOTH.rows(3)), *BOTH.run("run", 40)]
+    )
+    yield "# Where one does not pass, nothing is begun.", [*failing, *[f"call {words}" for words in ("init", "run", "status", "list", "source", "baseline", "run --stop-after 1")]], [
+        *refusing("init"), *refusing("run"), "> status", *none, "> list", *none, "> source", *none, *called([line("FAIL", LAST)], BAD), *refusing("run --stop-after 1"),
+    ]
+    fault = ["status 12", "mcy: database fault"]
+    changed = ["status 10", "mcy: database: meta 3", "kept", "sat_tb.v", *BENCH, "derived", "sat_tb.v", *other(BENCH, 254), *BOTH.rows(0)]
+    yield "# The book is looked at before.", (
+        [*files(option=ON), "call init", "forget", *failing[1:], "call run", "call init", *failing, "fail-keeper 0 0", "call run"]
+    ), [
+        *BEGUN, "> run", *changed, "> init", "status 9", "mcy: campaign already begun", *BOTH.rows(0), "> run", *fault, *NO_BOOK,
+    ]
+    none = ["> run --mutations 21", "status 22", "mcy: no mutation 21", *NO_BOOK]
+    yield "# So are the numbers of a run.", [*failing, "call run --mutations 21", "call run --mutations 20"], [*none, *refusing("run --mutations 20")]
+
+
+def waiting(front, more):
+    """A bench that is done at this falling edge where `y` is 1, and so many edges later where it is not."""
+    return (
+        "module tb; reg clk = 0; always #5 clk = !clk; wire y; g dut(.clk(clk), .a(1'b1), .b(1'b1), .y(y)); "
+        f"initial begin repeat ({front}) @(negedge clk); if (y) begin $display(\"PASS\"); $finish; end repeat ({more}) @(negedge clk); $finish; end endmodule"
+    )
+
+
+def waiting_project(*benches):
+    """The and gate with these benches, the first of which is asked, and the cycles by all."""
+    lines = ["[options]", "size 3", AUTO, "modes inv", "tags CHANGED NOCHANGE", "[script]", "read_verilog g.v", "prep -top g", "[files]", "g.v", "[logic]", *SCRIPT]
+    for number, _ in enumerate(benches):
+        lines += [f"[test bench{number}]", f"sim tb tb{number}.v", "pass PASS"]
+    design = "hold g.v module g(input clk, input a, input b, output y); assign y = a & b; endmodule"
+    return ["new", f"hold config.mcy {tilde(lines)}", design, *[f"hold tb{number}.v {bench}" for number, bench in enumerate(benches)]]
+
+
+SCRIPT = ['if result("bench0") == "PASS":', '    tag("NOCHANGE")', "else:", '    tag("CHANGED")']
+
+
+def waiting_run(word, benches=1):
+    """A run of it, in which each mutant has this word."""
+    text = ["Mutations: 3", "Finished: 3", f"Test bench0: PASS 0 FAIL {3 * (word == 1)} HANG {3 * (word == 2)}", *["Test bench1: PASS 0 FAIL 0 HANG 0"] * (benches - 1),
+            "Tag CHANGED: 3", "Tag NOCHANGE: 0", "Asserts: 0", "Unexpected: 0"]
+    return ["> run", "status 0", *written(text), f"{3 + benches} items, 3 mutations", *[f"{n} {n} 0 {word} 1 1 0" for n in range(3)]]
+
+
+def auto_cases():
+    """`cycles auto`."""
+    yield "# The cycles may be ten times those that the bench takes with the design.", [*files(option=AUTO), "call baseline", "call run"], [
+        *called([line("PASS", LAST)], ["status 0"]), *BOTH.run("run", 40),
+    ]
+    given, told = [], []
+    for front in (1, 3):
+        for more, word in ((9 * front, 1), (9 * front + 1, 2)):
+            given += [*waiting_project(waiting(front, more)), "call run"]
+            told += waiting_run(word)
+    yield "# What ends in the last of them has its word, and a cycle later it hangs.", given, told
+    given, told = [], []
+    for more, word in ((19, 1), (20, 2)):
+        given += [*waiting_project(waiting(1, more), waiting(2, 1)), "call run"]
+        told += waiting_run(word, 2)
+    yield "# The longest bench counts.", given, told
+    long = waiting(100000, 1), waiting(100001, 1)
+    begun = ["> init", "status 0", "Sites: 3", "Mutations: 3", "22 bytes", "4 items, 3 mutations"]
+    yield "# A bench may take 100,000 cycles with the design for that.", [*waiting_project(long[0]), "call init", *waiting_project(long[1]), "call init", "call run", "call baseline"], [
+        *begun, *refusing("init"), *refusing("run"), *called([line("HANG", 100000, "bench0")], BAD),
+    ]
+    failing, none = files(other(BENCH, 254), option=AUTO), ["status 8", "mcy: no campaign", *NO_BOOK]
+    yield "# Each has to pass.", [*failing, *[f"call {words}" for words in ("init", "run", "status", "list", "source")]], [
+        *refusing("init"), *refusing("run"), "> status", *none, "> list", *none, "> source", *none,
+    ]
+    gate = [GATE.new()[0], GATE.new()[1].replace("size 10~", f"size 10~{AUTO}~"), GATE.new()[2]]
+    yield "# Where no test is a bench there is none to ask.", [*gate, "call run"], GATE.called("run", GATE.status([1, 1, 1]), GATE.rows())
+
+
 def main():
     given, told = [], []
-    for head, lines, answers in [*word_cases(), *many_cases(), *book_cases(), *refused_cases()]:
+    for head, lines, answers in [*word_cases(), *many_cases(), *book_cases(), *refused_cases(), *on_cases(), *auto_cases()]:
         given += [head, *lines]
         told += [head, *answers]
     tables.save_part("mcy_cases", given, told)

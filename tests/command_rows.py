@@ -135,12 +135,20 @@ STRICT = [
     "status ''", "status --strict ''", "status --strict --", "status -- --strict", "status --strict --help", "status -h", "--strict status", "--strict", "init --strict", "run --strict", "list --strict",
     "source --strict", "demo --strict 7 1", "demo 7 1 --strict", "status --strict -j3", "status -j3 --strict", "status --stop-after 1 --strict",
 ]
+CHOSEN = [
+    *both(NAMES, ["1", "17,23", "23,17", "17,17", "10000", "0000000001,02", "1,2,3,4,5,6,7,8,9,10"]), "run -j3 --mutations 1,2", "run --mutations=1 --retry 9 --stop-after=7 -j=64",
+    *both(NAMES, ["0", "10001", "1,0", "1,10001", ",", "1,", ",1", "1,,2", "1;2", "1-2", "+1", "-1", "1x", "x", "4294967297", "00000000001", "1,00000000001", "''"]),
+    "run --mutations", "run --mutations=", "run --mutations 1 2", "run --mutations 1, 2", "run --mutations 1 ,2", "run --mutations 1 --mutations 2", "run --mutations 1 --mutations=1", "run --mutations --retry 9",
+    "run --retry --mutations 9", "run --mutation 1", "run --mutation=1", "run -m 1", "run --Mutations 1", "run 1,2", "--mutations 1 run", "init --mutations 1", "list --mutations 1", "status --mutations=1",
+    "source --mutations 1", "baseline --mutations 1", "demo 7 1 --mutations 1", "run -- --mutations 1", "run --mutations 1 --",
+]
 
 PARTS = [
     ("# Commands.", FIRST),
     ("# A run has from 1 to 64 slots, which stand at most once beside its other options.", SLOTS),
     ("# A retry takes a number from 1 to 100,000 whose digits behind the first two are 0, at most once.", RETRIES),
     ("# What benches say of the design is asked with no more words, and a strict status with one.", STRICT),
+    ("# A run may be over mutations that it names, each from 1 to 10,000, once or more.", CHOSEN),
     ("# A made project has a seed and from 1 to 400 cells, and no options.", DEMOS),
 ]
 

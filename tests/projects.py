@@ -63,6 +63,8 @@ eq
 MODES = ["inv", "const0", "const1", "cnot0", "cnot1"]
 BITS = {"PASS": 1, "FAIL": 2, "HANG": 4, "UNKNOWN": 8}
 NAME = re.compile(r"[A-Za-z_][A-Za-z0-9_]*\Z")
+# The name of an instance or of a generate block within the design.
+INNER = re.compile(r"[A-Za-z_][A-Za-z0-9_$\[\]-]*\Z")
 
 
 class Fault(Exception):
@@ -81,6 +83,13 @@ def lines_of(text):
 
 def is_number(word):
     return re.match(r"[0-9]+\Z", word) is not None
+
+
+def range_of(word):
+    """The parts of FILE:FROM-TO, or None."""
+    file, _, lines = word.rpartition(":")
+    front, _, back = lines.partition("-")
+    return (file, front, back) if file and is_number(front) and is_number(back) else None
 
 
 def is_within(word, least, most):
@@ -118,6 +127,16 @@ class Reader:
                     self.paths.setdefault(words[0].rsplit("/", 1)[-1], words[0])
                 break
         self.read = []
+        # What lines of [options] may speak of, wherever in the file it stands.
+        self.all_tags = next((words[1:] for _, words in self.words_in("options") if words[0] == "tags"), [])
+        self.all_design = [self.paths.get(a, a) for _, words in self.words_in("script") if words[0] == "read_verilog" for a in words[1:]]
+
+    def words_in(self, word):
+        """The lines that say something, as words, of the first section whose header begins with this word."""
+        for _, header, body in self.sections:
+            if header[:1] == [word]:
+                return list(self.said(body))
+        return []
 
     @staticmethod
     def said(body):
@@ -157,24 +176,47 @@ class Reader:
         self.missing(seen)
         return self.told()
 
+    def has_form(self, key, args):
+        if key in ("size", "seed", "conflicts"):
+            return len(args) == 1 and is_number(args[0])
+        if key == "cycles":
+            return len(args) == 1 and (is_number(args[0]) or args == ["auto"])
+        if key == "baseline":
+            return args == ["on"]
+        if key == "pick":
+            return args in (["plain"], ["even"])
+        if key == "require":
+            percent, tag, of, *tags = args + [""] * (4 - len(args))
+            named = NAME.match(tag) and all(NAME.match(a) for a in tags) and len(set(tags)) == len(tags)
+            return is_number(percent) and of == "of" and named and tag in self.all_tags and all(a in self.all_tags for a in tags)
+        if key == "only":
+            ranges = [range_of(a) for a in args]
+            return args and all(r and self.paths.get(r[0], r[0]) in self.all_design for r in ranges)
+        if key == "skip":
+            return args and all(all(INNER.match(part) for part in a.split(".")) for a in args)
+        known = {"tags": NAME.match, "modes": MODES.__contains__}
+        return args and all(known[key](a) for a in args)
+
+    @staticmethod
+    def has_range(key, args):
+        ranges = {"size": (1, 10000), "seed": (0, 2**64 - 1), "conflicts": (1, 100000), "cycles": (1, 1000000), "require": (1, 100)}
+        if key in ranges and args != ["auto"]:
+            return is_within(args[0], *ranges[key])
+        if key == "only":
+            ends = [range_of(a)[1:] for a in args]
+            return len(args) <= 64 and all(1 <= int(front) <= int(back) < 2**32 for front, back in ends)
+        return len(args) <= {"tags": 32, "skip": 64}.get(key, len(args))
+
     def section_options(self, body):
+        keys = ("size", "tags", "seed", "modes", "pick", "conflicts", "cycles", "baseline", "require", "only", "skip")
         for n, (key, *args) in self.said(body):
-            ranges = {"size": (1, 10000), "seed": (0, 2**64 - 1), "conflicts": (1, 100000), "cycles": (1, 1000000)}
-            if key in ranges:
-                good = len(args) == 1 and is_number(args[0])
-            elif key == "tags":
-                good = args and all(NAME.match(a) for a in args)
-            elif key == "modes":
-                good = args and all(a in MODES for a in args)
-            elif key == "pick":
-                good = args in (["plain"], ["even"])
-            else:
+            if key not in keys:
                 raise Fault(f"UnknownKey({n})")
-            if not good:
+            if not self.has_form(key, args):
                 raise Fault(f"BadLine({n})")
             if key in self.options:
                 raise Fault(f"Repeated({n})")
-            if key in ranges and not is_within(args[0], *ranges[key]) or key == "tags" and len(args) > 32:
+            if not self.has_range(key, args):
                 raise Fault(f"OutOfRange({n})")
             self.options[key] = args
 
@@ -259,9 +301,25 @@ class Reader:
             if "sim" in given and "pass" not in given:
                 raise Fault(f"Missing(Pass({k}))")
 
+    def rarer(self, texts):
+        """What the options say that few projects have."""
+        if self.options.get("cycles") == ["auto"]:
+            yield "auto"
+        if "baseline" in self.options:
+            yield "baseline"
+        if "require" in self.options:
+            percent, tag, _, *tags = self.options["require"]
+            yield f"require {int(percent)} {tag}{texts(tags)}"
+        for word in self.options.get("only", []):
+            file, front, back = range_of(word)
+            yield f"only {escaped(self.paths.get(file, file).encode())} {int(front)} {int(back)}"
+        if "skip" in self.options:
+            yield "skip" + texts(self.options["skip"])
+
     def told(self):
         def option(key, default):
-            return int(self.options[key][0]) if key in self.options else default
+            words = self.options.get(key, ["auto"])
+            return default if words == ["auto"] else int(words[0])
 
         def texts(items):
             return "".join(" " + escaped(item.encode()) for item in items)
@@ -277,6 +335,7 @@ class Reader:
             self.options.get("pick", ["plain"])[0],
             f"conflicts {option('conflicts', 20000)}",
             f"cycles {option('cycles', 100000)}",
+            *self.rarer(texts),
             "tags" + texts(self.options.get("tags", [])),
             "design" + texts(self.design),
             "top " + self.tops[0],
@@ -356,6 +415,20 @@ def rows():
         yield b"[options]\n" + line + b"\n" + AND_GATE.split(b"tags CHANGED NOCHANGE\n")[1]
     for line in [b"size 10", b"size 0", b"size x", b"tags A", b"modes inv", b"seed 3", b"pick even"]:
         yield with_line(with_line(AND_GATE, b"[options]", b"seed 2"), b"tags", line)
+    yield "baselines, requirements and places"
+    requirements = [b"90 CHANGED of CHANGED NOCHANGE", b"90 CHANGED of NOCHANGE", b"90 CHANGED of CHANGED CHANGED", b"90 CHANGED of", b"90 CHANGED CHANGED", b"90 of CHANGED", b"90 OTHER of CHANGED", b"90 CHANGED of OTHER", b"0 CHANGED of CHANGED", b"100 NOCHANGE of CHANGED", b"101 CHANGED of CHANGED", b"x CHANGED of CHANGED", b"090 CHANGED of CHANGED", b"90 CHANGED OF CHANGED", b"", b"0 OTHER of CHANGED"]
+    places = [b"g.v:1-3", b"g.v:3-3", b"g.v:3-1", b"g.v:0-3", b"g.v:1-4294967295", b"g.v:1-4294967296", b"g.v:1", b"g.v", b":1-3", b"h.v:1-3", b"g.v:1-3 g.v:5-7", b"g.v:1-3 h.v:1-3", b"g.v:a-3", b"g.v:1-", b"g.v:-3", b"g.v:1-3-5", b"", b" ".join([b"g.v:1-3"] * 64), b" ".join([b"g.v:1-3"] * 65), b"x:g.v:1-3"]
+    instances = [b"a", b"a.b", b"a.b c_1", b"a.", b".a", b"a..b", b"1a", b"a-b", b"lane[3].core", b"lane[-1].u$1.x", b"[3]", b"$a", b"-a", b"a,b", b"a:b", b"", b" ".join(b"i%d" % i for i in range(64)), b" ".join(b"i%d" % i for i in range(65))]
+    lines = [b"baseline on", b"baseline off", b"baseline", b"baseline on on", b"baseline On", b"cycles auto", b"cycles auto 3", b"cycles Auto", b"cycles 3 auto"]
+    lines += [b"require " + text for text in requirements] + [b"only " + text for text in places] + [b"skip " + text for text in instances]
+    for line in lines:
+        yield with_line(AND_GATE, b"[options]", line)
+        yield with_line(AND_GATE, b"tags", line)
+    for key in (b"baseline on", b"cycles auto", b"require 5 CHANGED of CHANGED", b"only g.v:1-2", b"skip a"):
+        yield with_line(with_line(AND_GATE, b"tags", key), b"modes", key)
+        yield with_line(with_line(AND_GATE, b"tags", key), b"modes", b"tags CHANGED")
+    for file in (b"g.v", b"rtl/g.v", b"h.v"):
+        yield with_line(replaced(AND_GATE, b"\ng.v\n", b"\nrtl/g.v\n"), b"tags", b"only " + file + b":1-3")
     yield "script"
     for line in [b"read_verilog", b"read_verilog a.v b.v g.v", b"read_verilog -sv g.v", b"read_verilog g.v -sv", b"prep", b"prep -top", b"prep -top g", b"prep -top h", b"prep g", b"prep -flatten", b"prep -flatten -top g", b"prep -top g -flatten", b"prep -top -flatten g", b"prep -flatten -top g -flatten", b"prep -top 9", b"prep -top g h", b"prep -top g -nordff", b"prep -top g -top g", b"hierarchy -top g", b"hierarchy -top h", b"hierarchy -top g -flatten", b"hierarchy -check", b"hierarchy", b"proc", b"opt -full", b"# opt", b"size 3"]:
         yield with_line(AND_GATE, b"[script]", line)

@@ -240,6 +240,36 @@ refuses 2 "$usage" "" status --strict --strict
 new_folder
 ends 0 "$finished" "" run
 
+# A run over mutations that it names: a number that none has is refused before anything is begun, and behind the check of the book.
+new_folder
+refuses 22 "mcy: no mutation 10" "./mcy.db ./mcy.db-wal " run --mutations 3,10,11
+refuses 8 "mcy: no campaign" "./mcy.db-wal " status
+ends 0 "$begun" "" run --mutations 9
+refuses 22 "mcy: no mutation 10" "./mcy.db-wal " run --mutations=10
+ends 0 "$begun" "" run --mutations 9,9
+ends 0 "$finished" "" run -j3
+refuses 2 "$usage" "" run --mutations 0
+refuses 2 "$usage" "" run --mutations 1,
+
+# What a project requires is asked once its campaign is finished, and told behind the same text.
+new_folder
+sed -i 's/^\[script\]/require 1 NOCHANGE of CHANGED NOCHANGE\n&/' config.mcy
+ends 1 "$begun" "" run --stop-after 1
+ends 0 "$begun" "" status
+ends 21 "$finished" "mcy: requirement missed" run
+ends 21 "$finished" "mcy: requirement missed" status
+ends 0 "$listed" "" list
+
+# A campaign over one line, and one over none that has a site, of which no database is opened.
+new_folder
+sed -i 's/^\[script\]/only g.v:3-3\n&/' config.mcy
+ends 0 "$(printf 'Sites: 9\nMutations: 3')" "" init
+ends 0 "$(sed -n 's/ \[.*/ [] !unfinished/; 4,6{s/^[0-9]*//; p}' <<<"$listed" | sed '=' | sed 'N; s/\n//')" "" list
+sed -i 's/^only .*/only g.v:5-5/' config.mcy
+refuses 5 "mcy: NoSites" "" run
+new_folder
+ends 0 "$finished" "" run
+
 # The rows of the database, by the stock shell, as `seq mutation test word mark tags` in the order of seq. Those of a database of
 # the first format are in `journal`.
 rows() {
@@ -511,9 +541,17 @@ sed -i 's/^cycles .*/cycles 1005/' config.mcy
 ends 20 "Test bench: HANG after 1005 cycles" "mcy: baseline not passed" baseline
 [ ! -e mcy.db ]
 case_is $? "nor does one that is not passed"
+sed -i 's/^cycles .*/&\nbaseline on/' config.mcy
+refuses 20 "mcy: baseline not passed" "./mcy.db ./mcy.db-wal " init
+refuses 20 "mcy: baseline not passed" "./mcy.db-wal " run
+refuses 8 "mcy: no campaign" "./mcy.db-wal " status
+sed -i 's/^cycles .*/cycles auto/' config.mcy
+"${as_user[@]}" timeout 60 "$mcy" run >"$room/text" 2>"$room/lines" </dev/null && [ "$(sed -n 2p "$room/text")" = "Finished: 60" ]
+case_is $? "a campaign whose bench has the cycles by that of the design is finished: $(cat "$room/lines")"
 
 # A campaign whose tests take turns, a bench and then an equality for what that does not notice. It has one text and one word for each test,
-# whatever the numbers of slots are, also where its calls are stopped and killed; the order of its rows goes by the slots.
+# whatever the numbers of slots are, also where its calls are over mutations that they name, stopped and killed; the order of its rows goes by
+# the slots and the mutations.
 slots_folder
 one_text=$("$mcy" run)
 [ "$(sed -n 2p <<<"$one_text")" = "Finished: 60" ]
@@ -538,11 +576,11 @@ if [ "$has_shell" = 1 ]; then
     for _ in $(seq "$times"); do
         slots_folder
         for _ in 1 2 3 4; do
-            if [ $((RANDOM % 2)) = 0 ]; then
-                killed_call run "-j$((RANDOM % 64 + 1))"
-            else
-                killed_call run -j "$((RANDOM % 4 + 1))" --stop-after $((RANDOM % 20 + 1))
-            fi
+            case $((RANDOM % 3)) in
+                0) killed_call run "-j$((RANDOM % 64 + 1))" ;;
+                1) killed_call run -j "$((RANDOM % 4 + 1))" --stop-after $((RANDOM % 20 + 1)) ;;
+                2) killed_call run "-j$((RANDOM % 8 + 1))" --mutations "$((RANDOM % 60 + 1)),$((RANDOM % 60 + 1)),$((RANDOM % 60 + 1))" ;;
+            esac
         done
         slots=$((RANDOM % 64 + 1))
         [ "$("$mcy" run -j=$slots 2>"$room/lines")" = "$one_text" ] && [ "$(row_words)" = "$one_words" ] && [ "$(sqlite3 mcy.db 'PRAGMA integrity_check')" = ok ] &&

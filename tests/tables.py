@@ -15,7 +15,7 @@ from pathlib import Path
 ROOT = Path(__file__).resolve().parent.parent
 MAKERS = ROOT / "tests"
 # Scripts there that make no table.
-OTHERS = ("dear", "gate_minutes", "tables")
+OTHERS = ("closure", "dear", "gate_minutes", "paths", "tables")
 
 
 def tables(crates):

@@ -130,6 +130,8 @@ CHANGES = (
     ("NoClock", "b.v", "  initial begin clk = 0; forever #1 clk = ~clk; end\n", "", "its bench has no clock"),
     ("NoTop", "config.mcy", "-top d", "-top none", "no module in the files"),
     ("BadLine", "config.mcy", "size 4", "size", "not the form of the line"),
+    ("BadLine", "config.mcy", "size 4", "require 90 C of A B", "names a tag or a file that there is not"),
+    ("NoSites", "config.mcy", "size 4", "only d.v:2-2", "mcy init without them tells how many"),
     ("UnknownKey", "config.mcy", "size 4", "\tsizes 4", "no line of this section"),
     ("Repeated", "config.mcy", "size 4", "size 4\nsize 4", "may stand once"),
     ("OutOfRange", "config.mcy", "size 4", "size 0", "out of its range"),
@@ -240,6 +242,7 @@ def check_calls(program, on_terminal):
         told_hint(program, on_terminal, ["status"], here, 8, ["no campaign"], "run or init begins one")
         assert on_terminal(program, ["init"], here)[0] == 0
         told_hint(program, on_terminal, ["init"], here, 9, ["campaign already begun"], "run goes on with it")
+        told_hint(program, on_terminal, ["run", "--mutations", "99"], here, 22, ["no mutation 99"], "list numbers the mutations")
         for place_in_book, (name, text) in enumerate(base.items(), 1):
             write(here, {name: text + "\n"})
             told_hint(program, on_terminal, ["run"], here, 10, [f"database: meta {place_in_book}"], f"mcy: {name} has changed")
@@ -249,6 +252,10 @@ def check_calls(program, on_terminal):
         os.remove(os.path.join(here, "d.v"))
         os.mkdir(os.path.join(here, "d.v"))
         told_hint(program, on_terminal, ["run"], here, 11, ["d.v: read fault"], "may not be read")
+    with tempfile.TemporaryDirectory() as here:
+        write(here, {**base, "config.mcy": CONFIG.replace("size 4", "size 4\nbaseline on").replace("pass OK", "pass NONE")})
+        for word in ("init", "run", "baseline"):
+            told_hint(program, on_terminal, [word], here, 20, ["baseline not passed"], "mcy baseline tells which")
     with tempfile.TemporaryDirectory() as here:
         write(here, {**base, "mcy.db": "no database\n" * 1000})
         lines = ["database fault", "mcy.db: another program's, or damaged"]

@@ -212,7 +212,8 @@ def next_lines(program, config, words):
         listed = subprocess.run([program, "list"], cwd=here, capture_output=True, timeout=60)
         piped = subprocess.run([program, "status"], cwd=here, capture_output=True, timeout=60)
         assert (piped.stdout, piped.stderr) == (told[1], b""), piped
-        return told[1].decode(), told[2].decode().replace("\r\n", "\n"), listed.stdout.decode()
+        passes = b"the design itself does not pass" not in ran[2]
+        return told[1].decode(), told[2].decode().replace("\r\n", "\n"), listed.stdout.decode(), passes
 
 
 def numbers(text, pattern):
@@ -221,22 +222,23 @@ def numbers(text, pattern):
 
 def check_next(program):
     """Behind a status: mutations to look at, those that have no tag for HANG, a bench that passes none, and what is not finished."""
-    text, told, listed = next_lines(program, COVERAGE, ["run"])
+    text, told, listed, passes = next_lines(program, COVERAGE, ["run"])
+    assert passes, "a bench that the design passes is told of"
     (gaps,) = numbers(text, r"Tag UNCOVERED: (\d+)")
     (hangs,) = numbers(text, r"HANG (\d+)")
     assert gaps > 0 and hangs > 0, text
     assert told == f"mcy: {gaps} UNCOVERED: mcy list | grep UNCOVERED\n", told
     assert sum("UNCOVERED" in line for line in listed.splitlines()) == gaps, listed
     # The same words where HANG is not expected.
-    text, told, _ = next_lines(program, COVERAGE + "expect PASS FAIL\n", ["run"])
+    text, told, *_ = next_lines(program, COVERAGE + "expect PASS FAIL\n", ["run"])
     assert numbers(text, r"Unexpected: (\d+)") == [hangs], text
     lost = f"mcy: {hangs} HANG have no tag: write HANG into expect, or leave expect out\n"
     assert told == f"mcy: {gaps} UNCOVERED: mcy list | grep UNCOVERED\n{lost}", told
     # A bench whose text never comes.
-    text, told, _ = next_lines(program, COVERAGE.replace("pass OK", "pass NONE"), ["run"])
-    assert "PASS 0" in text, text
+    text, told, _, passes = next_lines(program, COVERAGE.replace("pass OK", "pass NONE"), ["run"])
+    assert "PASS 0" in text and not passes, text
     assert told == "mcy: bench: PASS 0: mcy baseline tells whether the design itself passes it\n", told
-    text, told, _ = next_lines(program, COVERAGE.replace("pass OK", "pass NONE"), ["run", "--stop-after", "2"])
+    text, told, *_ = next_lines(program, COVERAGE.replace("pass OK", "pass NONE"), ["run", "--stop-after", "2"])
     (all_of_them,) = numbers(text, r"Mutations: (\d+)")
     assert told == f"mcy: {all_of_them - 2} unfinished: mcy run goes on with them\n", told
 

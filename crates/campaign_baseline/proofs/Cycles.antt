@@ -6,7 +6,7 @@ use Rattle.tb_turns.specs.declared.verdict.SimVerdict.{SimVerdict}
 use Rattle.tb_turns.specs.Reached.{phases_after}
 use Rattle.tb_runner.specs.Jobs.{new_job, Job, IsSameJob}
 use Rattle.tb_runner.specs.Simulated.{Simulated, Ends, GoesOn, Says}
-use Rattle.campaign_baseline.specs.Baselines.{EndsIn}
+use Rattle.campaign_run.specs.Baselines.{EndsIn}
 
 -- the phases behind a cycle
 pub one_more : (phases cycle : ℕ) → 1 ≤ cycle → max phases 1 ≡ phases_of (cycle - 1) → phases_after phases 1 ≡ phases_of cycle

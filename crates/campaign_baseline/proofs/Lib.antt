@@ -5,3 +5,4 @@ pub mod OneEnd
 pub mod OneList
 pub mod Runnable
 pub mod Words
+pub mod Limiting

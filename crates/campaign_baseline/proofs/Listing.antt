@@ -1,20 +1,14 @@
 -- One test more.
-use Rattle.std.proofs.Common.{◌≡◌, ◌∙◌, ◌<◌, ℕ, ◌+◌, length, get_or, subst, List, [], ◌∷◌, ◌++◌, slice_get, Option, Some, refl, sym, ap, add-one}
+use Rattle.std.proofs.Common.{◌≡◌, ◌∙◌, ℕ, ◌+◌, subst, List, [], ◌∷◌, ◌++◌, slice_get, Option, Some, refl, sym, ap, add-one}
 use Rattle.std.proofs.lemmas.List.{append-nil, map-append}
 use Rattle.std.proofs.lemmas.List.Elements.{All-push}
-use Rattle.std.proofs.lemmas.Option.{slice_get-get_or}
 use Rattle.tb_bench.specs.declared.parts.Parts.{Parts}
 use Rattle.tb_runner.specs.Simulated.{Says}
 use Rattle.campaign_plan.specs.declared.prepared.Prepared.{Prepared}
 use Rattle.campaign_plan.specs.declared.trial.Trial.{Trial}
 use Rattle.campaign_plan.specs.declared.trial.Trial.TheVariants.{Equality, Simulation}
-use Rattle.campaign_baseline.specs.declared.baseline.Baseline.{Baseline}
-use Rattle.campaign_baseline.specs.Baselines.{design_run, sim_at, sims_below, AreBaselines, EndsIn, IsBaseline}
-
--- the test that stands at a place
-pub test_at : (trials list : List Trial) (t : ℕ) (r x : Trial) → list ≡ trials → t < length trials → r ≡ get_or list t r → r ≡ x → slice_get trials t ≡ Some x
-test_at trials list t r x are below is same =
-    slice_get-get_or trials t r below ∙ ap (λ (y : Trial). Some y) (subst (λ (l : List Trial). get_or l t r ≡ r) are (sym is) ∙ same)
+use Rattle.campaign_run.specs.declared.baseline.Baseline.{Baseline}
+use Rattle.campaign_run.specs.Baselines.{design_run, sim_at, sims_below, AreBaselines, EndsIn, IsBaseline}
 
 -- what its bench says of the design is its baseline
 pub baseline_is : (c : Prepared) (limit t : ℕ) (b : Baseline) (bench : Parts) (pass fail p f : List ℕ) → slice_get c.trials t ≡ Some (Simulation bench pass fail) → b.test ≡ t → p ≡ pass → f ≡ fail → Says (design_run c bench) limit p f b.verdict → EndsIn (design_run c bench) limit b.cycles → IsBaseline c limit b

@@ -13,18 +13,17 @@ use Rattle.tb_bench.specs.Settings.{setting_of, start_of}
 use Rattle.tb_process.specs.Running.{generator}
 use Rattle.tb_turns.specs.declared.verdict.SimVerdict.{SimVerdict}
 use Rattle.tb_turns.specs.Verdicts.{IsVerdict, IsWord}
-use Rattle.campaign_plan.specs.Laws.{AreAlike}
 use Rattle.tb_runner.specs.Simulated.{Says, Simulated}
 use Rattle.tb_once.specs.Laws.{BenchesEndOnce, BenchesHaveOneOutcome}
 use Rattle.campaign_plan.specs.declared.prepared.Prepared.{Prepared}
 use Rattle.campaign_plan.specs.declared.trial.Trial.{Trial}
 use Rattle.campaign_plan.specs.declared.trial.Trial.TheVariants.{Equality, Simulation}
 use Rattle.campaign_plan.specs.Campaigns.{IsPlan}
-use Rattle.campaign_plan.specs.Laws.{IsSame, SameTests}
+use Rattle.campaign_plan.specs.Laws.{AreAlike, IsSame, SameTests}
 use Rattle.campaign_plan.proofs.Fitted.{plan_fits, plan_trials}
 use Rattle.campaign_plan.proofs.OneCampaign.{plan_once}
-use Rattle.campaign_baseline.specs.declared.baseline.Baseline.{Baseline}
-use Rattle.campaign_baseline.specs.Baselines.{design_run, sim_at, sims_below, EndsIn, IsBaseline}
+use Rattle.campaign_run.specs.declared.baseline.Baseline.{Baseline}
+use Rattle.campaign_run.specs.Baselines.{design_run, sim_at, sims_below, EndsIn, IsBaseline}
 use Rattle.campaign_baseline.specs.Laws.{BaselinesAreOne}
 use Rattle.campaign_baseline.proofs.OneEnd.{cycle_once, EndsAt, GoesOnOnce}
 use Rattle.campaign_baseline.proofs.Runnable.{plan_runs}
@@ -72,8 +71,8 @@ module _ (outcomes : BenchesHaveOneOutcome) (ends : BenchesEndOnce) where
       (word_once two.says.outcome pass fail x y (subst (λ (o : Outcome). IsWord o pass fail x) outcome one.says.word) two.says.word, cycle_once g start limit n m once one.takes two.takes)
 
   -- baselines of one test of campaigns that are the same but for parts of their benches
-  one_baseline : (d : Prepared) (trials : List Trial) (limit : ℕ) (x y : Baseline) → IsPlan d → SameTests (slice_get trials y.test) (slice_get d.trials y.test) → IsBaseline (record d { trials = trials }) limit x → IsBaseline d limit y → x.test ≡ y.test → x ≡ y
-  one_baseline d trials limit x y plan tests h k test =
+  one_baseline : (d : Prepared) (trials : List Trial) (cycles limit : ℕ) (x y : Baseline) → IsPlan d → SameTests (slice_get trials y.test) (slice_get d.trials y.test) → IsBaseline (record d { trials = trials; cycles = cycles }) limit x → IsBaseline d limit y → x.test ≡ y.test → x ≡ y
+  one_baseline d trials cycles limit x y plan tests h k test =
       let here : slice_get trials y.test ≡ Some (Simulation h.bench h.pass h.fail) = ap (λ (t : ℕ). slice_get trials t) (sym test) ∙ h.test in
       let same : SameTests (Some (Simulation h.bench h.pass h.fail)) (Some (Simulation k.bench k.pass k.fail)) = subst (λ (o : Option Trial). SameTests (Some (Simulation h.bench h.pass h.fail)) o) k.test (subst (λ (o : Option Trial). SameTests o (slice_get d.trials y.test)) here tests) in
       let says : Says (design_run d h.bench) limit k.pass k.fail x.verdict = subst (λ (f : List ℕ). Says (design_run d h.bench) limit k.pass f x.verdict) same.2 (subst (λ (p : List ℕ). Says (design_run d h.bench) limit p h.fail x.verdict) same.1 h.says) in
@@ -95,16 +94,16 @@ module _ (outcomes : BenchesHaveOneOutcome) (ends : BenchesEndOnce) where
   rest_of [] = []
   rest_of (n ∷ ns) = ns
 
-  one_list : (d : Prepared) (trials : List Trial) (limit : ℕ) (xs ys : List Baseline) → IsPlan d → ((t : ℕ) → SameTests (slice_get trials t) (slice_get d.trials t)) → All (IsBaseline (record d { trials = trials }) limit) xs → All (IsBaseline d limit) ys
+  one_list : (d : Prepared) (trials : List Trial) (cycles limit : ℕ) (xs ys : List Baseline) → IsPlan d → ((t : ℕ) → SameTests (slice_get trials t) (slice_get d.trials t)) → All (IsBaseline (record d { trials = trials; cycles = cycles }) limit) xs → All (IsBaseline d limit) ys
       → map (λ (b : Baseline). b.test) xs ≡ map (λ (b : Baseline). b.test) ys → xs ≡ ys
-  one_list d trials limit [] [] plan tests h k same = refl
-  one_list d trials limit [] (y ∷ ys) plan tests h k same = absurd (empty_is_not y.test (map (λ (b : Baseline). b.test) ys) same)
-  one_list d trials limit (x ∷ xs) [] plan tests h k same = absurd (empty_is_not x.test (map (λ (b : Baseline). b.test) xs) (sym same))
-  one_list d trials limit (x ∷ xs) (y ∷ ys) plan tests h k same =
+  one_list d trials cycles limit [] [] plan tests h k same = refl
+  one_list d trials cycles limit [] (y ∷ ys) plan tests h k same = absurd (empty_is_not y.test (map (λ (b : Baseline). b.test) ys) same)
+  one_list d trials cycles limit (x ∷ xs) [] plan tests h k same = absurd (empty_is_not x.test (map (λ (b : Baseline). b.test) xs) (sym same))
+  one_list d trials cycles limit (x ∷ xs) (y ∷ ys) plan tests h k same =
       let test : x.test ≡ y.test = ap first_of same in
       let rest : map (λ (b : Baseline). b.test) xs ≡ map (λ (b : Baseline). b.test) ys = ap rest_of same in
-      let first : x ≡ y = one_baseline d trials limit x y plan (tests y.test) (All-head (IsBaseline (record d { trials = trials }) limit) x xs h) (All-head (IsBaseline d limit) y ys k) test in
-      let others : xs ≡ ys = one_list d trials limit xs ys plan tests (All-tail (IsBaseline (record d { trials = trials }) limit) x xs h) (All-tail (IsBaseline d limit) y ys k) rest in
+      let first : x ≡ y = one_baseline d trials cycles limit x y plan (tests y.test) (All-head (IsBaseline (record d { trials = trials; cycles = cycles }) limit) x xs h) (All-head (IsBaseline d limit) y ys k) test in
+      let others : xs ≡ ys = one_list d trials cycles limit xs ys plan tests (All-tail (IsBaseline (record d { trials = trials; cycles = cycles }) limit) x xs h) (All-tail (IsBaseline d limit) y ys k) rest in
       λ i. first i ∷ others i
 
   -- the same tests are simulations
@@ -131,5 +130,5 @@ module _ (outcomes : BenchesHaveOneOutcome) (ends : BenchesEndOnce) where
       let kinds : length c.campaign.kinds ≡ length d.campaign.kinds = ap (λ (p : Prepared). length p.campaign.kinds) same.0 in
       let long : length c.trials ≡ length d.trials = sym (plan_trials c one) ∙ kinds ∙ plan_trials d two in
       let tests : sims_below c.trials (length c.trials) ≡ sims_below d.trials (length d.trials) = ap (λ (n : ℕ). sims_below c.trials n) long ∙ sims_same c.trials d.trials (length d.trials) same.1 in
-      let each : All (IsBaseline (record d { trials = c.trials }) limit) list = subst (λ (p : Prepared). All (IsBaseline p limit) list) same.0 are.each in
-      one_list d c.trials limit list others two same.1 each other_are.each (are.tests_are ∙ tests ∙ sym other_are.tests_are)
+      let each : All (IsBaseline (record d { trials = c.trials; cycles = c.cycles }) limit) list = subst (λ (p : Prepared). All (IsBaseline p limit) list) same.0 are.each in
+      one_list d c.trials c.cycles limit list others two same.1 each other_are.each (are.tests_are ∙ tests ∙ sym other_are.tests_are)

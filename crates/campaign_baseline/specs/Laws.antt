@@ -2,8 +2,8 @@
 use Rattle.std.specs.Prelude.{◌≡◌, ℕ, List, length}
 use Rattle.campaign_plan.specs.declared.prepared.Prepared.{Prepared}
 use Rattle.campaign_plan.specs.Campaigns.{IsPlan}
-use Rattle.campaign_baseline.specs.declared.baseline.Baseline.{Baseline}
-use Rattle.campaign_baseline.specs.Baselines.{AreBaselines}
+use Rattle.campaign_run.specs.declared.baseline.Baseline.{Baseline}
+use Rattle.campaign_run.specs.Baselines.{AreBaselines}
 
 -- Campaigns with the same meta, which has the project and its sources, have the same baselines under a limit: the tests, their words
 -- and the cycles.

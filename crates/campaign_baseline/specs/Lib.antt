@@ -1,3 +1,2 @@
-pub mod Baselines
 pub mod Lines
 pub mod Laws

@@ -2,7 +2,7 @@
 use Rattle.std.specs.Prelude.{ℕ, List, [], ◌∷◌, ◌++◌, codes, decimal, slice_index_or}
 use Rattle.tb_turns.specs.declared.verdict.SimVerdict.{SimVerdict}
 use Rattle.tb_turns.specs.declared.verdict.SimVerdict.TheVariants.{Pass, Fail, Hang}
-use Rattle.campaign_baseline.specs.declared.baseline.Baseline.{Baseline}
+use Rattle.campaign_run.specs.declared.baseline.Baseline.{Baseline}
 
 abbrev pub verdict_name : SimVerdict → List ℕ
 verdict_name Pass = codes "PASS"

@@ -1,8 +1,8 @@
 //! How many cycles a mutant may take, by the baselines.
 ghost use Rattle.std.specs.Prelude.{◌≡◌};
-ghost use Rattle.campaign_baseline.specs.Baselines as specs;
+ghost use Rattle.campaign_run.specs.Baselines as specs;
 
-use crate::baseline::Baseline;
+use campaign_run::Baseline;
 
 /// The most cycles that a project may say.
 const MAX_CYCLES: u32 = 1_000_000;

@@ -3,14 +3,18 @@ ghost use Rattle.std.specs.Prelude.{◌≡◌, ◌+◌, ◌<◌, IfOk, OnOk, len
 ghost use Rattle.tb_bench.specs.Runnable.{FitsDesign};
 ghost use Rattle.tb_runner.specs.Simulated.{Says};
 ghost use Rattle.campaign_plan.specs.Campaigns.{IsPlan};
-ghost use Rattle.campaign_baseline.specs.Baselines.{AreBaselines, EndsIn, design_run};
+ghost use Rattle.campaign_run.specs.Baselines.{AreBaselines, EndsIn, design_run};
+ghost use Rattle.campaign_run.specs.Limits.{baseline_limit, HasBaselines};
 
-use crate::baseline::Baseline;
 use campaign_plan::{Prepared, Trial};
+use campaign_run::Baseline;
 use netlist_core::Netlist;
 use std::alloc::{AllocError, Global};
 use tb_bench::Bench;
 use tb_runner::{SimJob, SimVerdict};
+
+/// The most cycles of the design itself where those of a mutant are to follow from them.
+const MOST_CYCLES: u32 = 100_000;
 
 /// What the bench prints as a word with the netlist at its instance, and the cycle in which it ends: simulated cycle by cycle.
 fn ended(
@@ -91,8 +95,8 @@ fn add_baseline(
     }
 }
 
-/// What the bench of each simulation test says of the design, under a limit of cycles, in the order of the tests.
-pub fn baselines(
+/// The same of all tests, under a limit of cycles.
+fn baselines_under(
     alloc: Global,
     prepared: &Prepared,
     limit: u32,
@@ -105,4 +109,23 @@ pub fn baselines(
         add_baseline(alloc, prepared, limit, test as u32, &mut list)?;
     }
     Ok(list)
+}
+
+/// The limit of cycles of the design itself.
+fn baseline_limit(prepared: &Prepared) -> u32
+    ensures { result ≡ baseline_limit prepared.now }
+{
+    if prepared.auto_cycles {
+        MOST_CYCLES
+    } else {
+        prepared.cycles
+    }
+}
+
+/// What the bench of each simulation test says of the design, in the order of the tests.
+pub fn baselines(alloc: Global, prepared: &Prepared) -> Result<Vec<Baseline>, AllocError>
+    requires { IsPlan prepared.now }
+    ensures { IfOk result (λ list. HasBaselines prepared.now list.items) }
+{
+    baselines_under(alloc, prepared, baseline_limit(prepared))
 }

@@ -1,9 +1,9 @@
 //! The baselines as text, and whether all pass.
 ghost use Rattle.std.specs.Prelude.{◌≡◌, ◌<◌, ◌++◌, ◌↔◌, All, IfOk, IsTrue, OnOk, length, string_bytes};
-ghost use Rattle.campaign_baseline.specs.Baselines.{AllPass};
+ghost use Rattle.campaign_run.specs.Baselines.{AllPass};
 ghost use Rattle.campaign_baseline.specs.Lines as lines;
 
-use crate::baseline::Baseline;
+use campaign_run::Baseline;
 use mcy_base::{Bytes, TextList};
 use std::alloc::{AllocError, Global};
 use tb_runner::SimVerdict;

@@ -1,12 +1,12 @@
 -- The sites of mutations are sites of the netlist, and no more than the project asks for.
-use Rattle.std.proofs.Common.{◌≡◌, ℕ, zero, suc, ◌≤◌, List, [], ◌∷◌, length, slice_get, Option, None, Some, refl, subst, arith}
+use Rattle.std.proofs.Common.{◌≡◌, Bool, ℕ, zero, suc, ◌≤◌, List, [], ◌∷◌, length, slice_get, Option, None, Some, refl, subst, arith}
 use Rattle.std.specs.List.{All, filter_map, cons_option}
 use Rattle.std.proofs.lemmas.List.Elements.{All-nil, All-cons, All-head, All-tail}
 use Rattle.netlist_core.specs.declared.raw.RawNetlist.{RawNetlist}
 use Rattle.project_file.specs.declared.project.Project.{Project}
 use Rattle.mutation_sites.specs.declared.site.Site.{Site}
 use Rattle.mutation_select.specs.Draws.{drawn, generator}
-use Rattle.mutation_select.specs.Selection.{selected}
+use Rattle.mutation_select.specs.Selection.{kept, selected}
 use Rattle.campaign_choice.specs.Mutations.{all_sites, pick_of, picked_sites}
 use Rattle.mutation_select.proofs.Within.{within_size}
 
@@ -34,16 +34,16 @@ length-found h (x ∷ xs) =
 -- Sites.
 
 -- no more sites are picked than the project asks for
-pub within-size : (project : Project) (netlist : RawNetlist) → length (picked_sites project netlist) ≤ project.size
+pub within-size : (project : Project) (omitted : List Bool) (netlist : RawNetlist) → length (picked_sites project omitted netlist) ≤ project.size
 unfolding picked_sites
-within-size project netlist =
+within-size project omitted netlist =
     let all : List Site = all_sites project netlist in
-    let numbers : List ℕ = selected (pick_of project.even) project.size (drawn netlist (generator project.word_seed) 0 all) in
+    let numbers : List ℕ = selected (pick_of project.even) project.size (kept omitted (drawn netlist (generator project.word_seed) 0 all)) in
     let found : length (filter_map (slice_get all) numbers) ≤ length numbers = length-found (slice_get all) numbers in
-    omega (arith, found, within_size (pick_of project.even) project.size netlist (generator project.word_seed) all)
+    omega (arith, found, within_size (pick_of project.even) project.size netlist (generator project.word_seed) all omitted)
 
 -- what holds at all sites holds at those that are picked
-pub All-picked : (P : Site → Type 0) (project : Project) (netlist : RawNetlist) → All P (all_sites project netlist) → All P (picked_sites project netlist)
+pub All-picked : (P : Site → Type 0) (project : Project) (omitted : List Bool) (netlist : RawNetlist) → All P (all_sites project netlist) → All P (picked_sites project omitted netlist)
 unfolding picked_sites
-All-picked P project netlist each =
-    All-found P (all_sites project netlist) (selected (pick_of project.even) project.size (drawn netlist (generator project.word_seed) 0 (all_sites project netlist))) each
+All-picked P project omitted netlist each =
+    All-found P (all_sites project netlist) (selected (pick_of project.even) project.size (kept omitted (drawn netlist (generator project.word_seed) 0 (all_sites project netlist)))) each

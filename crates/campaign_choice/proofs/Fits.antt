@@ -22,9 +22,8 @@ use Rattle.report_script.specs.Reading.{report_of}
 use Rattle.report_script.proofs.Fitting.{reads_fit as report_reads_fit}
 use Rattle.result_book.specs.Campaigns.{IsFit}
 use Rattle.campaign_choice.specs.Campaigns.{campaign_of, names_of}
-use Rattle.campaign_choice.specs.Mutations.{picked_sites, site_line}
+use Rattle.campaign_choice.specs.Mutations.{site_line}
 use Rattle.campaign_choice.specs.Projects.{HasScripts, kind_of, test_kinds, test_names}
-use Rattle.campaign_choice.proofs.Chosen.{within-size}
 
 -- the scripts of a project name only its tests and tags
 script_fit : (p : Project) (s : Script) (r : Report) → HasScripts p s r → script_fits (length (test_names p)) (length p.tags) s ≡ true
@@ -36,13 +35,12 @@ unfolding report_of
 report_fit p s r has = report_reads_fit (record { tags = p.tags; limit = first_too_many p.report }) (rows_of p.report) (Ok r) has.report
 
 -- so a book can keep its campaign
-pub campaign_fits : (config : List ℕ) (p : Project) (s : Script) (r : Report) (files : List SourceFile) (netlist : RawNetlist) → IsProject config p → HasScripts p s r → IsFit (campaign_of config p s r files netlist)
-campaign_fits config p s r files netlist says has =
-    let picked : List Site = picked_sites p netlist in
+pub campaign_fits : (config : List ℕ) (p : Project) (s : Script) (r : Report) (files : List SourceFile) (netlist : RawNetlist) (sites : List Site) → IsProject config p → HasScripts p s r → length sites ≤ p.size → IsFit (campaign_of config p s r files netlist sites)
+campaign_fits config p s r files netlist sites says has picked =
     let within = conflicts_within config p says in
-    let few : length picked ≤ 10000 = omega (arith, within-size p netlist, size_within config p says) in
-    let mutations : length (map (site_text netlist (names_of files)) picked) ≡ length picked = length-map picked (site_text netlist (names_of files)) in
-    let lines : length (map (site_line netlist) picked) ≡ length picked = length-map picked (site_line netlist) in
+    let few : length sites ≤ 10000 = omega (arith, picked, size_within config p says) in
+    let mutations : length (map (site_text netlist (names_of files)) sites) ≡ length sites = length-map sites (site_text netlist (names_of files)) in
+    let lines : length (map (site_line netlist) sites) ≡ length sites = length-map sites (site_line netlist) in
     let names : length (test_names p) ≡ length p.tests = length-map p.tests (λ (t : TestPlan). t.name) in
     let kinds : length (test_kinds p) ≡ length p.tests = length-map p.tests (λ (t : TestPlan). kind_of t.kind) in
     let expects : length (map (λ (t : TestPlan). t.expect) p.tests) ≡ length p.tests = length-map p.tests (λ (t : TestPlan). t.expect) in

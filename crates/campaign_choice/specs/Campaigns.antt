@@ -7,8 +7,9 @@ use Rattle.result_book.specs.declared.campaign.Campaign.{Campaign}
 use Rattle.tag_script.specs.declared.script.Script.{Script}
 use Rattle.report_script.specs.declared.report.Report.{Report}
 use Rattle.campaign_choice.specs.Projects.{test_kinds, test_names}
+use Rattle.mutation_sites.specs.declared.site.Site.{Site}
 use Rattle.mutation_sites.specs.SiteTexts.{site_text}
-use Rattle.campaign_choice.specs.Mutations.{picked_sites, site_line}
+use Rattle.campaign_choice.specs.Mutations.{site_line}
 
 -- what a book keeps of a file: its name and its bytes
 abbrev pub file_item : SourceFile → List ℕ
@@ -23,12 +24,12 @@ meta_of config files = codes "2" ∷ config ∷ map file_item files
 abbrev pub names_of : List SourceFile → List (List ℕ)
 names_of files = map (λ file. file.name) files
 
--- The campaign of a project and its sources. The sites that are picked are its mutations.
-abbrev pub campaign_of : List ℕ → Project → Script → Report → List SourceFile → RawNetlist → Campaign
-campaign_of config project script report files netlist = record {
+-- The campaign of a project and its sources, whose mutations are at these sites of the netlist.
+abbrev pub campaign_of : List ℕ → Project → Script → Report → List SourceFile → RawNetlist → List Site → Campaign
+campaign_of config project script report files netlist sites = record {
   meta = meta_of config files;
-  mutations = map (site_text netlist (names_of files)) (picked_sites project netlist);
-  lines = map (site_line netlist) (picked_sites project netlist);
+  mutations = map (site_text netlist (names_of files)) sites;
+  lines = map (site_line netlist) sites;
   test_names = test_names project;
   kinds = test_kinds project;
   expect = map (λ test. test.expect) project.tests;

@@ -11,7 +11,7 @@ use Rattle.mutation_sites.specs.Wiring.{span_at}
 use Rattle.mutation_select.specs.declared.pick.Pick.{Pick}
 use Rattle.mutation_select.specs.declared.pick.Pick.TheVariants.{Plain, Even}
 use Rattle.mutation_select.specs.Draws.{drawn, generator}
-use Rattle.mutation_select.specs.Selection.{selected}
+use Rattle.mutation_select.specs.Selection.{kept, selected}
 
 -- the modes that a project names
 abbrev pub mode_set : ModeFlags → ModeSet
@@ -26,10 +26,10 @@ pick_of false = Plain
 abbrev pub all_sites : Project → RawNetlist → List Site
 all_sites project netlist = sites (mode_set project.modes) netlist
 
--- the sites of its mutations, in their order
-unfoldable pub picked_sites : Project → RawNetlist → List Site
-picked_sites project netlist =
-    filter_map (slice_get (all_sites project netlist)) (selected (pick_of project.even) project.size (drawn netlist (generator project.word_seed) 0 (all_sites project netlist)))
+-- the sites of its mutations, in their order, where flags tell by their numbers which sites are left out
+unfoldable pub picked_sites : Project → (omitted : List Bool) → RawNetlist → List Site
+picked_sites project omitted netlist =
+    filter_map (slice_get (all_sites project netlist)) (selected (pick_of project.even) project.size (kept omitted (drawn netlist (generator project.word_seed) 0 (all_sites project netlist))))
 
 -- the file and the line of a site
 abbrev pub site_line : RawNetlist → Site → ℕ × ℕ

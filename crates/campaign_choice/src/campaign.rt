@@ -3,7 +3,7 @@ ghost use Rattle.std.specs.Prelude.{◌≡◌, All, IfOk, map};
 ghost use Rattle.mutation_sites.specs.Mutants.{IsSite};
 ghost use Rattle.mutation_sites.specs.SiteTexts.{site_text};
 ghost use Rattle.campaign_choice.specs.Campaigns.{campaign_of, file_item, meta_of, names_of};
-ghost use Rattle.campaign_choice.specs.Mutations.{picked_sites as sites_picked, site_line};
+ghost use Rattle.campaign_choice.specs.Mutations.{site_line};
 ghost use Rattle.campaign_choice.specs.Projects.{design_part, test_kinds as kinds_of_tests, test_names as names_of_tests};
 
 use crate::mutations::{site_lines, site_texts};
@@ -88,7 +88,7 @@ struct Lists {
     expect: NumberList,
 }
 
-/// These lists, of the sites that are picked of the netlist.
+/// These lists, of the sites of the netlist at which the mutations are.
 fn lists_of(
     alloc: Global,
     config: &[u8],
@@ -97,11 +97,10 @@ fn lists_of(
     netlist: &Netlist,
     sites: &[Site],
 ) -> Result<Lists, AllocError>
-    requires sites { sites.now ≡ sites_picked project.now netlist.now.raw }
-    requires placed { All (IsSite netlist.now.raw) sites.now }
+    requires { All (IsSite netlist.now.raw) sites.now }
     ensures meta { IfOk result (λ lists. lists.meta ≡ meta_of config.now files.now) }
-    ensures mutations { IfOk result (λ lists. lists.mutations ≡ map (site_text netlist.now.raw (names_of files.now)) (sites_picked project.now netlist.now.raw)) }
-    ensures lines { IfOk result (λ lists. lists.lines ≡ map (site_line netlist.now.raw) (sites_picked project.now netlist.now.raw)) }
+    ensures mutations { IfOk result (λ lists. lists.mutations ≡ map (site_text netlist.now.raw (names_of files.now)) sites.now) }
+    ensures lines { IfOk result (λ lists. lists.lines ≡ map (site_line netlist.now.raw) sites.now) }
     ensures test_names { IfOk result (λ lists. lists.test_names ≡ names_of_tests project.now) }
     ensures kinds { IfOk result (λ lists. lists.kinds ≡ kinds_of_tests project.now) }
     ensures expect { IfOk result (λ lists. lists.expect ≡ map (λ test. test.expect) project.now.tests) }
@@ -117,7 +116,7 @@ fn lists_of(
     })
 }
 
-/// What the book and the texts are made of: a project with its scripts, its sources and the sites that are picked of their netlist.
+/// What the book and the texts are made of: a project with its scripts, its sources and the sites of the mutations in their netlist.
 pub(crate) fn new_campaign(
     alloc: Global,
     config: &[u8],
@@ -126,9 +125,8 @@ pub(crate) fn new_campaign(
     netlist: &Netlist,
     sites: &[Site],
 ) -> Result<Campaign, AllocError>
-    requires sites { sites.now ≡ sites_picked taken.project netlist.now.raw }
-    requires placed { All (IsSite netlist.now.raw) sites.now }
-    ensures { IfOk result (λ campaign. campaign ≡ campaign_of config.now taken.project taken.script taken.report files.now netlist.now.raw) }
+    requires { All (IsSite netlist.now.raw) sites.now }
+    ensures { IfOk result (λ campaign. campaign ≡ campaign_of config.now taken.project taken.script taken.report files.now netlist.now.raw sites.now) }
 {
     let lists = lists_of(alloc, config, &taken.project, files, netlist, sites)?;
     let conflicts = taken.project.conflicts;

@@ -26,6 +26,7 @@ pub struct Choice {
 }
 
 /// The choice of a project with its scripts and its sources, from their netlist and all its sites in the modes of the project.
+/// `omitted` tells by their numbers which sites are left out.
 pub fn choose(
     alloc: Global,
     config: &[u8],
@@ -33,17 +34,18 @@ pub fn choose(
     files: &[SourceFile],
     netlist: &Netlist,
     all: &[Site],
+    omitted: &[bool],
 ) -> Result<Choice, AllocError>
     requires few { length all.now ≤ 4294967295 }
     requires all { all.now ≡ sites_at taken.project netlist.now.raw }
     requires placed { All (IsSite netlist.now.raw) all.now }
-    ensures campaign { IfOk result (λ choice. choice.campaign ≡ campaign_of config.now taken.project taken.script taken.report files.now netlist.now.raw) }
-    ensures sites { IfOk result (λ choice. choice.sites ≡ sites_picked taken.project netlist.now.raw) }
+    ensures campaign { IfOk result (λ choice. choice.campaign ≡ campaign_of config.now taken.project taken.script taken.report files.now netlist.now.raw choice.sites) }
+    ensures sites { IfOk result (λ choice. choice.sites ≡ sites_picked taken.project omitted.now netlist.now.raw) }
     ensures placed { IfOk result (λ choice. All (IsSite netlist.now.raw) choice.sites) }
     ensures files { IfOk result (λ choice. choice.files ≡ design_part taken.project files.now) }
 {
     let design = design_copies(alloc, &taken.project, files)?;
-    let sites = picked_sites(alloc, &taken.project, netlist, all)?;
+    let sites = picked_sites(alloc, &taken.project, netlist, all, omitted)?;
     let campaign = new_campaign(alloc, config, taken, files, netlist, &sites)?;
     Ok(Choice {
         campaign,

@@ -53,19 +53,21 @@ pub fn all_sites(
     sites(alloc, netlist, mode_set(project.modes))
 }
 
-/// The sites of a project's mutations, from those of its modes.
+/// The sites of a project's mutations, from those of its modes. `omitted` tells by their numbers which of these are left out.
 pub(crate) fn picked_sites(
     alloc: Global,
     project: &Project,
     netlist: &Netlist,
     all: &[Site],
+    omitted: &[bool],
 ) -> Result<Vec<Site>, AllocError>
     requires few { length all.now ≤ 4294967295 }
     requires all { all.now ≡ all_sites project.now netlist.now.raw }
-    ensures { IfOk result (λ list. list.items ≡ picked_sites project.now netlist.now.raw) }
+    ensures { IfOk result (λ list. list.items ≡ picked_sites project.now omitted.now netlist.now.raw) }
 {
     let pick = pick_of(project.even);
-    let numbers = select(alloc, netlist, all, project.size, project.word_seed, pick)?;
+    let seed = project.word_seed;
+    let numbers = select(alloc, netlist, all, project.size, seed, pick, omitted)?;
     numbered(alloc, all, &numbers)
 }
 

@@ -25,7 +25,7 @@ use std::marker::Model;
 /// A campaign whose tests are run in slots.
 pub struct Core<'a, T: Tester> {
     pub(crate) campaign: &'a Campaign,
-    pub(crate) goal: Goal,
+    pub(crate) goal: &'a Goal,
     pub(crate) tester: T,
     pub(crate) state: State,
     pub(crate) slots: Vec<Option<Seat<T::Job>>>,
@@ -56,17 +56,18 @@ impl<T: Tester + Drop> Drop for Core<'_, T> {
 impl<'a, T: Tester> Model for Core<'a, T> {
     ghost use Rattle.std.specs.Coded.{codes};
     ghost use Rattle.result_book.specs.contracts.campaign.Campaign as e;
+    ghost use Rattle.result_book.specs.contracts.goal.Goal as g;
     ghost use Rattle.campaign_core.specs.Turns.{Turns};
     ghost use Rattle.campaign_core.specs.Seats.{seen};
     ghost use Rattle.campaign_core.specs.Kept.{IsKept};
 
     ghost Value = { Turns T };
 
-    ghost coded = { Prim.hlevel (codes, e.the_row.coded) };
+    ghost coded = { Prim.hlevel (codes, e.the_row.coded, g.the_row.coded) };
 
-    ghost view = { λ c. record { campaign = c.campaign.now; goal = c.goal; tester = c.tester; state = c.state; slots = seen T.left c.slots.items; first = c.first; acknowledged = c.acknowledged; started = c.started; is_stopped = c.is_stopped } };
+    ghost view = { λ c. record { campaign = c.campaign.now; goal = c.goal.now; tester = c.tester; state = c.state; slots = seen T.left c.slots.items; first = c.first; acknowledged = c.acknowledged; started = c.started; is_stopped = c.is_stopped } };
 
-    ghost invariant = { λ c. IsKept (T.mutations c.tester) (T.kinds c.tester) (T.gives c.tester) (T.has c.tester) T.asked T.word c.slots.items c.waiting (record { campaign = c.campaign.now; goal = c.goal; tester = c.tester; state = c.state; slots = seen T.left c.slots.items; first = c.first; acknowledged = c.acknowledged; started = c.started; is_stopped = c.is_stopped }) };
+    ghost invariant = { λ c. IsKept (T.mutations c.tester) (T.kinds c.tester) (T.gives c.tester) (T.has c.tester) T.asked T.word c.slots.items c.waiting (record { campaign = c.campaign.now; goal = c.goal.now; tester = c.tester; state = c.state; slots = seen T.left c.slots.items; first = c.first; acknowledged = c.acknowledged; started = c.started; is_stopped = c.is_stopped }) };
 }
 
 /// What each mutation wants under the goal.
@@ -74,12 +75,12 @@ fn wants(
     alloc: Global,
     campaign: &Campaign,
     state: &State,
-    goal: Goal,
+    goal: &Goal,
 ) -> Result<Vec<Option<Want>>, AllocError>
     requires fit { IsFit campaign.now }
     requires state { IsStateOf campaign.now state.now.rows state.now }
-    requires goal { IsGoal goal }
-    ensures { IfOk result (λ wants. wants.items ≡ all_wanted campaign.now state.now.rows goal) }
+    requires goal { IsGoal goal.now }
+    ensures { IfOk result (λ wants. wants.items ≡ all_wanted campaign.now state.now.rows goal.now) }
 {
     let count = campaign.mutations.as_slice().len() as u32;
     let mut wants = Vec::new(alloc);
@@ -109,15 +110,15 @@ impl<'a, T: Tester + Drop> Core<'a, T> {
         state: State,
         tester: T,
         slots: u32,
-        goal: Goal,
+        goal: &'a Goal,
     ) -> Result<Core<'a, T>, AllocError>
         requires fit { IsFit campaign.now }
         requires state { IsStateOf campaign.now state.rows state }
         requires mutations { T.mutations tester ≡ length campaign.now.mutations }
         requires kinds { T.kinds tester ≡ campaign.now.kinds }
         requires slots { (1 ≤ slots) × (slots ≤ 64) }
-        requires goal { IsGoal goal }
-        ensures new { IfOk result (λ core. core ≡ begun campaign.now goal tester state slots) }
+        requires goal { IsGoal goal.now }
+        ensures new { IfOk result (λ core. core ≡ begun campaign.now goal.now tester state slots) }
         ensures order { IfOk result (λ core. IsUnderWay (T.gives core.tester) core) }
     {
         let mut state = state;

@@ -1,6 +1,7 @@
 -- A bench of a campaign fits its design, and each test has its place.
-use Rattle.std.proofs.Common.{◌≡◌, ℕ, zero, suc, List, [], ◌∷◌, length, slice_get, Some, refl, ap, subst, ◌∙◌}
+use Rattle.std.proofs.Common.{◌≡◌, ◌<◌, ℕ, zero, suc, List, [], ◌∷◌, length, get_or, slice_get, Some, refl, sym, ap, subst, ◌∙◌}
 use Rattle.std.proofs.lemmas.List.{length-map}
+use Rattle.std.proofs.lemmas.Option.{slice_get-get_or}
 use Rattle.netlist_core.specs.declared.raw.RawNetlist.{RawNetlist}
 use Rattle.tb_bench.specs.declared.parts.Parts.{Parts}
 use Rattle.tb_bench.specs.Runnable.{FitsDesign}
@@ -28,6 +29,11 @@ trials_fit r (test ∷ tests) (x ∷ xs) zero bench pass fail are at =
     let same : x ≡ Simulation bench pass fail = cc in
     trial_fits r test.kind bench pass fail (subst (λ trial. IsTrial r test.kind trial) same are.0)
 trials_fit r (test ∷ tests) (x ∷ xs) (suc t) bench pass fail are at = trials_fit r tests xs t bench pass fail are.1 at
+
+-- the test that stands at a place
+pub test_at : (trials list : List Trial) (t : ℕ) (r x : Trial) → list ≡ trials → t < length trials → r ≡ get_or list t r → r ≡ x → slice_get trials t ≡ Some x
+test_at trials list t r x are below is same =
+    slice_get-get_or trials t r below ∙ ap (λ (y : Trial). Some y) (subst (λ (l : List Trial). get_or l t r ≡ r) are (sym is) ∙ same)
 
 -- the bench of a campaign's test fits its design
 pub plan_fits : (c : Prepared) (t : ℕ) (bench : Parts) (pass fail : List ℕ) → IsPlan c → slice_get c.trials t ≡ Some (Simulation bench pass fail) → FitsDesign bench c.netlist

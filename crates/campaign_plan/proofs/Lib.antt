@@ -3,3 +3,4 @@ pub mod TrialLaws
 pub mod Plans
 pub mod Fitted
 pub mod OneCampaign
+pub mod Limits

@@ -18,7 +18,6 @@ use Rattle.mutation_sites.specs.Mutants.{IsSite}
 use Rattle.netlist_core.specs.Checked.{free_bits, net_bits}
 use Rattle.pair_gates.specs.Refusals.{max_free}
 use Rattle.pair_gates.specs.Weights.{design_gates, max_design_gates}
-use Rattle.campaign_choice.specs.Mutations.{picked_sites}
 use Rattle.project_file.specs.declared.project.TestPlan.{TestPlan}
 use Rattle.project_file.specs.declared.project.TestKind.{TestKind}
 use Rattle.project_file.specs.declared.project.TestKind.TheVariants.{Eq, Sim}
@@ -27,6 +26,7 @@ use Rattle.campaign_plan.specs.declared.trial.Trial.{Trial}
 use Rattle.campaign_plan.specs.declared.trial.Trial.TheVariants.{Equality, Simulation}
 use Rattle.campaign_plan.specs.Trials.{AreTrials, IsTrial, Reading}
 use Rattle.campaign_plan.specs.Laws.{code_of}
+use Rattle.campaign_choice.proofs.Chosen.{within-size}
 use Rattle.campaign_choice.proofs.Fits.{campaign_fits}
 use Rattle.campaign_choice.specs.Campaigns.{file_item, meta_of, names_of}
 use Rattle.campaign_plan.specs.Campaigns.{IsPlan}
@@ -76,11 +76,12 @@ plan_meta c plan = ap (λ (k : Campaign). k.meta) plan.made.campaign
 -- each mutation has its site
 pub plan_count : (c : Prepared) → IsPlan c → length c.campaign.mutations ≡ length c.sites
 plan_count c plan =
-    ap (λ (k : Campaign). length k.mutations) plan.made.campaign ∙ length-map (picked_sites plan.made.project c.netlist) (site_text c.netlist (names_of plan.files)) ∙ sym (ap length plan.made.places)
+    ap (λ (k : Campaign). length k.mutations) plan.made.campaign ∙ length-map c.sites (site_text c.netlist (names_of plan.files))
 
 pub plan_fit : (c : Prepared) → IsPlan c → IsFit c.campaign
 plan_fit c plan =
-    subst IsFit (sym plan.made.campaign) (campaign_fits plan.config plan.made.project plan.made.script plan.made.report plan.files c.netlist plan.made.says plan.made.scripts)
+    let few : length c.sites ≤ plan.made.project.size = omega (arith, ap length plan.made.places, within-size plan.made.project plan.made.omitted c.netlist) in
+    subst IsFit (sym plan.made.campaign) (campaign_fits plan.config plan.made.project plan.made.script plan.made.report plan.files c.netlist c.sites plan.made.says plan.made.scripts few)
 
 trial_kind : (r : Reading) (kind : TestKind) (trial : Trial) → IsTrial r kind trial → kind_of kind ≡ code_of trial
 trial_kind r Eq Equality is = refl

@@ -1,5 +1,5 @@
 -- Laws of campaigns: files are refused for one cause or make a campaign, that is one, and it can be kept and run.
-use Rattle.std.specs.Prelude.{◌≡◌, ℕ, ◌<◌, ◌≤◌, List, length, get_or, slice_get, Option, None, Some, ⊤}
+use Rattle.std.specs.Prelude.{◌≡◌, ℕ, ◌<◌, ◌≤◌, false, List, length, get_or, slice_get, Option, None, Some, ⊤}
 use Rattle.netlist_core.specs.Checked.{free_bits, net_bits}
 use Rattle.mutation_sites.specs.declared.site.Site.{Site}
 use Rattle.mutation_sites.specs.Mutants.{IsSite}
@@ -23,9 +23,10 @@ SameTests (Some Equality) (Some Equality) = ⊤
 SameTests (Some (Simulation a p f)) (Some (Simulation b q g)) = AreAlike a b × (p ≡ q) × (f ≡ g)
 SameTests x y = ⊥
 
--- campaigns that are the same but for parts of their benches, which are alike
+-- campaigns that are the same but for parts of their benches, which are alike, and for their limits of cycles where these follow from
+-- the benches
 abbrev pub IsSame : Prepared → Prepared → Type 0
-IsSame c d = (c ≡ record d { trials = c.trials }) × ((t : ℕ) → SameTests (slice_get c.trials t) (slice_get d.trials t))
+IsSame c d = (c ≡ record d { trials = c.trials; cycles = c.cycles }) × ((t : ℕ) → SameTests (slice_get c.trials t) (slice_get d.trials t)) × (c.auto_cycles ≡ false → c.cycles ≡ d.cycles)
 
 -- Campaigns with the same meta, which has the project and its sources, are the same.
 abbrev pub SourcesMakeOneCampaign : Type 0

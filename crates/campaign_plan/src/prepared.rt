@@ -2,10 +2,13 @@
 //!
 //! `campaign` is what the book and the texts are made of. Mutation n of it is `netlist` broken at site n of `sites`, which
 //! are picked of the `site_count` sites that there are.
+ghost use Rattle.std.specs.Prelude.{◌≡◌};
+
 use crate::trial::TrialList;
 use campaign_choice::SiteList;
 use mcy_base::FileList;
 use project_benches::CheckedNetlist;
+use project_file::Requirement;
 use result_book::Campaign;
 
 /// A campaign, and its sources with their netlist, how many sites that has, and those at which the mutations break it.
@@ -21,6 +24,11 @@ pub struct Prepared {
     pub word_seed: u64,
     /// The sources of the design in the order of reading.
     pub files: FileList,
+    /// What is required of the tags, if something is; and whether nothing is run where a bench does not pass with the design itself.
+    pub requirement: Option<Requirement>,
+    pub baseline: bool,
+    /// Whether `cycles` is to follow from those that the benches take with the design itself.
+    pub auto_cycles: bool,
 }
 
 impl Drop for Prepared {
@@ -34,6 +42,43 @@ impl Drop for Prepared {
             cycles: _,
             word_seed: _,
             files: _files,
+            requirement: _requirement,
+            baseline: _,
+            auto_cycles: _,
         } = self;
+    }
+}
+
+impl Prepared {
+    /// The same with this limit of cycles.
+    pub fn with_cycles(self, cycles: u32) -> Prepared
+        ensures { result ≡ record self { cycles = cycles } }
+    {
+        let Prepared {
+            campaign,
+            site_count,
+            sites,
+            netlist,
+            trials,
+            cycles: _,
+            word_seed,
+            files,
+            requirement,
+            baseline,
+            auto_cycles,
+        } = self;
+        Prepared {
+            campaign,
+            site_count,
+            sites,
+            netlist,
+            trials,
+            cycles,
+            word_seed,
+            files,
+            requirement,
+            baseline,
+            auto_cycles,
+        }
     }
 }

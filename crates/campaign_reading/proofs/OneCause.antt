@@ -165,7 +165,7 @@ sources_not held r q at some =
     let project : at.project ≡ r.project = project_same r.map at.project r.project at.got.before r.got.before in
     let files : at.files ≡ r.files = sources_same r.map at.project r.project at.files r.files at.got r.got in
     let bad : IsUntakenDesign r.project r.files q = subst (λ (p : Project). IsUntakenDesign p r.files q) project (subst (λ (fs : List SourceFile). IsUntakenDesign at.project fs q) files at.why) in
-    untaken_design_not r.project r.files r.netlist r.reading r.trials q r.design r.few r.is_reading r.benches some bad
+    untaken_design_not r.project r.files r.netlist r.reading r.trials q r.design r.few r.sites r.is_reading r.benches some bad
 
 -- what is accepted is not refused
 pub unmade_not : ReadableFilesAreTaken
@@ -188,6 +188,7 @@ readable_of map c made = record {
   netlist = c.netlist;
   design = record { modules = made.made.reading.modules; read = made.made.is_reading.read; design = made.made.design };
   few = made.made.few;
+  sites = record { omitted = made.made.omitted; left_out = made.made.left_out; some = made.made.some };
   reading = made.made.reading;
   is_reading = made.made.is_reading;
   trials = c.trials;

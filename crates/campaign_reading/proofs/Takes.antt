@@ -1,5 +1,5 @@
 -- Projects and their sources: each has one answer, and those that are taken have no other.
-use Rattle.std.proofs.Common.{◌≡◌, ◌≢◌, inl, inr, arith, ℕ, List, [], ◌∷◌, length, refl, sym, ap, subst, ◌∙◌, ◌⊎◌, Option, None, Some, Result, Ok, Err}
+use Rattle.std.proofs.Common.{◌≡◌, ◌≢◌, inl, inr, arith, Bool, true≢false, ℕ, List, [], ◌∷◌, length, refl, sym, ap, subst, ◌∙◌, ◌⊎◌, Option, None, Some, Result, Ok, Err}
 use Rattle.std.specs.Str.{IsUtf8}
 use Rattle.std.proofs.Math.Seq.{take-length}
 use Rattle.std.proofs.lemmas.Str.{utf8_valid_len-IsValidUpTo}
@@ -23,12 +23,14 @@ use Rattle.campaign_choice.specs.Projects.{design_part, HasScripts, IsScripted, 
 use Rattle.campaign_plan.specs.declared.prepared.Prepared.{Prepared}
 use Rattle.campaign_choice.specs.Campaigns.{names_of}
 use Rattle.campaign_reading.specs.Files.{config_name, Got, GotAll, IsMade}
-use Rattle.campaign_plan.specs.Campaigns.{IsPrepared}
+use Rattle.campaign_plan.specs.Campaigns.{IsPrepared, LeavesOut}
 use Rattle.campaign_choice.specs.Limits.{IsExcess}
-use Rattle.campaign_reading.specs.Reads.{GotSources, HasDesign, HasNoDesign, HasProject, IsNext, IsRead, IsRefusedAsLarge, IsSourceBad, IsTooLarge, IsUnmade, IsUnprepared, refused_as, IsUnscripted, IsUntaken, IsUntakenDesign}
+use Rattle.campaign_choice.specs.Omitted.{lacks_sites}
+use Rattle.campaign_reading.specs.Reads.{GotSources, HasDesign, HasNoBenches, HasNoDesign, HasNoSites, HasProject, HasSites, LacksSites, IsNext, IsRead, IsRefusedAsLarge, IsSourceBad, IsTooLarge, IsUnmade, IsUnprepared, refused_as, IsUnscripted, IsUntaken, IsUntakenDesign}
 use Rattle.campaign_plan.specs.declared.trial.Trial.{Trial}
 use Rattle.campaign_plan.specs.Trials.{AreTrials, IsReading, IsTrialFault, Reading}
 use Rattle.campaign_plan.proofs.Kept.{project_once}
+use Rattle.campaign_plan.proofs.OneCampaign.{leaves_once}
 use Rattle.campaign_plan.proofs.TrialLaws.{readings_are_one, trial_faults_are_one, trials_without_fault}
 use Rattle.vlog_syntax.specs.declared.module.Module.{Module}
 use Rattle.source_trees.specs.Files.{AreRead}
@@ -231,29 +233,63 @@ design_not_refused p files netlist e has h = netlist_without_fault (design_part 
 pub designs_are_one : (p : Project) (files : List SourceFile) (n m : RawNetlist) → HasDesign p files n → HasDesign p files m → n ≡ m
 designs_are_one p files n m h k = netlists_are_one (design_part p files) p.top n m h.design k.design
 
--- the files are refused for one cause of the four
-bad_once : (p : Project) (files : List SourceFile) (x y : SourceError) → IsSourceBad p files x → IsSourceBad p files y → x ≡ y
-bad_once p files x y (inl h) (inl k) = modules_bad_once files x y h k
-bad_once p files x y (inl h) (inr (inl k)) = absurd (read_not_bad files k.modules x k.read h)
-bad_once p files x y (inl h) (inr (inr (inl (n, has, large)))) = absurd (read_not_bad files has.modules x has.read h)
-bad_once p files x y (inl h) (inr (inr (inr k))) = absurd (read_not_bad files k.design.modules x k.design.read h)
-bad_once p files x y (inr (inl h)) (inl k) = absurd (read_not_bad files h.modules y h.read k)
-bad_once p files x y (inr (inl h)) (inr (inl k)) = faults_are_one (design_part p files) p.top x y h.refused k.refused
-bad_once p files x y (inr (inl h)) (inr (inr (inl (n, has, large)))) = absurd (design_not_refused p files n x has h)
-bad_once p files x y (inr (inl h)) (inr (inr (inr k))) = absurd (design_not_refused p files k.netlist x k.design h)
-bad_once p files x y (inr (inr (inl (n, has, large)))) (inl k) = absurd (read_not_bad files has.modules y has.read k)
-bad_once p files x y (inr (inr (inl (n, has, large)))) (inr (inl k)) = absurd (design_not_refused p files n y has k)
-bad_once p files x y (inr (inr (inl (n, has, large)))) (inr (inr (inl (m, also, bulky)))) =
-    large_once p n x y large (subst (λ netlist. IsTooLarge p netlist y) (designs_are_one p files m n also has) bulky)
-bad_once p files x y (inr (inr (inl (n, has, large)))) (inr (inr (inr k))) = absurd (large_not_few p n k.netlist x (designs_are_one p files n k.netlist has k.design) large k.few)
-bad_once p files x y (inr (inr (inr h))) (inl k) = absurd (read_not_bad files h.design.modules y h.design.read k)
-bad_once p files x y (inr (inr (inr h))) (inr (inl k)) = absurd (design_not_refused p files h.netlist y h.design k)
-bad_once p files x y (inr (inr (inr h))) (inr (inr (inl (m, also, bulky)))) = absurd (large_not_few p m h.netlist y (designs_are_one p files m h.netlist also h.design) bulky h.few)
-bad_once p files x y (inr (inr (inr h))) (inr (inr (inr k))) =
+-- Sites that are left, or not.
+
+left_same : (p : Project) (files : List SourceFile) (n m : RawNetlist) (omitted other : List Bool) → n ≡ m → LeavesOut p files n omitted → LeavesOut p files m other → omitted ≡ other
+left_same p files n m omitted other same h k = leaves_once p files m omitted other (subst (λ (netlist : RawNetlist). LeavesOut p files netlist omitted) same h) k
+
+lacking_not_left : (p : Project) (files : List SourceFile) (n m : RawNetlist) (e : SourceError) → n ≡ m → LacksSites p files n e → ¬ HasSites p files m
+lacking_not_left p files n m e same h k =
+    let flags : h.omitted ≡ k.omitted = left_same p files n m h.omitted k.omitted same h.left_out k.left_out in
+    absurd (true≢false (sym h.none ∙ ap lacks_sites flags ∙ k.some))
+
+lacking_once : (p : Project) (files : List SourceFile) (n m : RawNetlist) (x y : SourceError) → LacksSites p files n x → LacksSites p files m y → x ≡ y
+lacking_once p files n m x y h k = h.is ∙ sym k.is
+
+large_not_lacking : (p : Project) (files : List SourceFile) (n : RawNetlist) (x y : SourceError) → HasDesign p files n → IsTooLarge p n x → ¬ HasNoSites p files y
+large_not_lacking p files n x y has large k = large_not_few p n k.netlist x (designs_are_one p files n k.netlist has k.design) large k.few
+
+large_not_benchless : (p : Project) (files : List SourceFile) (n : RawNetlist) (x y : SourceError) → HasDesign p files n → IsTooLarge p n x → ¬ HasNoBenches p files y
+large_not_benchless p files n x y has large k = large_not_few p n k.netlist x (designs_are_one p files n k.netlist has k.design) large k.few
+
+lacking_not_benchless : (p : Project) (files : List SourceFile) (x y : SourceError) → HasNoSites p files x → ¬ HasNoBenches p files y
+lacking_not_benchless p files x y h k = lacking_not_left p files h.netlist k.netlist x (designs_are_one p files h.netlist k.netlist h.design k.design) h.lacks k.sites
+
+benches_bad_once : (p : Project) (files : List SourceFile) (x y : SourceError) → HasNoBenches p files x → HasNoBenches p files y → x ≡ y
+benches_bad_once p files x y h k =
     let netlist : k.netlist ≡ h.netlist = designs_are_one p files k.netlist h.netlist k.design h.design in
     let other : IsReading files (names_of files) p.top h.netlist k.reading = subst (λ n. IsReading files (names_of files) p.top n k.reading) netlist k.is_reading in
     let same : k.reading ≡ h.reading = readings_are_one files (names_of files) p.top h.netlist k.reading h.reading other h.is_reading in
     trial_faults_are_one h.reading 0 p.tests x y h.fault (subst (λ r. IsTrialFault r 0 p.tests y) same k.fault)
+
+-- the files are refused for one cause of the five
+bad_once : (p : Project) (files : List SourceFile) (x y : SourceError) → IsSourceBad p files x → IsSourceBad p files y → x ≡ y
+bad_once p files x y (inl h) (inl k) = modules_bad_once files x y h k
+bad_once p files x y (inl h) (inr (inl k)) = absurd (read_not_bad files k.modules x k.read h)
+bad_once p files x y (inl h) (inr (inr (inl (n, has, large)))) = absurd (read_not_bad files has.modules x has.read h)
+bad_once p files x y (inl h) (inr (inr (inr (inl k)))) = absurd (read_not_bad files k.design.modules x k.design.read h)
+bad_once p files x y (inl h) (inr (inr (inr (inr k)))) = absurd (read_not_bad files k.design.modules x k.design.read h)
+bad_once p files x y (inr (inl h)) (inl k) = absurd (read_not_bad files h.modules y h.read k)
+bad_once p files x y (inr (inl h)) (inr (inl k)) = faults_are_one (design_part p files) p.top x y h.refused k.refused
+bad_once p files x y (inr (inl h)) (inr (inr (inl (n, has, large)))) = absurd (design_not_refused p files n x has h)
+bad_once p files x y (inr (inl h)) (inr (inr (inr (inl k)))) = absurd (design_not_refused p files k.netlist x k.design h)
+bad_once p files x y (inr (inl h)) (inr (inr (inr (inr k)))) = absurd (design_not_refused p files k.netlist x k.design h)
+bad_once p files x y (inr (inr (inl (n, has, large)))) (inl k) = absurd (read_not_bad files has.modules y has.read k)
+bad_once p files x y (inr (inr (inl (n, has, large)))) (inr (inl k)) = absurd (design_not_refused p files n y has k)
+bad_once p files x y (inr (inr (inl (n, has, large)))) (inr (inr (inl (m, also, bulky)))) =
+    large_once p n x y large (subst (λ netlist. IsTooLarge p netlist y) (designs_are_one p files m n also has) bulky)
+bad_once p files x y (inr (inr (inl (n, has, large)))) (inr (inr (inr (inl k)))) = absurd (large_not_lacking p files n x y has large k)
+bad_once p files x y (inr (inr (inl (n, has, large)))) (inr (inr (inr (inr k)))) = absurd (large_not_benchless p files n x y has large k)
+bad_once p files x y (inr (inr (inr (inl h)))) (inl k) = absurd (read_not_bad files h.design.modules y h.design.read k)
+bad_once p files x y (inr (inr (inr (inl h)))) (inr (inl k)) = absurd (design_not_refused p files h.netlist y h.design k)
+bad_once p files x y (inr (inr (inr (inl h)))) (inr (inr (inl (m, also, bulky)))) = absurd (large_not_lacking p files m y x also bulky h)
+bad_once p files x y (inr (inr (inr (inl h)))) (inr (inr (inr (inl k)))) = lacking_once p files h.netlist k.netlist x y h.lacks k.lacks
+bad_once p files x y (inr (inr (inr (inl h)))) (inr (inr (inr (inr k)))) = absurd (lacking_not_benchless p files x y h k)
+bad_once p files x y (inr (inr (inr (inr h)))) (inl k) = absurd (read_not_bad files h.design.modules y h.design.read k)
+bad_once p files x y (inr (inr (inr (inr h)))) (inr (inl k)) = absurd (design_not_refused p files h.netlist y h.design k)
+bad_once p files x y (inr (inr (inr (inr h)))) (inr (inr (inl (m, also, bulky)))) = absurd (large_not_benchless p files m y x also bulky h)
+bad_once p files x y (inr (inr (inr (inr h)))) (inr (inr (inr (inl k)))) = absurd (lacking_not_benchless p files y x k h)
+bad_once p files x y (inr (inr (inr (inr h)))) (inr (inr (inr (inr k)))) = benches_bad_once p files x y h k
 
 -- the sources are refused for one thing,
 pub untaken_design_once : (p : Project) (files : List SourceFile) (r q : Refusal) → r ≢ Memory → q ≢ Memory → IsUntakenDesign p files r → IsUntakenDesign p files q → r ≡ q
@@ -264,19 +300,20 @@ untaken_design_once p files (SourceBad e) q m n h k = absurd k
 untaken_design_once p files r q m n h k = absurd h
 
 -- and those that are taken for none
-pub taken_not_bad : (p : Project) (files : List SourceFile) (netlist : RawNetlist) (r : Reading) (trials : List Trial) (e : SourceError) → HasDesign p files netlist → IsWithinLimits p netlist → IsReading files (names_of files) p.top netlist r → AreTrials r p.tests trials → ¬ IsSourceBad p files e
-taken_not_bad p files netlist r trials e has few reading benches (inl h) = read_not_bad files has.modules e has.read h
-taken_not_bad p files netlist r trials e has few reading benches (inr (inl h)) = design_not_refused p files netlist e has h
-taken_not_bad p files netlist r trials e has few reading benches (inr (inr (inl (n, also, large)))) = large_not_few p n netlist e (designs_are_one p files n netlist also has) large few
-taken_not_bad p files netlist r trials e has few reading benches (inr (inr (inr h))) =
+pub taken_not_bad : (p : Project) (files : List SourceFile) (netlist : RawNetlist) (r : Reading) (trials : List Trial) (e : SourceError) → HasDesign p files netlist → IsWithinLimits p netlist → HasSites p files netlist → IsReading files (names_of files) p.top netlist r → AreTrials r p.tests trials → ¬ IsSourceBad p files e
+taken_not_bad p files netlist r trials e has few sites reading benches (inl h) = read_not_bad files has.modules e has.read h
+taken_not_bad p files netlist r trials e has few sites reading benches (inr (inl h)) = design_not_refused p files netlist e has h
+taken_not_bad p files netlist r trials e has few sites reading benches (inr (inr (inl (n, also, large)))) = large_not_few p n netlist e (designs_are_one p files n netlist also has) large few
+taken_not_bad p files netlist r trials e has few sites reading benches (inr (inr (inr (inl h)))) = lacking_not_left p files h.netlist netlist e (designs_are_one p files h.netlist netlist h.design has) h.lacks sites
+taken_not_bad p files netlist r trials e has few sites reading benches (inr (inr (inr (inr h)))) =
     let other : IsReading files (names_of files) p.top netlist h.reading = subst (λ n. IsReading files (names_of files) p.top n h.reading) (designs_are_one p files h.netlist netlist h.design has) h.is_reading in
     let same : h.reading ≡ r = readings_are_one files (names_of files) p.top netlist h.reading r other reading in
     trials_without_fault r 0 p.tests trials e benches (subst (λ reading. IsTrialFault reading 0 p.tests e) same h.fault)
 
-pub untaken_design_not : (p : Project) (files : List SourceFile) (netlist : RawNetlist) (r : Reading) (trials : List Trial) (refusal : Refusal) → HasDesign p files netlist → IsWithinLimits p netlist → IsReading files (names_of files) p.top netlist r → AreTrials r p.tests trials → refusal ≢ Memory → ¬ IsUntakenDesign p files refusal
-untaken_design_not p files netlist r trials Memory has few reading benches some h = some refl
-untaken_design_not p files netlist r trials (SourceBad e) has few reading benches some h = taken_not_bad p files netlist r trials e has few reading benches h
-untaken_design_not p files netlist r trials refusal has few reading benches some h = absurd h
+pub untaken_design_not : (p : Project) (files : List SourceFile) (netlist : RawNetlist) (r : Reading) (trials : List Trial) (refusal : Refusal) → HasDesign p files netlist → IsWithinLimits p netlist → HasSites p files netlist → IsReading files (names_of files) p.top netlist r → AreTrials r p.tests trials → refusal ≢ Memory → ¬ IsUntakenDesign p files refusal
+untaken_design_not p files netlist r trials Memory has few sites reading benches some h = some refl
+untaken_design_not p files netlist r trials (SourceBad e) has few sites reading benches some h = taken_not_bad p files netlist r trials e has few sites reading benches h
+untaken_design_not p files netlist r trials refusal has few sites reading benches some h = absurd h
 
 -- A netlist that is too large is a fault of the sources,
 pub large_unprepared : (p : Project) (files : List SourceFile) (netlist : RawNetlist) (e : PrepareError) → HasDesign p files netlist → IsRefusedAsLarge p netlist e → IsUnprepared p files e

@@ -8,7 +8,7 @@ use Rattle.campaign_plan.specs.declared.trial.Trial.{Trial}
 use Rattle.campaign_choice.specs.Limits.{IsWithinLimits}
 use Rattle.campaign_plan.specs.Trials.{AreTrials, IsReading, Reading}
 use Rattle.campaign_choice.specs.Campaigns.{names_of}
-use Rattle.campaign_reading.specs.Reads.{GotSources, HasDesign}
+use Rattle.campaign_reading.specs.Reads.{GotSources, HasDesign, HasSites}
 
 -- the files tell what they hold, and it is a project with a design that is accepted
 pub record IsReadable (held : Option Held) : Type 0 where
@@ -20,6 +20,7 @@ pub record IsReadable (held : Option Held) : Type 0 where
   pub netlist : RawNetlist
   pub design : HasDesign project files netlist
   pub few : IsWithinLimits project netlist
+  pub sites : HasSites project files netlist
   pub reading : Reading
   pub is_reading : IsReading files (names_of files) project.top netlist reading
   pub trials : List Trial

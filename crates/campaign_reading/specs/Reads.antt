@@ -1,5 +1,5 @@
 -- What is read, in its order, and why the files make no campaign.
-use Rattle.std.specs.Prelude.{◌≡◌, ◌⊎◌, ℕ, List, [], ◌∷◌, map, ⊤, Option}
+use Rattle.std.specs.Prelude.{◌≡◌, ◌⊎◌, ℕ, Bool, true, false, List, [], ◌∷◌, map, ⊤, Option}
 use Rattle.mcy_base.specs.declared.file.SourceFile.{SourceFile}
 use Rattle.mcy_base.specs.declared.kind.Kind.{Kind}
 use Rattle.mcy_base.specs.Causes.{Rose}
@@ -8,7 +8,7 @@ use Rattle.project_file.specs.declared.project.Project.{Project}
 use Rattle.project_file.specs.Projects.{IsFault, IsProject}
 use Rattle.netlist_core.specs.declared.raw.RawNetlist.{RawNetlist}
 use Rattle.source_faults.specs.declared.fault.SourceError.{SourceError}
-use Rattle.source_faults.specs.Faults.{too_many}
+use Rattle.source_faults.specs.Faults.{no_sites, too_many}
 use Rattle.project_sources.specs.Netlists.{HasNetlist, HasNoModules, HasNoNetlist}
 use Rattle.vlog_syntax.specs.declared.module.Module.{Module}
 use Rattle.source_trees.specs.Files.{AreRead}
@@ -21,6 +21,8 @@ use Rattle.campaign_reading.specs.declared.refusal.Refusal.TheVariants.{ProjectB
 use Rattle.project_limits.specs.Files.{all_files}
 use Rattle.campaign_choice.specs.Projects.{design_part, IsScripted, IsScriptFault}
 use Rattle.campaign_choice.specs.Limits.{IsExcess, IsWithinLimits}
+use Rattle.campaign_choice.specs.Omitted.{lacks_sites}
+use Rattle.campaign_plan.specs.Campaigns.{LeavesOut}
 use Rattle.campaign_plan.specs.Trials.{IsReading, IsTrialFault, Reading}
 use Rattle.campaign_choice.specs.Campaigns.{names_of}
 use Rattle.campaign_reading.specs.Files.{config_name, Got, GotAll, Lacks, Exceeds}
@@ -80,22 +82,49 @@ pub record HasNoDesign (project : Project) (files : List SourceFile) (error : So
   pub read : AreRead files modules
   pub refused : HasNoNetlist (design_part project files) project.top error
 
--- a test has no bench for the design, which is not too large
+-- sites of the netlist are left, or it has none
+pub record HasSites (project : Project) (files : List SourceFile) (netlist : RawNetlist) : Type 0 where
+  pub omitted : List Bool
+  pub left_out : LeavesOut project files netlist omitted
+  pub some : lacks_sites omitted ≡ false
+
+-- the project leaves out all sites of the netlist
+pub record LacksSites (project : Project) (files : List SourceFile) (netlist : RawNetlist) (error : SourceError) : Type 0 where
+  pub omitted : List Bool
+  pub left_out : LeavesOut project files netlist omitted
+  pub none : lacks_sites omitted ≡ true
+  pub is : error ≡ no_sites
+
+-- as what it is refused for
+abbrev pub IsRefusedWithoutSites : Project → List SourceFile → RawNetlist → PrepareError → Type 0
+IsRefusedWithoutSites project files netlist (Unprepared error) = LacksSites project files netlist error
+IsRefusedWithoutSites project files netlist ShortOfMemory = ⊤
+
+-- the project leaves out all sites of the design, which is not too large
+pub record HasNoSites (project : Project) (files : List SourceFile) (error : SourceError) : Type 0 where
+  pub netlist : RawNetlist
+  pub design : HasDesign project files netlist
+  pub few : IsWithinLimits project netlist
+  pub lacks : LacksSites project files netlist error
+
+-- a test has no bench for the design, which is not too large and of which sites are left
 pub record HasNoBenches (project : Project) (files : List SourceFile) (error : SourceError) : Type 0 where
   pub netlist : RawNetlist
   pub design : HasDesign project files netlist
   pub few : IsWithinLimits project netlist
+  pub sites : HasSites project files netlist
   pub reading : Reading
   pub is_reading : IsReading files (names_of files) project.top netlist reading
   pub fault : IsTrialFault reading 0 project.tests error
 
--- What the files are refused for: they are no modules; those of the design have no netlist; they have one that is too large; or a
--- test has no bench.
+-- What the files are refused for: they are no modules; those of the design have no netlist; they have one that is too large; the
+-- project leaves out all its sites; or a test has no bench.
 abbrev pub IsSourceBad : Project → List SourceFile → SourceError → Type 0
 IsSourceBad project files error =
     HasNoModules files error
     ⊎ HasNoDesign project files error
     ⊎ ((netlist : RawNetlist) × HasDesign project files netlist × IsTooLarge project netlist error)
+    ⊎ HasNoSites project files error
     ⊎ HasNoBenches project files error
 
 -- why the project and these files make no campaign

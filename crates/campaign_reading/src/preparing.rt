@@ -1,8 +1,8 @@
 //! From a project and the bytes of its sources to their campaign.
 //!
 //! The sources are judged in this order: their files, their modules, the design's netlist, the limit on sites, where a test
-//! is an equality those on gates and on free bits, and then the benches of the tests.
-ghost use Rattle.std.specs.Prelude.{◌≡◌, ◌≤◌, List, length, All, IfOk, IfErr, OnOk};
+//! is an equality those on gates and on free bits, the sites that the project leaves, and then the benches of the tests.
+ghost use Rattle.std.specs.Prelude.{◌≡◌, ◌≤◌, false, List, length, All, IfOk, IfErr, OnOk};
 ghost use Rattle.mutation_sites.specs.Mutants.{IsSite};
 ghost use Rattle.project_file.specs.Projects.{IsProject};
 ghost use Rattle.project_limits.specs.Files.{all_files};
@@ -11,25 +11,26 @@ ghost use Rattle.vlog_syntax.specs.declared.module.Module.{Module as Tree};
 ghost use Rattle.project_sources.specs.Netlists.{HasNetlist};
 ghost use Rattle.campaign_choice.specs.Limits.{max_bytes, IsWithinLimits};
 ghost use Rattle.campaign_choice.specs.Mutations.{all_sites as sites_at};
+ghost use Rattle.campaign_choice.specs.Omitted.{lacks_sites as leaves_none};
 ghost use Rattle.campaign_choice.specs.Projects.{design_part, HasScripts};
 ghost use Rattle.campaign_plan.specs.Trials.{AreTrials, IsReading, Reading};
 ghost use Rattle.campaign_choice.specs.Campaigns.{names_of};
-ghost use Rattle.campaign_plan.specs.Campaigns.{IsPrepared};
-ghost use Rattle.campaign_reading.specs.Reads.{IsRefusedAsLarge, IsUnbenched, IsUnprepared};
+ghost use Rattle.campaign_plan.specs.Campaigns.{IsPrepared, LeavesOut};
+ghost use Rattle.campaign_reading.specs.Reads.{IsRefusedAsLarge, IsRefusedWithoutSites, IsUnbenched, IsUnprepared};
 
-use crate::making::make_campaign;
+use crate::making::{Judged, make_campaign};
 use crate::refusal::Refusal;
 use crate::trials;
-use campaign_choice::{Scripted, all_sites, design_part, excess};
+use campaign_choice::{Scripted, all_sites, design_part, excess, lacks_sites, omitted_sites};
 use campaign_plan::{Prepared, TrialList};
 use flat_items::top_of;
 use mcy_base::SourceFile;
 use mutation_sites::Site;
 use netlist_core::Netlist;
 use project_file::Project;
-use project_sources::{CheckedNetlist, NetlistError, read_netlist, read_sources};
+use project_sources::{CheckedNetlist, NetlistError, read_netlist, read_sources, skipped_cells};
 use report_script::Report;
-use source_faults::{SourceError, too_many};
+use source_faults::{SourceError, no_sites, too_many};
 use std::alloc::{AllocError, Global};
 use tag_script::Script;
 use vlog_syntax::Module;
@@ -118,20 +119,8 @@ pub(crate) fn prepare_scripted(
     ensures made { IfOk result (IsPrepared config.now sources.now) }
     ensures refused { IfErr result (IsUnprepared taken.project sources.now) }
 {
-    let Judged {
-        netlist,
-        sites,
-        trials,
-    } = judge(alloc, &taken.project, sources)?;
-    Ok(make_campaign(alloc, config, taken, sources, netlist, trials, &sites)?)
-}
-
-/// What the sources of a project give: the netlist of the design with all its sites, and the tests as they are run.
-#[derive(Drop)]
-struct Judged {
-    netlist: CheckedNetlist,
-    sites: Vec<Site>,
-    trials: TrialList,
+    let judged = judge(alloc, &taken.project, sources)?;
+    Ok(make_campaign(alloc, config, taken, sources, judged)?)
 }
 
 /// Judges the sources of a project.
@@ -143,16 +132,20 @@ fn judge(alloc: Global, project: &Project, sources: &[SourceFile]) -> Result<Jud
     ensures sites { IfOk result (λ judged. judged.sites.items ≡ sites_at project.now judged.netlist) }
     ensures placed { IfOk result (λ judged. All (IsSite judged.netlist) judged.sites.items) }
     ensures within { IfOk result (λ judged. IsWithinLimits project.now judged.netlist) }
+    ensures left_out { IfOk result (λ judged. LeavesOut project.now sources.now judged.netlist judged.omitted.items) }
+    ensures some { IfOk result (λ judged. leaves_none judged.omitted.items ≡ false) }
     ensures trials { IfOk result (λ judged. (r : Reading) × IsReading sources.now (names_of sources.now) project.now.top judged.netlist r × AreTrials r project.now.tests judged.trials) }
     ensures refused { IfErr result (IsUnprepared project.now sources.now) }
 {
     let modules = take_modules(alloc, project, sources)?;
     let netlist = take_netlist(alloc, project, sources)?;
     let all = take_sites(alloc, project, netlist.netlist())?;
+    let omitted = take_omitted(alloc, project, sources, netlist.netlist(), &all)?;
     let trials = take_trials(alloc, project, sources, &modules, netlist.netlist())?;
     Ok(Judged {
         netlist,
         sites: all,
+        omitted,
         trials,
     })
 }
@@ -232,4 +225,46 @@ fn take_sites(
         None => Ok(all_sites(alloc, project, netlist)?),
         Some(kind) => Err(PrepareError::Source(too_many(alloc, kind)?)),
     }
+}
+
+/// For each site of a netlist, whether the project leaves it out.
+fn left_out(
+    alloc: Global,
+    project: &Project,
+    files: &[SourceFile],
+    netlist: &Netlist,
+    all: &[Site],
+) -> Result<Vec<bool>, AllocError>
+    requires few { length files.now ≤ 65536 }
+    requires short { All (λ file. length file.bytes ≤ max_bytes) files.now }
+    requires sites { all.now ≡ sites_at project.now netlist.now.raw }
+    ensures { IfOk result (λ omitted. LeavesOut project.now files.now netlist.now.raw omitted.items) }
+{
+    let design = design_part(alloc, project, files)?;
+    let top = project.top.as_str();
+    let instances = project.skip.as_slice();
+    let skipped = skipped_cells(alloc, design, top, instances)?;
+    omitted_sites(alloc, project, &skipped, netlist, all)
+}
+
+/// The same, where it does not leave out all.
+fn take_omitted(
+    alloc: Global,
+    project: &Project,
+    files: &[SourceFile],
+    netlist: &Netlist,
+    all: &[Site],
+) -> Result<Vec<bool>, PrepareError>
+    requires few { length files.now ≤ 65536 }
+    requires short { All (λ file. length file.bytes ≤ max_bytes) files.now }
+    requires sites { all.now ≡ sites_at project.now netlist.now.raw }
+    ensures left_out { IfOk result (λ omitted. LeavesOut project.now files.now netlist.now.raw omitted.items) }
+    ensures some { IfOk result (λ omitted. leaves_none omitted.items ≡ false) }
+    ensures refused { IfErr result (IsRefusedWithoutSites project.now files.now netlist.now.raw) }
+{
+    let omitted = left_out(alloc, project, files, netlist, all)?;
+    if lacks_sites(&omitted) {
+        return Err(PrepareError::Source(no_sites(alloc)?));
+    }
+    Ok(omitted)
 }

@@ -1,5 +1,7 @@
 pub mod GivenUp
 pub mod Simulated
+pub mod Baselines
+pub mod Limits
 pub mod Rows
 pub mod Changes
 pub mod Crashes

@@ -12,17 +12,19 @@ use Rattle.tb_bench.specs.declared.parts.Parts.{Parts}
 use Rattle.step_trials.specs.Equal.{OneStepEqual, design, mutant}
 use Rattle.campaign_plan.specs.Campaigns.{IsPlan}
 use Rattle.netlist_core.specs.declared.raw.RawNetlist.{RawNetlist}
+use Rattle.campaign_run.specs.Limits.{HasItsLimit}
 use Rattle.campaign_run.specs.GivenUp.{HasAttempt, IsMutantAt}
 use Rattle.campaign_run.specs.Simulated.{IsSimulated}
 use Rattle.campaign_plan.specs.declared.trial.Trial.{Trial}
 use Rattle.campaign_plan.specs.declared.trial.Trial.TheVariants.{Equality, Simulation}
 
--- What a bench says of the mutant at a site: one that the same project and sources have for the test of this number. They all say the
--- same (proofs/Once).
-pub record IsSaid (c : Prepared) (t : ℕ) (site : Site) (word : ℕ) : Type 0 where
+-- What a bench says of the mutant at a site: one that the project and sources of this meta have for the test of this number, under their
+-- limit of cycles. They all say the same (`campaigns_are_one`).
+pub record IsSaid (meta : List (List ℕ)) (t : ℕ) (site : Site) (word : ℕ) : Type 0 where
   pub other : Prepared
   pub plan : IsPlan other
-  pub same : other.campaign.meta ≡ c.campaign.meta
+  pub limit : HasItsLimit other
+  pub same : other.campaign.meta ≡ meta
   pub bench : Parts
   pub pass : List ℕ
   pub fail : List ℕ
@@ -33,7 +35,7 @@ pub record IsSaid (c : Prepared) (t : ℕ) (site : Site) (word : ℕ) : Type 0 w
 -- and FAIL where it does not; that of a simulation is what its bench says of the mutant.
 abbrev pub IsTrueWordOf : Prepared → ℕ → Site → Trial → ℕ → Type 0
 IsTrueWordOf c t site Equality word = ((word ≡ word_code Pass) × OneStepEqual (design c.netlist) (mutant c.netlist site)) ⊎ ((word ≡ word_code Fail) × (¬ OneStepEqual (design c.netlist) (mutant c.netlist site)))
-IsTrueWordOf c t site (Simulation bench pass fail) word = IsSaid c t site word
+IsTrueWordOf c t site (Simulation bench pass fail) word = IsSaid c.campaign.meta t site word
 
 abbrev pub IsTrueWordAt : Prepared → ℕ → Option Site → Option Trial → ℕ → Type 0
 IsTrueWordAt c t (Some site) (Some trial) word = IsTrueWordOf c t site trial word

@@ -8,7 +8,7 @@ use crate::ready::Ready;
 use campaign_core::{Core, CoreError};
 use mcy_base::Steps;
 use mcy_keeper::{CleanKeeper, KeepError, Keeper};
-use result_book::{Campaign, Goal, State};
+use result_book::{Campaign, Goal, NumberList, State};
 use std::alloc::Global;
 use std::sync::ledger::{Blank, Ledger};
 
@@ -55,8 +55,9 @@ pub(crate) fn run<L: Ledger>(
         retry: 0,
         part: 0,
         parts: 1,
+        mutations: NumberList::from_vec(Vec::new(alloc)),
     };
-    let mut core = Core::new(alloc, campaign, state, tester, slots, goal)?;
+    let mut core = Core::new(alloc, campaign, state, tester, slots, &goal)?;
     core.run(stop, &mut keeper, &mut steps)?;
     Ok(Ran {
         started: core.started(),

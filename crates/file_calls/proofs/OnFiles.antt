@@ -35,6 +35,7 @@ module _ (words : List (List ℕ)) (held : Option Held) (holds : Book → Type 0
     found = λ was none. absurd none;
     allowed = only (Some life.loaded) life.allowed;
     work = life.work;
+    passes = life.passes;
   }
 
   pub lived_on : (new : Option Book → Type 0) (written written' : Option (List ℕ)) (outcome : Outcome)
@@ -49,6 +50,7 @@ module _ (words : List (List ℕ)) (held : Option Held) (holds : Book → Type 0
     on_book = ready.on_book;
     readable = ready.readable;
     takes = λ c book made left told. ready.takes c book made (only (Some book) left) (λ was none. absurd none);
+    passes = ready.passes;
   }
 
 -- Lists of calls.

@@ -5,4 +5,4 @@ mod call;
 pub mod laws;
 
 pub use call::call_on_file;
-pub use mcy_top::{Outcome, exit_status, fault_line};
+pub use mcy_top::{Outcome, exit_status, failing_baselines, fault_line};

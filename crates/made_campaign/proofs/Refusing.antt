@@ -1,5 +1,5 @@
 -- The texts of a made project are there, and none is too large: so only what they say is refused.
-use Rattle.std.proofs.Common.{◌≡◌, inl, inr, arith, ℕ, ◌^◌, ◌<◌, ◌≤◌, List, [], ◌∷◌, length, Option, None, Some, Result, Ok, Err, refl, sym, ap, subst, ◌∙◌}
+use Rattle.std.proofs.Common.{◌≡◌, inl, inr, arith, false, ℕ, ◌^◌, ◌<◌, ◌≤◌, List, [], ◌∷◌, length, Option, None, Some, Result, Ok, Err, refl, sym, ap, subst, ◌∙◌}
 use Rattle.std.specs.Prelude.{codes, IfErr}
 use Rattle.mcy_base.specs.Causes.{Rose}
 use Rattle.mcy_base.specs.declared.file.SourceFile.{SourceFile}
@@ -82,6 +82,9 @@ module _ (seed cells : ℕ) (small : seed < 2 ^ 64) (few : cells ≤ 400) where
   texts_of (Ok c) why cause = tt
   texts_of (Err refusal) why cause = of_texts refusal why cause
 
-  -- the limit of a made campaign
+  -- the limits of a made campaign
+  pub fixed_made : (c : Prepared) → IsMade (Some (made_held seed cells)) c → c.auto_cycles ≡ false
+  fixed_made c made = made.made.auto ∙ (read_project made.config made.made.project made.got_config made.made.says).auto
+
   pub limit_made : (c : Prepared) → IsMade (Some (made_held seed cells)) c → c.campaign.conflicts ≡ made_limit
   limit_made c made = ap (λ k. k.conflicts) made.made.campaign ∙ (read_project made.config made.made.project made.got_config made.made.says).conflicts

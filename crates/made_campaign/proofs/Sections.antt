@@ -1,4 +1,4 @@
--- What the project file of a seed says of the files of the project, and of the limit of its tests by equality.
+-- What the project file of a seed says of the files of the project, and of the limits of its tests.
 use Rattle.std.proofs.Common.{◌≡◌, ℕ, zero, suc, ◌<◌, ◌^◌, ◌==◌, ◌-◌, Bool, true, false, ◌&&◌, List, [], ◌∷◌, ◌++◌, take, Option, None, Some, refl, sym, ap, subst, ◌∙◌, if◌then◌else◌}
 use Rattle.std.specs.Prelude.{codes, drop, length, nat_lt, slice_index}
 use Rattle.std.specs.List.{suffix_len}
@@ -9,7 +9,7 @@ use Rattle.project_lines.specs.Sections.{find_part, is_test, lead, lines_in, Par
 use Rattle.project_lines.specs.Numbers.{is_digit, is_number, is_within, value, value_within}
 use Rattle.project_lines.specs.Paths.{find_path, gather, last_part, path_of, with_name, with_names}
 use Rattle.project_lines.specs.Scripts.{command_of, script_reads}
-use Rattle.project_file.specs.Options.{args_in, number_in}
+use Rattle.project_file.specs.Values.{args_in, is_auto_in, number_in}
 use Rattle.project_file.specs.Tests.{kind_in, plan_of, text_in}
 use Rattle.project_file.specs.Projects.{design_in, IsProject, project_of}
 use Rattle.project_limits.specs.Files.{all_files}
@@ -88,11 +88,12 @@ parts_are rest = parts_by (codes "[options]") (codes "size 100") (codes "seed " 
 -- What the sections say.
 pub record SaysMade (project : Project) : Type 0 where
   pub conflicts : project.conflicts ≡ made_limit
+  pub auto : project.auto_cycles ≡ false
   pub files : all_files project ≡ codes "d.v" ∷ codes "d_tb.v" ∷ []
 
 says_made : (rest : List ℕ) → SaysMade (project_of (made_parts rest))
-unfolding parts_of section_at lead header_of without_blanks_behind from_word is_blank find_part is_test lines_in tests_in find_line front_word behind_word is_said words is_digit is_number is_within value value_within find_path gather last_part path_of with_name with_names command_of script_reads args_in number_in kind_in plan_of text_in design_in project_of
-says_made rest = record { conflicts = refl; files = refl }
+unfolding parts_of section_at lead header_of without_blanks_behind from_word is_blank find_part is_test lines_in tests_in find_line front_word behind_word is_said words is_digit is_number is_within value value_within find_path gather last_part path_of with_name with_names command_of script_reads args_in number_in is_auto_in kind_in plan_of text_in design_in project_of
+says_made rest = record { conflicts = refl; auto = refl; files = refl }
 
 pub project_made : (seed : ℕ) (project : Project) → seed < 2 ^ 64 → IsProject (config_text seed) project → SaysMade project
 project_made seed project small is =

@@ -1,5 +1,5 @@
 //! The texts of a made project, read.
-ghost use Rattle.std.specs.Prelude.{◌≡◌, ◌≤◌, IfOk, IfErr, Some};
+ghost use Rattle.std.specs.Prelude.{◌≡◌, ◌≤◌, false, IfOk, IfErr, Some};
 ghost use Rattle.campaign_reading.specs.Files.{IsMade};
 ghost use Rattle.campaign_reading.specs.Reads.{IsUnmade};
 ghost use Rattle.made_campaign.specs.Made.{made_held, made_limit, IsOfTexts};
@@ -15,6 +15,7 @@ pub fn made_campaign(alloc: Global, seed: u64, cells: u32) -> Result<Prepared, R
     requires { cells ≤ 400 }
     ensures made { IfOk result (IsMade (Some (made_held seed cells))) }
     ensures limit { IfOk result (λ prepared. prepared.campaign.conflicts ≡ made_limit) }
+    ensures fixed { IfOk result (λ prepared. prepared.auto_cycles ≡ false) }
     ensures refused { IfErr result (IsUnmade (Some (made_held seed cells))) }
     ensures texts { IfErr result IsOfTexts }
 {

@@ -5,11 +5,12 @@
 //! `hint_text` where a refusal is, with a hint.
 #![tactic(auto)]
 
-use file_calls::{Outcome, call_on_file, exit_status, fault_line};
+use file_calls::{Outcome, call_on_file, exit_status, failing_baselines, fault_line};
 use keeper_file::{Database, close_keeper};
 use keeper_opening::DatabaseFault;
+use mcy_base::Bytes;
 use mcy_outside::{RealFiles, RealSink, Sink};
-use mcy_terminal::{Meter, asked_of, words_of};
+use mcy_terminal::{Look, Meter, asked_of, words_of};
 use outcome_hints::hint_text;
 use sqlite::{Start, Unknown};
 use std::io::{self, IsTerminal};
@@ -27,6 +28,19 @@ fn database_line(fault: DatabaseFault) -> &'static str {
     }
 }
 
+/// The benches that do not pass with the design itself, over the real files.
+#[derive(Drop)]
+struct Benches {
+    rt: HostRuntime,
+}
+
+impl Look for Benches {
+    fn lines(&mut self) -> Option<Bytes> {
+        let alloc = self.rt.alloc();
+        failing_baselines(alloc, &mut RealFiles::new(alloc, self.rt)).ok()
+    }
+}
+
 /// How a call has ended.
 #[derive(Drop)]
 struct Ended {
@@ -41,7 +55,7 @@ struct Ended {
 fn call_here<S: Start>(rt: HostRuntime, words: &[String], start: S) -> Ended {
     let alloc = rt.alloc();
     let asked = asked_of(alloc, words);
-    let meter = Meter::new(rt, alloc, rt.stderr().is_terminal(), asked);
+    let meter = Meter::new(rt, alloc, Benches { rt }, rt.stderr().is_terminal(), asked);
     let mut out = RealSink::new(rt.stdout());
     let mut files = RealFiles::new(alloc, rt);
     let database = Database::new(rt, DATABASE, start);

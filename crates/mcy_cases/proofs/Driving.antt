@@ -1,16 +1,13 @@
 -- A campaign that is begun in the empty book of a keeper, and a core over it.
-use Rattle.std.proofs.Common.{◌≡◌, ◌≢◌, ◌∙◌, ℕ, List, [], Option, Result, Ok, Err, sym, subst}
+use Rattle.std.proofs.Common.{◌≡◌, ◌≢◌, ◌∙◌, List, [], Option, Result, Ok, Err, sym, subst}
 use Rattle.std.specs.Prelude.{OnOk}
 use Rattle.mcy_keeper.specs.declared.book.Book.{Book}
 use Rattle.mcy_keeper.specs.declared.book.Entry.{Entry}
 use Rattle.mcy_keeper.specs.declared.keeper.KeepError.{KeepError}
 use Rattle.mcy_keeper.specs.Books.{begun as begun_book, Keeps}
 use Rattle.result_book.specs.declared.campaign.Campaign.{Campaign}
-use Rattle.result_book.specs.declared.goal.Goal.{Goal}
-use Rattle.result_book.specs.States.{Progress}
 use Rattle.campaign_core.specs.Running.{book_of}
 use Rattle.campaign_core.specs.Turns.{Turns}
-use Rattle.campaign_core.specs.UnderWay.{begun}
 use Rattle.campaign_plan.specs.declared.prepared.Prepared.{Prepared}
 use Rattle.campaign_plan.specs.Campaigns.{IsPlan}
 use Rattle.campaign_plan.proofs.Plans.{plan_meta}
@@ -26,7 +23,6 @@ begins_kept holds holds' leaves' (Ok done) c was held keeps = keeps was held
 begins_kept holds holds' leaves' (Err error) c was held keeps = tt
 
 -- and a new core over a state without rows has those of that book
-pub core_kept : {T : Type 0} (holds : Book → Type 0) (leaves : Option Book → Type 0) (c : Campaign) (goal : Goal) (tester : T) (state : Progress) (slots : ℕ) (s : Turns T) → s ≡ begun c goal tester state slots → state.rows ≡ []
-    → Keeps holds leaves (book_of c []) → Keeps holds leaves (book_of s.campaign s.state.rows)
-core_kept {T} holds leaves c goal tester state slots s is none kept =
-    subst (λ (t : Turns T). Keeps holds leaves (book_of t.campaign t.state.rows)) (sym is) (subst (λ (rows : List Entry). Keeps holds leaves (book_of c rows)) (sym none) kept)
+pub core_kept : {T : Type 0} (holds : Book → Type 0) (leaves : Option Book → Type 0) (c : Campaign) (s : Turns T) → s.campaign ≡ c → s.state.rows ≡ [] → Keeps holds leaves (book_of c []) → Keeps holds leaves (book_of s.campaign s.state.rows)
+core_kept {T} holds leaves c s campaign rows kept =
+    subst (λ (d : Campaign). Keeps holds leaves (book_of d s.state.rows)) (sym campaign) (subst (λ (rs : List Entry). Keeps holds leaves (book_of c rs)) (sym rows) kept)

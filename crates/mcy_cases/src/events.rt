@@ -1,10 +1,12 @@
 //! Campaigns that are driven by the events of a core, one after the other, beside the call.
-ghost use Rattle.std.specs.Prelude.{◌≡◌, ◌<◌, ◌≤◌, [], IsTrue, OnOk};
+ghost use Rattle.std.specs.Prelude.{◌≡◌, ◌<◌, ◌≤◌, [], IfSome, IsTrue, OnOk};
 ghost use Rattle.campaign_core.specs.Running.{book_of};
 ghost use Rattle.campaign_core.specs.UnderWay.{IsUnderWay};
+ghost use Rattle.campaign_run.specs.Limits.{IsTestable};
 ghost use Rattle.campaign_plan.specs.Campaigns.{IsPlan};
 ghost use Rattle.mcy_keeper.specs.Books.{Keeps};
 
+use campaign_baseline::cycle_limit;
 use campaign_core::{Core, CoreError, Tester};
 use campaign_plan::Prepared;
 use campaign_reading::read_campaign;
@@ -12,7 +14,7 @@ use mcy_base::Steps;
 use mcy_keeper::{KeepError, Keeper, MemoryKeeper};
 use mcy_outside::MemoryFiles;
 use project_tester::ProjectTester;
-use result_book::{Goal, State};
+use result_book::{Goal, NumberList, State};
 use std::alloc::Global;
 use std::marker::Brand;
 use std::sync::ledger::{Blank, Ledger};
@@ -55,7 +57,7 @@ fn run_prepared<K: Keeper, L: Ledger>(
     keeper: &mut K,
     blank: Blank,
 ) -> Result<(), CoreError>
-    requires plan { IsPlan prepared.now }
+    requires ready { IsTestable prepared.now }
     requires slots { (1 ≤ slots) × (slots ≤ 64) }
     requires name { blank.name ≡ L.name }
     requires parts { blank.parts ≡ L.parts }
@@ -68,14 +70,31 @@ fn run_prepared<K: Keeper, L: Ledger>(
         retry: 0,
         part: 0,
         parts: 1,
+        mutations: NumberList::from_vec(Vec::new(alloc)),
     };
-    let mut core = Core::new(alloc, &prepared.campaign, state, tester, slots, goal)?;
+    let mut core = Core::new(alloc, &prepared.campaign, state, tester, slots, &goal)?;
     let mut steps = Steps::<L>::open(blank);
     drive(&mut core, keeper, &mut steps)
 }
 
-/// Runs the campaign of these files whole over an empty keeper, in so many slots. Where they make none, or a core has not so many slots,
-/// nothing is run.
+/// The campaign of these files with its limit of cycles, if they make one that can be run.
+fn read_testable(alloc: Global, files: &mut MemoryFiles) -> Option<Prepared>
+    ensures { IfSome result IsTestable }
+{
+    let Ok(prepared) = read_campaign(alloc, files) else {
+        return None;
+    };
+    let Ok(found) = cycle_limit(alloc, &prepared) else {
+        return None;
+    };
+    match found {
+        Some(cycles) => Some(prepared.with_cycles(cycles)),
+        None => None,
+    }
+}
+
+/// Runs the campaign of these files whole over an empty keeper, in so many slots. Where they make none that can be run, or a core has not
+/// so many slots, nothing is run.
 pub(crate) fn run_by_events(
     alloc: Global,
     files: &mut MemoryFiles,
@@ -85,14 +104,14 @@ pub(crate) fn run_by_events(
     if slots == 0 || slots > 64 {
         return Ok(());
     }
-    match read_campaign(alloc, files) {
-        Ok(prepared) => run_prepared::<MemoryKeeper, Brand>(
+    match read_testable(alloc, files) {
+        Some(prepared) => run_prepared::<MemoryKeeper, Brand>(
             alloc,
             &prepared,
             slots,
             keeper,
             Blank::new(1),
         ),
-        Err(_) => Ok(()),
+        None => Ok(()),
     }
 }

@@ -3,6 +3,7 @@
 //! It is one line, which is written over itself and cleared after the last row, before the call writes its text. The cursor waits below
 //! it, so that a call which is cut off leaves a whole line. Behind the text lines tell what to do next (`next`). Nothing else depends on it:
 //! it is told of the rows that were added, reads the clock, and passes over what goes wrong with either, or want of memory.
+use crate::look::Look;
 use crate::marks::Marks;
 use crate::next::{project_of, tell_project, tell_unfinished, tell_unknown};
 use command_words::MutationNumbers;
@@ -12,6 +13,7 @@ use mcy_outside::SourceFiles;
 use std::alloc::Global;
 use std::io;
 use std::rt::Clock;
+use std::str::from_utf8;
 use std::time::{Duration, Instant};
 use watched_keeper::Watcher;
 
@@ -54,9 +56,11 @@ pub struct Asked {
 
 /// How far a campaign is.
 #[derive(Drop)]
-pub struct Meter<R> {
+pub struct Meter<R, L> {
     rt: R,
     alloc: Global,
+    /// Who tells which benches do not pass with the design itself.
+    look: L,
     /// Whether standard error is a terminal.
     is_shown: bool,
     asked: Asked,
@@ -74,12 +78,13 @@ fn millis(time: Duration) -> u64 {
     u64::try_from(time.as_millis()).unwrap_or(u64::MAX)
 }
 
-impl<R: Eprint + Clock> Meter<R> {
+impl<R: Eprint + Clock, L: Look> Meter<R, L> {
     /// A meter of a call with these words; it is shown where standard error is a terminal.
-    pub fn new(rt: R, alloc: Global, is_shown: bool, asked: Asked) -> Meter<R> {
+    pub fn new(rt: R, alloc: Global, look: L, is_shown: bool, asked: Asked) -> Meter<R, L> {
         Meter {
             rt,
             alloc,
+            look,
             is_shown,
             asked,
             mutations: 0,
@@ -110,6 +115,20 @@ impl<R: Eprint + Clock> Meter<R> {
         }
         self.mutations = mutations as u64;
         self.marks = Some(marks);
+    }
+
+    /// Tells which benches do not pass with the design itself, where there are such.
+    fn tell_benches(&mut self) {
+        if !self.is_shown {
+            return;
+        }
+        let Some(lines) = self.look.lines() else {
+            return;
+        };
+        let told = from_utf8(lines.as_slice()).unwrap_or("");
+        if !told.is_empty() {
+            let _written = eprint!(self.rt; "mcy: the design itself does not pass: {told}");
+        }
     }
 
     /// How many mutations are finished.
@@ -201,12 +220,13 @@ impl<R: Eprint + Clock> Meter<R> {
     }
 }
 
-impl<R: Eprint + Clock> Watcher for Meter<R> {
+impl<R: Eprint + Clock, L: Look> Watcher for Meter<R, L> {
     fn loaded(&mut self, book: &Book) {
         self.begin(book.mutations.as_slice().len(), book.journal.as_slice());
     }
 
     fn begun(&mut self, mutations: &BytesList) {
+        self.tell_benches();
         self.begin(mutations.as_slice().len(), &[]);
     }
 

@@ -1,57 +1,49 @@
 -- What a command aims at is a goal: its retry is under a limit, or it asks nothing again. Its slots are 1 to 64. And what is no demo works
 -- on the book.
-use Rattle.std.proofs.Common.{◌≡◌, ◌≢◌, ◌⊎◌, inl, inr, arith, ℕ, Bool, List, [], ◌∷◌, Option, None, Some, refl, sym, ap, subst, ◌∙◌}
-use Rattle.std.specs.Prelude.{option_and_then, option_map}
-use Rattle.result_book.specs.Goals.{IsGoal}
-use Rattle.command_words.specs.Commands.{asked_of, command_of as any_command_of}
+use Rattle.std.proofs.Common.{◌≡◌, ◌⊎◌, inl, inr, arith, ℕ, ◌%◌, Bool, true, List, [], Option, None, Some, refl, sym, ap, subst, ◌∙◌}
+use Rattle.std.specs.Prelude.{option_map}
+use Rattle.result_book.specs.Goals.{is_in, IsGoal}
+use Rattle.command_words.specs.Commands.{asked_of, command_of, mutations_of}
 use Rattle.command_words.specs.declared.asked.Asked.{Asked}
 use Rattle.command_words.specs.declared.command.Command.{Command}
 use Rattle.command_words.specs.declared.command.Command.TheVariants.{Init, Run, List as Listing, Status, Source, Baseline, Demo}
 use Rattle.command_words.proofs.Limits.{jobs_are_few, retry_is_limit}
-use Rattle.mcy_top.specs.Commands.{command_of, goal_of, run_goal, unnamed, AsksBaseline, AsksDemo, AsksNoDemo, HasSlots, OnBook, OnlyReads}
+use Rattle.mcy_top.specs.Commands.{aim_of, goal_of, retry_of, run_goal, AimsAtAll, AsksBaseline, AsksDemo, AsksNoDemo, HasSlots, OnBook, OnlyReads, Runs}
 
--- The command that is taken is the one that the words give.
+-- The command and the mutations that the words give.
 
-unnamed_is : (given : Command) (numbers : List ℕ) (command : Command) → unnamed given numbers ≡ Some command → Some given ≡ Some command
-unnamed_is given [] command is = is
-unnamed_is given (number ∷ more) command is = absurd (let never : None ≡ Some command = is in cc)
+pub given_is : (words : List (List ℕ)) (asked : Asked) → asked_of words ≡ Some asked → command_of words ≡ Some asked.command
+given_is words asked is = ap (option_map (λ (given : Asked). given.command)) is
 
-taken_is : (found : Option Asked) (command : Command) → option_and_then (λ (asked : Asked). unnamed asked.command asked.mutations) found ≡ Some command → option_map (λ (asked : Asked). asked.command) found ≡ Some command
-taken_is None command is = absurd (let never : None ≡ Some command = is in cc)
-taken_is (Some asked) command is = unnamed_is asked.command asked.mutations command is
+pub numbers_are : (words : List (List ℕ)) (asked : Asked) → asked_of words ≡ Some asked → mutations_of words ≡ asked.mutations
+numbers_are words asked is = rw (is, mutations_of) refl
 
-pub given_is : (words : List (List ℕ)) (command : Command) → command_of words ≡ Some command → any_command_of words ≡ Some command
-given_is words command is = taken_is (asked_of words) command is
+-- Where none is named, all are aimed at.
+pub in_all : (retry : Option ℕ) (m : ℕ) → is_in (run_goal retry []) m ≡ true
+in_all retry m = let rest : m % 1 ≡ 0 = omega arith in rw rest refl
 
--- and it is read so: the words are asked for something, with or without names of mutations
-named : (given : Command) (numbers : List ℕ) → numbers ≢ [] → unnamed given numbers ≡ None
-named given [] some = absurd (some refl)
-named given (number ∷ more) some = refl
+pub aims_at_all : (words : List (List ℕ)) (command : Command) → mutations_of words ≡ [] → AimsAtAll (aim_of words command)
+aims_at_all words command none m = subst (λ (numbers : List ℕ). is_in (goal_of command numbers) m ≡ true) (sym none) (in_all (retry_of command) m)
 
-pub read_plain : (words : List (List ℕ)) (asked : Asked) → Some asked ≡ asked_of words → asked.mutations ≡ [] → Some asked.command ≡ command_of words
-read_plain words asked is none = ap (unnamed asked.command) (sym none) ∙ ap (option_and_then (λ (given : Asked). unnamed given.command given.mutations)) is
+-- a command with such a number, or with none, aims at a goal
+pub none_again : (numbers : List ℕ) → IsGoal (run_goal None numbers)
+none_again numbers = record { some = omega arith; part = omega arith; retry = inl refl }
 
-pub read_named : (words : List (List ℕ)) (asked : Asked) → Some asked ≡ asked_of words → asked.mutations ≢ [] → None ≡ command_of words
-read_named words asked is some = sym (named asked.command asked.mutations some) ∙ ap (option_and_then (λ (given : Asked). unnamed given.command given.mutations)) is
-
-pub none_again : IsGoal (run_goal None)
-none_again = record { some = omega arith; part = omega arith; retry = inl refl }
-
--- the words of a command aim at a goal
-pub goal_is : (words : List (List ℕ)) (command : Command) → command_of words ≡ Some command → IsGoal (goal_of command)
-goal_is words Init is = none_again
-goal_is words (Run jobs stop None) is = none_again
-goal_is words (Run jobs stop (Some limit)) is = record { some = omega arith; part = omega arith; retry = inr (retry_is_limit words jobs stop limit (given_is words (Run jobs stop (Some limit)) is)) }
-goal_is words Listing is = none_again
-goal_is words (Status strict) is = none_again
-goal_is words Source is = none_again
-goal_is words Baseline is = none_again
-goal_is words (Demo seed cells) is = none_again
+-- the words of a command do
+pub goal_is : (words : List (List ℕ)) (command : Command) (numbers : List ℕ) → command_of words ≡ Some command → IsGoal (goal_of command numbers)
+goal_is words Init numbers is = none_again numbers
+goal_is words (Run jobs stop None) numbers is = none_again numbers
+goal_is words (Run jobs stop (Some limit)) numbers is = record { some = omega arith; part = omega arith; retry = inr (retry_is_limit words jobs stop limit is) }
+goal_is words Listing numbers is = none_again numbers
+goal_is words (Status strict) numbers is = none_again numbers
+goal_is words Source numbers is = none_again numbers
+goal_is words Baseline numbers is = none_again numbers
+goal_is words (Demo seed cells) numbers is = none_again numbers
 
 -- and have 1 to 64 slots
 pub slots_are : (words : List (List ℕ)) (command : Command) → command_of words ≡ Some command → HasSlots command
 slots_are words Init is = tt
-slots_are words (Run jobs stop retry) is = jobs_are_few words jobs stop retry (given_is words (Run jobs stop retry) is)
+slots_are words (Run jobs stop retry) is = jobs_are_few words jobs stop retry is
 slots_are words Listing is = tt
 slots_are words (Status strict) is = tt
 slots_are words Source is = tt
@@ -91,3 +83,14 @@ demo_is words a b seed cells P asked demo h =
 -- words that ask for the benches' words ask for no demo, and the other way round
 pub asks_no_baseline : (words : List (List ℕ)) (command : Command) → command_of words ≡ Some command → (command ≡ Baseline → ⊥) → ¬ AsksBaseline words
 asks_no_baseline words command asked none other = none (let is : Some command ≡ Some Baseline = sym asked ∙ other in cc)
+
+pub demo_no_baseline : (words : List (List ℕ)) (seed cells : ℕ) → AsksDemo words seed cells → ¬ AsksBaseline words
+demo_no_baseline words seed cells demo baseline = let never : Some (Demo seed cells) ≡ Some Baseline = sym demo ∙ baseline in cc
+
+-- a run runs tests
+pub run_runs : (command : Command) (jobs : ℕ) (stop retry : Option ℕ) → command ≡ Run jobs stop retry → Runs command
+run_runs command jobs stop retry is = subst Runs (sym is) tt
+
+-- and what holds of it under any number of that option holds of the command
+pub run_so : (command : Command) (jobs : ℕ) (stop retry : Option ℕ) (P : Command → Type 0) → command ≡ Run jobs stop retry → ((again : Option ℕ) → P (Run jobs stop again)) → P command
+run_so command jobs stop retry P is all = subst P (sym is) (all retry)

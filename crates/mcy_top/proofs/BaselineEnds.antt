@@ -15,13 +15,14 @@ use Rattle.campaign_reading.specs.declared.refusal.Refusal.{Refusal}
 use Rattle.campaign_reading.specs.declared.refusal.Refusal.TheVariants as r
 use Rattle.campaign_reading.specs.Files.{IsMade}
 use Rattle.campaign_reading.specs.Reads.{IsUnmade}
-use Rattle.campaign_baseline.specs.declared.baseline.Baseline.{Baseline}
-use Rattle.campaign_baseline.specs.Baselines.{AllPass, IsBaseline}
+use Rattle.campaign_run.specs.declared.baseline.Baseline.{Baseline}
+use Rattle.campaign_run.specs.Baselines.{AllPass, IsBaseline}
+use Rattle.campaign_run.specs.Limits.{baseline_limit, HasBaselines}
 use Rattle.campaign_outcomes.specs.declared.outcome.Outcome.{Outcome}
 use Rattle.campaign_outcomes.specs.declared.outcome.Outcome.TheVariants.{Done, BaselineBad, WriteFault, Memory}
-use Rattle.mcy_top.specs.declared.work.Ending.{Ending}
-use Rattle.mcy_top.specs.declared.work.Ending.TheVariants.{Written, Refused, NoMemory}
-use Rattle.mcy_top.specs.Baselines.{baseline_outcome, baselines_text, HasBaselines, TellsBaselines, ToldBaselines}
+use Rattle.mcy_top.specs.declared.ending.Ending.{Ending}
+use Rattle.mcy_top.specs.declared.ending.Ending.TheVariants.{Written, Refused, NoMemory}
+use Rattle.mcy_top.specs.Baselines.{baseline_outcome, baselines_text, TellsBaselines, ToldBaselines}
 use Rattle.mcy_top.specs.Endings.{ended_outcome, Delivers}
 use Rattle.mcy_top.specs.Life.{Answered, HasCause, IsAccepted, IsQuiet}
 use Rattle.mcy_top.specs.Outcomes.{outcome_of}
@@ -31,7 +32,7 @@ pub tests_have_names : (c : Prepared) (list read : List Baseline) → read ≡ l
 tests_have_names c list read same plan are =
     let names : length c.campaign.test_names ≡ length c.trials = (plan_fit c plan).names ∙ plan_trials c plan in
     subst (All (λ (b : Baseline). b.test < length c.campaign.test_names)) (sym same)
-    (All-weaker (IsBaseline c c.cycles) (λ (b : Baseline). b.test < length c.campaign.test_names)
+    (All-weaker (IsBaseline c (baseline_limit c)) (λ (b : Baseline). b.test < length c.campaign.test_names)
     (λ b is. subst (λ (n : ℕ). b.test < n) (sym names) (slice_get_within c.trials b.test (Simulation is.bench is.pass is.fail) is.test)) list are.each)
 
 -- what was asked of the list and written of it

@@ -1,5 +1,5 @@
 -- Baselines are told in one way, just where the files make a campaign.
-use Rattle.std.proofs.Common.{◌≡◌, ◌≢◌, ◌⊎◌, inl, inr, ℕ, List, Option, Some, length, refl, sym, ap, subst}
+use Rattle.std.proofs.Common.{◌≡◌, ◌≢◌, ◌⊎◌, inl, inr, ℕ, List, Option, Some, refl, sym, ap, subst}
 use Rattle.mcy_outside.specs.Written.{Appends}
 use Rattle.campaign_plan.specs.declared.prepared.Prepared.{Prepared}
 use Rattle.campaign_plan.specs.Campaigns.{IsPlan}
@@ -8,27 +8,23 @@ use Rattle.campaign_reading.specs.declared.refusal.Refusal.{Refusal}
 use Rattle.campaign_reading.specs.declared.refusal.Refusal.TheVariants as r
 use Rattle.campaign_reading.specs.Files.{IsMade}
 use Rattle.campaign_reading.specs.Reads.{IsUnmade}
-use Rattle.campaign_baseline.specs.declared.baseline.Baseline.{Baseline}
-use Rattle.campaign_baseline.specs.Baselines.{AllPass, AreBaselines}
+use Rattle.campaign_run.specs.declared.baseline.Baseline.{Baseline}
+use Rattle.campaign_run.specs.Baselines.{AllPass}
+use Rattle.campaign_baseline.proofs.Limiting.{lists_once}
 use Rattle.campaign_baseline.specs.Laws.{BaselinesAreOne}
 use Rattle.campaign_baseline.specs.Lines.{baseline_text}
+use Rattle.campaign_run.specs.Limits.{HasBaselines}
 use Rattle.campaign_outcomes.specs.declared.outcome.Outcome.{Outcome}
 use Rattle.campaign_outcomes.specs.declared.outcome.Outcome.TheVariants.{Done, BaselineBad, ProjectBad, ScriptBad, SourceBad, Missing, TooLarge, ReadFault, WriteFault, Memory}
 use Rattle.mcy_top.specs.BaselineLaws.{AreTold, BaselineBadIsExact, BaselineCallsAgree, BaselineRefusalsAreExact, BaselinesComplete, WroteTheSame}
-use Rattle.mcy_top.specs.Baselines.{baselines_text, HasBaselines, TellsBaselines, ToldBaselines}
+use Rattle.mcy_top.specs.Baselines.{baselines_text, TellsBaselines, ToldBaselines}
 use Rattle.mcy_top.specs.Exact.{IsCutShort}
 use Rattle.mcy_top.specs.Outcomes.{outcome_of}
 use Rattle.mcy_top.proofs.Exacting.{refused_not_made, refused_once}
 
 -- One text.
 
--- a project and its sources have one list of baselines
-lists_once : BaselinesAreOne → (c d : Prepared) (list others : List Baseline) → IsPlan c → IsPlan d → c.campaign.meta ≡ d.campaign.meta → HasBaselines c list → HasBaselines d others → list ≡ others
-lists_once one c d list others plan other meta are other_are =
-    let cycles : c.cycles ≡ d.cycles = ap (λ (p : Prepared). p.cycles) (plan_once c d plan other meta).0 in
-    one c d d.cycles list others plan other meta (subst (λ (n : ℕ). AreBaselines c n (length c.trials) list) cycles are) other_are
-
--- and one text
+-- a project and its sources have one text
 same_wrote : BaselinesAreOne → (c d : Prepared) (list others : List Baseline) (before now before' now' : Option (List ℕ)) → IsPlan c → IsPlan d → c.campaign.meta ≡ d.campaign.meta → HasBaselines c list → HasBaselines d others
     → Appends before now (baselines_text c list) → Appends before' now' (baselines_text d others) → WroteTheSame before now before' now'
 same_wrote one c d list others before now before' now' plan other meta are other_are wrote other_wrote =

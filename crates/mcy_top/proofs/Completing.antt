@@ -8,19 +8,22 @@ use Rattle.result_book.specs.declared.check.BookError.TheVariants.{Stray, Memory
 use Rattle.result_book.specs.Rows.{meta_in_second, IsWellFormed}
 use Rattle.command_words.specs.declared.command.Command.{Command}
 use Rattle.command_words.specs.declared.command.Command.TheVariants.{Init, Run, List as Listing, Status, Source, Baseline, Demo}
+use Rattle.result_book.specs.declared.goal.Goal.{Goal}
 use Rattle.campaign_plan.specs.declared.prepared.Prepared.{Prepared}
 use Rattle.campaign_reading.specs.declared.refusal.Refusal.{Refusal}
 use Rattle.campaign_reading.specs.declared.refusal.Refusal.TheVariants.{ProjectBad as RefusedProject, ScriptBad as RefusedScript, SourceBad as RefusedSource, Missing as RefusedMissing, TooLarge as RefusedTooLarge}
 use Rattle.mcy_top.specs.declared.refusal.BookRefusal.{BookRefusal}
-use Rattle.mcy_top.specs.declared.refusal.BookRefusal.TheVariants.{NoCampaign as RefusedNone, AlreadyBegun as RefusedBegun, BookBad as RefusedBook, Memory as NoMemory}
+use Rattle.mcy_top.specs.declared.refusal.BookRefusal.TheVariants.{NoCampaign as RefusedNone, AlreadyBegun as RefusedBegun, BookBad as RefusedBook, NoMutation as RefusedMutation, Memory as NoMemory}
 use Rattle.campaign_outcomes.specs.declared.outcome.Outcome.{Outcome}
-use Rattle.campaign_outcomes.specs.declared.outcome.Outcome.TheVariants.{Done, Unfinished, Usage, ProjectBad, ScriptBad, SourceBad, Missing, TooLarge, NoCampaign, AlreadyBegun, BookBad, ReadFault, KeeperFault, WriteFault, Memory, RequirementMissed}
-use Rattle.mcy_top.specs.Commands.{command_of, stop_of, AsksNoDemo, IsAside, OnBook}
+use Rattle.campaign_outcomes.specs.declared.outcome.Outcome.TheVariants.{Done, Unfinished, BaselineBad, Usage, ProjectBad, ScriptBad, SourceBad, Missing, TooLarge, NoCampaign, AlreadyBegun, BookBad, ReadFault, KeeperFault, WriteFault, Memory, RequirementMissed, NoMutation}
+use Rattle.command_words.specs.Commands.{command_of}
+use Rattle.mcy_top.specs.Commands.{aim_of, stop_of, AsksNoDemo, IsAside, OnBook}
 use Rattle.campaign_choice.specs.Campaigns.{meta_of}
 use Rattle.campaign_plan.specs.Campaigns.{IsPlan}
 use Rattle.campaign_reading.specs.Reads.{IsUnmade}
 use Rattle.campaign_reading.specs.Laws.{IsByFiles}
 use Rattle.mcy_top.specs.BookRefusals.{IsBookBad, RefusesBook}
+use Rattle.mcy_top.specs.Limits.{IsUnfit, Opens}
 use Rattle.mcy_top.specs.Life.{Answered, Answers, EndsEarly, HasCause, Life, Takes, Unloaded}
 use Rattle.mcy_top.specs.Complete.{Completes, IsReady, NoneRose}
 use Rattle.campaign_plan.proofs.Plans.{plan_meta}
@@ -36,14 +39,14 @@ form_meta : (c : Prepared) (book : Book) → IsPlan c → IsWellFormed c.campaig
 form_meta c book plan form none = let is : meta_of plan.config plan.files ≡ [] = sym (plan_meta c plan) ∙ sym form.meta ∙ ap meta_in_second none in cc
 
 -- what a command takes is blank, or is the campaign's book
-taken_as : (command : Command) (c : Prepared) (book : Book) → Takes command c book → IsBlank book ⊎ IsWellFormed c.campaign book
-taken_as Init c book takes = inl takes
-taken_as (Run jobs stop retry) c book takes = takes
-taken_as Listing c book takes = inr takes
-taken_as (Status strict) c book takes = inr takes
-taken_as Source c book takes = inr takes
-taken_as Baseline c book takes = absurd takes
-taken_as (Demo seed cells) c book takes = absurd takes
+taken_as : (command : Command) (aim : Goal) (c : Prepared) (book : Book) → Takes command aim c book → IsBlank book ⊎ IsWellFormed c.campaign book
+taken_as Init aim c book takes = inl takes
+taken_as (Run jobs stop retry) aim c book takes = takes.0
+taken_as Listing aim c book takes = inr takes
+taken_as (Status strict) aim c book takes = inr takes
+taken_as Source aim c book takes = inr takes
+taken_as Baseline aim c book takes = absurd takes
+taken_as (Demo seed cells) aim c book takes = absurd takes
 
 -- a blank book is not bad, and neither is the campaign's, nor one that a command finds begun already
 pub blank_not_bad : (c : Prepared) (book : Book) (error : BookError) → IsBlank book → ¬ IsBookBad c book error
@@ -56,32 +59,43 @@ form_not_bad c book (Stray mutations rows) plan form bad = form_meta c book plan
 form_not_bad c book NoMemoryFor plan form bad = bad
 form_not_bad c book error plan form bad = bad.1 form
 
-pub begun_not_bad : (command : Command) (c : Prepared) (book : Book) (error : BookError) → RefusesBook command c book RefusedBegun → ¬ RefusesBook command c book (RefusedBook error)
-begun_not_bad command c book (Stray mutations rows) begun bad = begun.0 bad.0.0
-begun_not_bad command c book error begun bad = bad.1 begun.1
+pub begun_not_bad : (command : Command) (aim : Goal) (c : Prepared) (book : Book) (error : BookError) → RefusesBook command aim c book RefusedBegun → ¬ RefusesBook command aim c book (RefusedBook error)
+begun_not_bad command aim c book (Stray mutations rows) begun bad = begun.0 bad.0.0
+begun_not_bad command aim c book error begun bad = bad.1 begun.1
 
 -- nor one that is taken
-bad_not : (c : Prepared) (book : Book) (error : BookError) → IsPlan c → IsBlank book ⊎ IsWellFormed c.campaign book → ¬ IsBookBad c book error
+pub bad_not : (c : Prepared) (book : Book) (error : BookError) → IsPlan c → IsBlank book ⊎ IsWellFormed c.campaign book → ¬ IsBookBad c book error
 bad_not c book error plan (inl empty) bad = blank_not_bad c book error empty bad
 bad_not c book error plan (inr form) bad = form_not_bad c book error plan form bad
 
-none_not : (command : Command) (c : Prepared) (book : Book) → IsPlan c → Takes command c book → ¬ RefusesBook command c book RefusedNone
-none_not Init c book plan takes refuses = refuses.1
-none_not (Run jobs stop retry) c book plan takes refuses = refuses.1
-none_not Listing c book plan form refuses = form_meta c book plan form (blank_meta book refuses.0)
-none_not (Status strict) c book plan form refuses = form_meta c book plan form (blank_meta book refuses.0)
-none_not Source c book plan form refuses = form_meta c book plan form (blank_meta book refuses.0)
-none_not Baseline c book plan takes refuses = takes
-none_not (Demo seed cells) c book plan takes refuses = takes
+none_not : (command : Command) (aim : Goal) (c : Prepared) (book : Book) → IsPlan c → Takes command aim c book → ¬ RefusesBook command aim c book RefusedNone
+none_not Init aim c book plan takes refuses = refuses.1
+none_not (Run jobs stop retry) aim c book plan takes refuses = refuses.1
+none_not Listing aim c book plan form refuses = form_meta c book plan form (blank_meta book refuses.0)
+none_not (Status strict) aim c book plan form refuses = form_meta c book plan form (blank_meta book refuses.0)
+none_not Source aim c book plan form refuses = form_meta c book plan form (blank_meta book refuses.0)
+none_not Baseline aim c book plan takes refuses = takes
+none_not (Demo seed cells) aim c book plan takes refuses = takes
 
-begun_not : (command : Command) (c : Prepared) (book : Book) → Takes command c book → ¬ RefusesBook command c book RefusedBegun
-begun_not command c book takes refuses = refuses.0 (blank_meta book (subst (λ (d : Command). Takes d c book) refuses.1 takes))
+begun_not : (command : Command) (aim : Goal) (c : Prepared) (book : Book) → Takes command aim c book → ¬ RefusesBook command aim c book RefusedBegun
+begun_not command aim c book takes refuses = refuses.0 (blank_meta book (subst (λ (d : Command). Takes d aim c book) refuses.1 takes))
 
-pub taken_not_refused : (command : Command) (c : Prepared) (book : Book) (refusal : BookRefusal) → IsPlan c → Takes command c book → RefusesBook command c book refusal → refusal ≡ NoMemory
-taken_not_refused command c book RefusedNone plan takes refuses = absurd (none_not command c book plan takes refuses)
-taken_not_refused command c book RefusedBegun plan takes refuses = absurd (begun_not command c book takes refuses)
-taken_not_refused command c book (RefusedBook error) plan takes refuses = absurd (bad_not c book error plan (taken_as command c book takes) refuses.0)
-taken_not_refused command c book NoMemory plan takes refuses = refl
+-- and the campaign has what it names
+named_not : (command : Command) (aim : Goal) (c : Prepared) (book : Book) (number : ℕ) → Takes command aim c book → ¬ RefusesBook command aim c book (RefusedMutation number)
+named_not (Run jobs stop retry) aim c book number takes refuses = let never : None ≡ Some number = sym takes.1 ∙ refuses.2 in cc
+named_not Init aim c book number takes refuses = refuses.0
+named_not Listing aim c book number takes refuses = refuses.0
+named_not (Status strict) aim c book number takes refuses = refuses.0
+named_not Source aim c book number takes refuses = refuses.0
+named_not Baseline aim c book number takes refuses = refuses.0
+named_not (Demo seed cells) aim c book number takes refuses = refuses.0
+
+pub taken_not_refused : (command : Command) (aim : Goal) (c : Prepared) (book : Book) (refusal : BookRefusal) → IsPlan c → Takes command aim c book → RefusesBook command aim c book refusal → refusal ≡ NoMemory
+taken_not_refused command aim c book RefusedNone plan takes refuses = absurd (none_not command aim c book plan takes refuses)
+taken_not_refused command aim c book RefusedBegun plan takes refuses = absurd (begun_not command aim c book takes refuses)
+taken_not_refused command aim c book (RefusedBook error) plan takes refuses = absurd (bad_not c book error plan (taken_as command aim c book takes) refuses.0)
+taken_not_refused command aim c book (RefusedMutation number) plan takes refuses = absurd (named_not command aim c book number takes refuses)
+taken_not_refused command aim c book NoMemory plan takes refuses = refl
 
 -- words that give a command on the book ask for no demo
 no_demo : (words : List (List ℕ)) (command : Command) → command_of words ≡ Some command → OnBook command → AsksNoDemo words
@@ -123,23 +137,31 @@ completes words held holds leaves leaves' written written' taken taken' f f' k k
     same : life.command ≡ command
     same = let is : Some life.command ≡ Some command = sym life.asked ∙ ready.asked in cc
 
-    takes : Takes life.command life.prepared life.loaded
-    takes = subst (λ (d : Command). Takes d life.prepared life.loaded) (sym same) (ready.takes life.prepared life.loaded life.made life.allowed life.found)
+    aim : Goal
+    aim = aim_of words life.command
+
+    takes : Takes life.command aim life.prepared life.loaded
+    takes = subst (λ (d : Command). Takes d (aim_of words d) life.prepared life.loaded) (sym same) (ready.takes life.prepared life.loaded life.made life.allowed life.found)
 
     plan : IsPlan life.prepared
     plan = record { config = life.made.config; files = life.made.files; made = life.made.made }
 
-    refused : (r : BookRefusal) → RefusesBook life.command life.prepared life.loaded r → r ≡ NoMemory
-    refused r refuses = taken_not_refused life.command life.prepared life.loaded r plan takes refuses
+    refused : (r : BookRefusal) → RefusesBook life.command aim life.prepared life.loaded r → r ≡ NoMemory
+    refused r refuses = taken_not_refused life.command aim life.prepared life.loaded r plan takes refuses
 
-    go : (o : Outcome) → HasCause f f' k k' s s' o → Answers life.command life.prepared life.loaded life.work.sure o → Completes command o
+    unfit : ¬ IsUnfit life.command life.prepared
+    unfit (opens, (asks, (list, are, fails))) = fails (ready.passes life.prepared list life.made (subst Opens same opens) asks are)
+
+    go : (o : Outcome) → HasCause f f' k k' s s' o → Answers life.command aim life.prepared life.loaded life.work.sure o → Completes command o
     go Done h a = tt
     go RequirementMissed h a = tt
     go (Unfinished left) h a = λ none. let is : Some a.2.stop ≡ None = sym a.2.asked ∙ ap stop_of same ∙ none in cc
     go Memory h a = tt
+    go BaselineBad h a = absurd (unfit a.1)
     go NoCampaign h a = let is : RefusedNone ≡ NoMemory = refused RefusedNone a in cc
     go AlreadyBegun h a = let is : RefusedBegun ≡ NoMemory = refused RefusedBegun a in cc
     go (BookBad error) h a = let is : RefusedBook error ≡ NoMemory = refused (RefusedBook error) a in cc
+    go (NoMutation number) h a = let is : RefusedMutation number ≡ NoMemory = refused (RefusedMutation number) a in cc
     go KeeperFault h a = absurd (none.keeps h)
     go WriteFault h a = absurd (none.writes h)
     go o h a = absurd a

@@ -6,8 +6,9 @@ use Rattle.result_book.specs.declared.goal.Goal.{Goal}
 use Rattle.result_book.specs.declared.goal.Want.{Want}
 use Rattle.result_book.specs.Goals.{wanted}
 use Rattle.campaign_plan.specs.declared.prepared.Prepared.{Prepared}
-use Rattle.campaign_outcomes.specs.declared.outcome.Outcome.TheVariants.{Done}
-use Rattle.mcy_top.specs.Endings.{run_outcome}
+use Rattle.result_book.specs.Rows.{groups}
+use Rattle.mcy_top.specs.Endings.{done_outcome, run_outcome}
+use Rattle.mcy_top.specs.Requirements.{falls_short}
 use Rattle.mcy_top.specs.Life.{wanting, wanting_from}
 
 -- where none wants a test, none is counted
@@ -35,7 +36,7 @@ none_counted c goal rows m (suc n) (suc k) none below =
     subst (λ (j : ℕ). wanted c.campaign rows j goal ≡ None) place (none_counted c goal rows (m + 1) n k (split_none c goal rows m n (wanted c.campaign rows m goal) refl none).1 (omega (arith, below)))
 
 -- where none is counted the run is done
-pub outcome_none : (c : Prepared) (goal : Goal) (rows : List Entry) → wanting c goal rows ≡ 0 → Done ≡ run_outcome c goal rows
+pub outcome_none : (c : Prepared) (goal : Goal) (rows : List Entry) → wanting c goal rows ≡ 0 → done_outcome (falls_short c (groups c.campaign rows)) ≡ run_outcome c goal rows
 outcome_none c goal rows none = rw none refl
 
 -- no more are counted than there are

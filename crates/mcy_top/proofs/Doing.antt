@@ -3,6 +3,7 @@ use Rattle.std.proofs.Common.{◌≡◌, ℕ, Bool, true, false, List, Option}
 use Rattle.mcy_keeper.specs.declared.book.Book.{Book}
 use Rattle.mcy_outside.specs.Written.{Appends}
 use Rattle.command_words.specs.declared.command.Command.{Command}
+use Rattle.result_book.specs.declared.goal.Goal.{Goal}
 use Rattle.campaign_plan.specs.declared.prepared.Prepared.{Prepared}
 use Rattle.campaign_outcomes.specs.declared.outcome.Outcome.{Outcome}
 use Rattle.campaign_outcomes.specs.declared.outcome.Outcome.TheVariants.{Done, RequirementMissed}
@@ -11,10 +12,10 @@ use Rattle.mcy_top.specs.Life.{Answers, Carried, DidAll, IsDone, Wrote}
 use Rattle.mcy_top.specs.Endings.{done_outcome}
 
 -- what its outcome says of the book and of the text
-pub done_all : (command : Command) (c : Prepared) (loaded sure : Book) (o : Outcome) → IsDone o → Answers command c loaded sure o → DidAll command c loaded sure
-done_all command c loaded sure Done done answer = answer.0
-done_all command c loaded sure RequirementMissed done answer = answer.0
-done_all command c loaded sure o done answer = absurd done
+pub done_all : (command : Command) (aim : Goal) (c : Prepared) (loaded sure : Book) (o : Outcome) → IsDone o → Answers command aim c loaded sure o → DidAll command aim c loaded sure
+done_all command aim c loaded sure Done done answer = answer.0
+done_all command aim c loaded sure RequirementMissed done answer = answer.0
+done_all command aim c loaded sure o done answer = absurd done
 
 pub done_wrote : (before now : Option (List ℕ)) (text : List ℕ) (o : Outcome) → IsDone o → Wrote before now text o → Appends before now text
 done_wrote before now text Done done wrote = wrote
@@ -22,9 +23,9 @@ done_wrote before now text RequirementMissed done wrote = wrote
 done_wrote before now text o done wrote = absurd done
 
 -- and its outcome, by what is missed
-pub all_answers : (command : Command) (c : Prepared) (loaded sure : Book) (missed : Bool) → misses_on command c sure ≡ missed → DidAll command c loaded sure → Answers command c loaded sure (done_outcome missed)
-all_answers command c loaded sure true is all = (all, is)
-all_answers command c loaded sure false is all = (all, is)
+pub all_answers : (command : Command) (aim : Goal) (c : Prepared) (loaded sure : Book) (missed : Bool) → misses_on command c sure ≡ missed → DidAll command aim c loaded sure → Answers command aim c loaded sure (done_outcome missed)
+all_answers command aim c loaded sure true is all = (all, is)
+all_answers command aim c loaded sure false is all = (all, is)
 
 pub text_wrote : (before now : Option (List ℕ)) (text : List ℕ) (missed : Bool) → Appends before now text → Wrote before now text (done_outcome missed)
 text_wrote before now text true wrote = wrote

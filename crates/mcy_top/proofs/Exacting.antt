@@ -1,18 +1,19 @@
 -- Each refusal comes exactly where its cause holds.
-use Rattle.std.proofs.Common.{◌≡◌, ◌⊎◌, inl, inr, ℕ, List, refl, sym, ap, ◌∙◌, Option, None, Some}
+use Rattle.std.proofs.Common.{◌≡◌, ◌⊎◌, inl, inr, ℕ, List, refl, sym, ap, subst, ◌∙◌, Option, None, Some}
 use Rattle.mcy_keeper.specs.declared.book.Book.{Book}
 use Rattle.mcy_outside.specs.Files.{Held}
 use Rattle.result_book.specs.declared.check.BookError.{BookError}
 use Rattle.result_book.specs.declared.check.BookError.TheVariants.{Stray, Memory as NoMemoryFor}
 use Rattle.command_words.specs.declared.command.Command.{Command}
+use Rattle.result_book.specs.declared.goal.Goal.{Goal}
 use Rattle.campaign_plan.specs.declared.prepared.Prepared.{Prepared}
 use Rattle.campaign_reading.specs.declared.refusal.Refusal.{Refusal}
 use Rattle.campaign_reading.specs.declared.refusal.Refusal.TheVariants.{ProjectBad as RefusedProject, ScriptBad as RefusedScript, SourceBad as RefusedSource, Missing as RefusedMissing, TooLarge as RefusedTooLarge, ReadFault as RefusedRead, Memory as RefusedMemory}
 use Rattle.mcy_top.specs.declared.refusal.BookRefusal.{BookRefusal}
-use Rattle.mcy_top.specs.declared.refusal.BookRefusal.TheVariants.{NoCampaign as RefusedNone, AlreadyBegun as RefusedBegun, BookBad as RefusedBook, Memory as NoMemory}
+use Rattle.mcy_top.specs.declared.refusal.BookRefusal.TheVariants.{NoCampaign as RefusedNone, AlreadyBegun as RefusedBegun, BookBad as RefusedBook, NoMutation as RefusedMutation, Memory as NoMemory}
 use Rattle.campaign_outcomes.specs.declared.outcome.Outcome.{Outcome}
-use Rattle.campaign_outcomes.specs.declared.outcome.Outcome.TheVariants.{Done, Unfinished, Usage, ProjectBad, ScriptBad, SourceBad, Missing, TooLarge, NoCampaign, AlreadyBegun, BookBad, ReadFault, KeeperFault, WriteFault, Memory, RequirementMissed}
-use Rattle.mcy_top.specs.Commands.{command_of}
+use Rattle.campaign_outcomes.specs.declared.outcome.Outcome.TheVariants.{Done, Unfinished, BaselineBad, Usage, ProjectBad, ScriptBad, SourceBad, Missing, TooLarge, NoCampaign, AlreadyBegun, BookBad, ReadFault, KeeperFault, WriteFault, Memory, RequirementMissed, NoMutation}
+use Rattle.command_words.specs.Commands.{command_of}
 use Rattle.campaign_reading.specs.Files.{IsMade}
 use Rattle.campaign_plan.specs.Campaigns.{IsPlan}
 use Rattle.campaign_reading.specs.Laws.{IsByFiles}
@@ -22,7 +23,9 @@ use Rattle.mcy_top.specs.BookRefusals.{IsBookBad, RefusesBook}
 use Rattle.mcy_top.specs.Life.{Answered, Answers, Commands, IsAccepted, Takes}
 use Rattle.mcy_top.specs.Exact.{IsCutShort, RefusesFiles, RefusesFor}
 use Rattle.mcy_top.proofs.OneFault.{refused_for_one}
-use Rattle.mcy_top.proofs.Completing.{begun_not_bad, blank_meta, blank_not_bad, taken_not_refused}
+use Rattle.mcy_top.specs.Commands.{Runs}
+use Rattle.mcy_top.proofs.Kept.{reads_not_runs}
+use Rattle.mcy_top.proofs.Completing.{bad_not, begun_not_bad, blank_meta, blank_not_bad, taken_not_refused}
 use Rattle.campaign_reading.proofs.OneCause.{refused_once as one_cause, refused_not_made as none_made}
 
 -- what the files decide
@@ -76,17 +79,19 @@ exact_files words map r o asked h a = go o a
 
 -- A book is refused for one cause.
 
-none_once : (command : Command) (c : Prepared) (loaded : Book) (q : BookRefusal) → RefusesBook command c loaded RefusedNone → RefusesFor command c loaded q → NoCampaign ≡ book_outcome q
-none_once command c loaded RefusedNone h k = refl
-none_once command c loaded RefusedBegun h k = absurd (k.cause.0 (blank_meta loaded h.0))
-none_once command c loaded (RefusedBook error) h k = absurd (blank_not_bad c loaded error h.0 k.cause.0)
-none_once command c loaded NoMemory h k = absurd (k.by_book refl)
+none_once : (command : Command) (aim : Goal) (c : Prepared) (loaded : Book) (q : BookRefusal) → RefusesBook command aim c loaded RefusedNone → RefusesFor command aim c loaded q → NoCampaign ≡ book_outcome q
+none_once command aim c loaded RefusedNone h k = refl
+none_once command aim c loaded RefusedBegun h k = absurd (k.cause.0 (blank_meta loaded h.0))
+none_once command aim c loaded (RefusedBook error) h k = absurd (blank_not_bad c loaded error h.0 k.cause.0)
+none_once command aim c loaded (RefusedMutation number) h k = absurd (reads_not_runs command h.1 k.cause.0)
+none_once command aim c loaded NoMemory h k = absurd (k.by_book refl)
 
-begun_once : (command : Command) (c : Prepared) (loaded : Book) (q : BookRefusal) → RefusesBook command c loaded RefusedBegun → RefusesFor command c loaded q → AlreadyBegun ≡ book_outcome q
-begun_once command c loaded RefusedNone h k = absurd (h.0 (blank_meta loaded k.cause.0))
-begun_once command c loaded RefusedBegun h k = refl
-begun_once command c loaded (RefusedBook error) h k = absurd (begun_not_bad command c loaded error h k.cause)
-begun_once command c loaded NoMemory h k = absurd (k.by_book refl)
+begun_once : (command : Command) (aim : Goal) (c : Prepared) (loaded : Book) (q : BookRefusal) → RefusesBook command aim c loaded RefusedBegun → RefusesFor command aim c loaded q → AlreadyBegun ≡ book_outcome q
+begun_once command aim c loaded RefusedNone h k = absurd (h.0 (blank_meta loaded k.cause.0))
+begun_once command aim c loaded RefusedBegun h k = refl
+begun_once command aim c loaded (RefusedBook error) h k = absurd (begun_not_bad command aim c loaded error h k.cause)
+begun_once command aim c loaded (RefusedMutation number) h k = absurd (subst Runs h.1 k.cause.0)
+begun_once command aim c loaded NoMemory h k = absurd (k.by_book refl)
 
 -- a bad book has one fault that is told
 bad_for_one : (c : Prepared) (book : Book) (error other : BookError) → IsBookBad c book error → IsBookBad c book other → error ≡ other
@@ -100,25 +105,38 @@ bad_for_one c book (Stray m r) other h k = absurd (k.0 h.0)
 bad_for_one c book error (Stray m r) h k = absurd (h.0 k.0)
 bad_for_one c book error other h k = refused_for_one c.campaign book error other h.2 k.2 (λ is. cc) (λ is. cc)
 
-bad_once : (command : Command) (c : Prepared) (loaded : Book) (error : BookError) (q : BookRefusal) → RefusesBook command c loaded (RefusedBook error) → RefusesFor command c loaded q → BookBad error ≡ book_outcome q
-bad_once command c loaded error RefusedNone h k = absurd (blank_not_bad c loaded error k.cause.0 h.0)
-bad_once command c loaded error RefusedBegun h k = absurd (begun_not_bad command c loaded error k.cause h)
-bad_once command c loaded error (RefusedBook other) h k = ap (λ (e : BookError). BookBad e) (bad_for_one c loaded error other h.0 k.cause.0)
-bad_once command c loaded error NoMemory h k = absurd (k.by_book refl)
+bad_once : (command : Command) (aim : Goal) (c : Prepared) (loaded : Book) (error : BookError) (q : BookRefusal) → IsPlan c → RefusesBook command aim c loaded (RefusedBook error) → RefusesFor command aim c loaded q → BookBad error ≡ book_outcome q
+bad_once command aim c loaded error RefusedNone plan h k = absurd (blank_not_bad c loaded error k.cause.0 h.0)
+bad_once command aim c loaded error RefusedBegun plan h k = absurd (begun_not_bad command aim c loaded error k.cause h)
+bad_once command aim c loaded error (RefusedBook other) plan h k = ap (λ (e : BookError). BookBad e) (bad_for_one c loaded error other h.0 k.cause.0)
+bad_once command aim c loaded error (RefusedMutation number) plan h k = absurd (bad_not c loaded error plan k.cause.1 h.0)
+bad_once command aim c loaded error NoMemory plan h k = absurd (k.by_book refl)
 
-pub exact_book : (command : Command) (c : Prepared) (loaded sure : Book) (q : BookRefusal) (o : Outcome) → IsPlan c → RefusesFor command c loaded q → Answers command c loaded sure o → (o ≡ book_outcome q) ⊎ (o ≡ Memory)
-exact_book command c loaded sure q o plan h a = go o a
+mutation_once : (command : Command) (aim : Goal) (c : Prepared) (loaded : Book) (number : ℕ) (q : BookRefusal) → IsPlan c → RefusesBook command aim c loaded (RefusedMutation number) → RefusesFor command aim c loaded q → NoMutation number ≡ book_outcome q
+mutation_once command aim c loaded number RefusedNone plan h k = absurd (reads_not_runs command k.cause.1 h.0)
+mutation_once command aim c loaded number RefusedBegun plan h k = absurd (subst Runs k.cause.1 h.0)
+mutation_once command aim c loaded number (RefusedBook error) plan h k = absurd (bad_not c loaded error plan h.1 k.cause.0)
+mutation_once command aim c loaded number (RefusedMutation other) plan h k =
+    let is : Some number ≡ Some other = sym h.2 ∙ k.cause.2 in
+    let same : number ≡ other = cc in
+    ap (λ (n : ℕ). NoMutation n) same
+mutation_once command aim c loaded number NoMemory plan h k = absurd (k.by_book refl)
+
+pub exact_book : (command : Command) (aim : Goal) (c : Prepared) (loaded sure : Book) (q : BookRefusal) (o : Outcome) → IsPlan c → RefusesFor command aim c loaded q → Answers command aim c loaded sure o → (o ≡ book_outcome q) ⊎ (o ≡ Memory)
+exact_book command aim c loaded sure q o plan h a = go o a
   where
-    taken : ¬ Takes command c loaded
-    taken takes = h.by_book (taken_not_refused command c loaded q plan takes h.cause)
+    taken : ¬ Takes command aim c loaded
+    taken takes = h.by_book (taken_not_refused command aim c loaded q plan takes h.cause)
 
-    go : (o : Outcome) → Answers command c loaded sure o → (o ≡ book_outcome q) ⊎ (o ≡ Memory)
+    go : (o : Outcome) → Answers command aim c loaded sure o → (o ≡ book_outcome q) ⊎ (o ≡ Memory)
     go Done a = absurd (taken a.0.takes)
     go RequirementMissed a = absurd (taken a.0.takes)
     go (Unfinished left) a = absurd (taken a.0)
-    go NoCampaign a = inl (none_once command c loaded q a h)
-    go AlreadyBegun a = inl (begun_once command c loaded q a h)
-    go (BookBad error) a = inl (bad_once command c loaded error q a h)
+    go NoCampaign a = inl (none_once command aim c loaded q a h)
+    go AlreadyBegun a = inl (begun_once command aim c loaded q a h)
+    go (BookBad error) a = inl (bad_once command aim c loaded error q plan a h)
+    go (NoMutation number) a = inl (mutation_once command aim c loaded number q plan a h)
+    go BaselineBad a = absurd (taken a.0)
     go KeeperFault a = absurd (taken a)
     go WriteFault a = absurd (taken a)
     go Memory a = inr refl

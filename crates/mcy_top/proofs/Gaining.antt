@@ -1,5 +1,5 @@
 -- The rows that a call gains are those that were wanted.
-use Rattle.std.proofs.Common.{◌≡◌, Bool, true, false, ◌+◌, List, [], ◌∷◌, ◌++◌, length, arith, refl, sym, ap, subst, ◌∙◌, length-append}
+use Rattle.std.proofs.Common.{◌≡◌, Bool, true, false, List, [], ◌∷◌, ◌++◌, length, arith, refl, sym, ap, subst, ◌∙◌, length-append}
 use Rattle.mcy_keeper.specs.declared.book.Entry.{Entry}
 use Rattle.mcy_keeper.specs.declared.book.Book.{Book}
 use Rattle.mcy_keeper.specs.Books.{blank, is_first}

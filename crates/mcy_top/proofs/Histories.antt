@@ -3,16 +3,19 @@ use Rattle.std.proofs.Common.{◌≡◌, inl, inr, ℕ, zero, suc, List, [], ◌
 use Rattle.mcy_keeper.specs.declared.book.Book.{Book}
 use Rattle.mcy_keeper.specs.Books.{LeavesNothingNew, LeavesSome}
 use Rattle.result_book.specs.Rows.{history}
+use Rattle.result_book.specs.declared.goal.Goal.{Goal}
 use Rattle.campaign_plan.specs.declared.prepared.Prepared.{Prepared}
 use Rattle.campaign_plan.specs.Campaigns.{IsPlan}
 use Rattle.campaign_run.specs.Changes.{Course, IsNear}
 use Rattle.campaign_run.specs.Rows.{AreRight, IsBlankOrGood}
 use Rattle.campaign_run.specs.Crashes.{LeavesBooks}
 use Rattle.mcy_top.specs.Texts.{text_of}
+use Rattle.mcy_top.specs.Commands.{aim_of}
 use Rattle.mcy_top.specs.Life.{DidAll, IsDone}
 use Rattle.mcy_top.specs.Lives.{AreSafe, IsHistory, IsStart}
 use Rattle.mcy_top.specs.Histories.{AllFindBooks, AllTellTrue, AreTurns, Call, Cut, CutEarly, Ended, entry_of, IsNew, IsTurn, last_of, Left, lives_of, Loads, LoadsNone, TellsFinal, TellsTrue, Turn}
 use Rattle.campaign_run.proofs.Crashes.{weaker_books}
+use Rattle.mcy_top.proofs.Aiming.{aims_at_all}
 use Rattle.mcy_top.proofs.Doing.{done_all, done_wrote}
 use Rattle.mcy_top.proofs.Finishing.{final_is}
 use Rattle.mcy_top.proofs.Living.{course_good, lives_safe, near_good, start_good, unloaded_left}
@@ -78,14 +81,16 @@ end_good : {K : Type 0} (holds : K → Book → Type 0) (leaves : K → Option B
 end_good holds leaves call life was = course_good life.prepared life.loaded life.work.book.changes life.work.sure (plan_of holds leaves call life) life.work.book.course was
 
 tells_final : {K : Type 0} (holds : K → Book → Type 0) (leaves : K → Option Book → Type 0) (call : Call K) (life : Loads holds leaves call) → IsBlankOrGood life.loaded
-    → IsDone call.outcome → TellsFinal call.written_before call.written_after life.command life.prepared life.work.sure
+    → IsDone call.outcome → TellsFinal call.words call.written_before call.written_after life.command life.prepared life.work.sure
 tells_final holds leaves call life was done =
-    let all : DidAll life.command life.prepared life.loaded life.work.sure = done_all life.command life.prepared life.loaded life.work.sure call.outcome done life.work.answer in
+    let aim : Goal = aim_of call.words life.command in
+    let all : DidAll life.command aim life.prepared life.loaded life.work.sure = done_all life.command aim life.prepared life.loaded life.work.sure call.outcome done life.work.answer in
     let right : AreRight life.prepared (history life.prepared.campaign life.work.sure).journal = right_of life.prepared life.work.sure (plan_of holds leaves call life) all.form (end_good holds leaves call life was) in
     let text : List ℕ = text_of life.command life.prepared life.work.sure in
     record {
       wants_none = λ runs. (all.whole runs).wants_none;
-      finished = λ runs. (all.whole runs).finished;
+      ended = λ runs. (all.whole runs).ended;
+      finished = λ runs none. (all.whole runs).finished (aims_at_all call.words life.command none);
       told = λ finished. record {
         text = text;
         wrote = done_wrote call.written_before call.written_after text call.outcome done life.work.text;

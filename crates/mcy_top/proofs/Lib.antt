@@ -9,6 +9,7 @@ pub mod Aiming
 pub mod Finishing
 pub mod InOrder
 pub mod Doing
+pub mod Kept
 pub mod Working
 pub mod Busy
 pub mod Turning
@@ -30,3 +31,4 @@ pub mod BaselineExact
 pub mod Living
 pub mod Upgrading
 pub mod Histories
+pub mod Limiting

@@ -13,42 +13,44 @@ use Rattle.campaign_plan.specs.Campaigns.{IsPlan}
 use Rattle.campaign_plan.specs.Laws.{IsSame, SameTests}
 use Rattle.campaign_plan.proofs.OneCampaign.{plan_once}
 use Rattle.result_book.specs.declared.campaign.Campaign.{Campaign}
-use Rattle.result_book.specs.Rows.{history, IsWellFormed}
+use Rattle.result_book.specs.Rows.{groups, history, IsWellFormed}
 use Rattle.campaign_run.specs.Rows.{AreRight, IsBlankOrGood, IsGivenUpAt, IsRightWord, IsSaid, IsTrueWord, IsTrueWordAt}
 use Rattle.command_words.specs.declared.command.Command.{Command}
 use Rattle.mcy_top.specs.Texts.{answers_text, text_of}
+use Rattle.mcy_top.specs.Requirements.{misses, misses_on}
 use Rattle.campaign_plan.specs.declared.trial.Trial.{Trial}
 use Rattle.campaign_plan.specs.declared.trial.Trial.TheVariants.{Equality, Simulation}
+use Rattle.campaign_baseline.proofs.Limiting.{limit_once}
 use Rattle.campaign_run.specs.Simulated.{IsSimulated}
 use Rattle.mcy_top.proofs.Simulating.{BenchesSayOnce}
 use Rattle.mcy_top.specs.Defined.{given_up, is_equality, is_given_up, AreAllAnswers, AreAnswers, IsFinalText, IsWordOf, Pair}
 use Rattle.mcy_top.specs.Once.{GaveUpSame, IsEnded, SayTheSame}
-use Rattle.mcy_top.proofs.Finishing.{final_is}
+use Rattle.mcy_top.proofs.Finishing.{final_is, groups_are}
 
 -- The campaign.
 
 -- a word that a test may have is one that a test may have which is the same but for parts of its bench
-test_alike : (d : Prepared) (trials : List Trial) (t : ℕ) (site : Option Site) (x y : Option Trial) (bound word : ℕ) → SameTests x y → (IsTrueWordAt (record d { trials = trials }) t site x word ⊎ IsGivenUpAt (record d { trials = trials }) site x bound word) → (IsTrueWordAt d t site y word ⊎ IsGivenUpAt d site y bound word)
-test_alike d trials t None x y bound word alike (inl h) = absurd h
-test_alike d trials t None x y bound word alike (inr h) = absurd h
-test_alike d trials t (Some site) None y bound word alike (inl h) = absurd h
-test_alike d trials t (Some site) None y bound word alike (inr h) = absurd h
-test_alike d trials t (Some site) (Some Equality) (Some Equality) bound word alike h = h
-test_alike d trials t (Some site) (Some (Simulation a p f)) (Some (Simulation b q g)) bound word alike (inl h) = inl (record { other = h.other; plan = h.plan; same = h.same; bench = h.bench; pass = h.pass; fail = h.fail; at = h.at; said = h.said })
-test_alike d trials t (Some site) (Some (Simulation a p f)) (Some (Simulation b q g)) bound word alike (inr h) = absurd h
-test_alike d trials t (Some site) (Some Equality) (Some (Simulation b q g)) bound word alike h = absurd alike
-test_alike d trials t (Some site) (Some (Simulation a p f)) (Some Equality) bound word alike h = absurd alike
-test_alike d trials t (Some site) (Some Equality) None bound word alike h = absurd alike
-test_alike d trials t (Some site) (Some (Simulation a p f)) None bound word alike h = absurd alike
+test_alike : (d : Prepared) (trials : List Trial) (cycles t : ℕ) (site : Option Site) (x y : Option Trial) (bound word : ℕ) → SameTests x y → (IsTrueWordAt (record d { trials = trials; cycles = cycles }) t site x word ⊎ IsGivenUpAt (record d { trials = trials; cycles = cycles }) site x bound word) → (IsTrueWordAt d t site y word ⊎ IsGivenUpAt d site y bound word)
+test_alike d trials cycles t None x y bound word alike (inl h) = absurd h
+test_alike d trials cycles t None x y bound word alike (inr h) = absurd h
+test_alike d trials cycles t (Some site) None y bound word alike (inl h) = absurd h
+test_alike d trials cycles t (Some site) None y bound word alike (inr h) = absurd h
+test_alike d trials cycles t (Some site) (Some Equality) (Some Equality) bound word alike h = h
+test_alike d trials cycles t (Some site) (Some (Simulation a p f)) (Some (Simulation b q g)) bound word alike (inl h) = inl h
+test_alike d trials cycles t (Some site) (Some (Simulation a p f)) (Some (Simulation b q g)) bound word alike (inr h) = absurd h
+test_alike d trials cycles t (Some site) (Some Equality) (Some (Simulation b q g)) bound word alike h = absurd alike
+test_alike d trials cycles t (Some site) (Some (Simulation a p f)) (Some Equality) bound word alike h = absurd alike
+test_alike d trials cycles t (Some site) (Some Equality) None bound word alike h = absurd alike
+test_alike d trials cycles t (Some site) (Some (Simulation a p f)) None bound word alike h = absurd alike
 
-word_alike : (d : Prepared) (m t bound word : ℕ) (trials : List Trial) → SameTests (slice_get trials t) (slice_get d.trials t) → IsRightWord (record d { trials = trials }) m t bound word → IsRightWord d m t bound word
-word_alike d m t bound word trials alike right = test_alike d trials t (slice_get d.sites m) (slice_get trials t) (slice_get d.trials t) bound word alike right
+word_alike : (d : Prepared) (m t bound word : ℕ) (trials : List Trial) (cycles : ℕ) → SameTests (slice_get trials t) (slice_get d.trials t) → IsRightWord (record d { trials = trials; cycles = cycles }) m t bound word → IsRightWord d m t bound word
+word_alike d m t bound word trials cycles alike right = test_alike d trials cycles t (slice_get d.sites m) (slice_get trials t) (slice_get d.trials t) bound word alike right
 
 -- and their words are the same
 same_words : (c d : Prepared) → IsSame c d → SayTheSame c d
-same_words c d same m t bound word right = word_alike d m t bound word c.trials (same.1 t) (subst (λ (x : Prepared). IsRightWord x m t bound word) same.0 right)
+same_words c d same m t bound word right = word_alike d m t bound word c.trials c.cycles (same.1 t) (subst (λ (x : Prepared). IsRightWord x m t bound word) same.0 right)
 
-pub campaigns_once : (c d : Prepared) → IsPlan c → IsPlan d → c.campaign.meta ≡ d.campaign.meta → (c ≡ record d { trials = c.trials }) × SayTheSame c d
+pub campaigns_once : (c d : Prepared) → IsPlan c → IsPlan d → c.campaign.meta ≡ d.campaign.meta → (c ≡ record d { trials = c.trials; cycles = c.cycles }) × SayTheSame c d
 campaigns_once c d one two meta = let same = plan_once c d one two meta in (same.0, same_words c d same)
 
 -- each row is right for the other campaign
@@ -67,24 +69,27 @@ right_of c book plan form (inr good) =
 -- What it defines.
 
 -- what the benches of two campaigns that are the same say is one word
-same_said : BenchesSayOnce → (c d : Prepared) (t : ℕ) (site : Site) (a b : Parts) (p q f g : List ℕ) (word other : ℕ) → IsSame c d → slice_get c.trials t ≡ Some (Simulation a p f) → slice_get d.trials t ≡ Some (Simulation b q g)
+same_said : BenchesSayOnce → (c d : Prepared) (t : ℕ) (site : Site) (a b : Parts) (p q f g : List ℕ) (word other : ℕ) → IsSame c d → c.cycles ≡ d.cycles → slice_get c.trials t ≡ Some (Simulation a p f) → slice_get d.trials t ≡ Some (Simulation b q g)
     → IsSimulated c.netlist site (record { bench = a; seed = c.word_seed; cycles = c.cycles; pass = p; fail = f }) word → IsSimulated d.netlist site (record { bench = b; seed = d.word_seed; cycles = d.cycles; pass = q; fail = g }) other → word ≡ other
-same_said once c d t site a b p q f g word other same at there h k =
+same_said once c d t site a b p q f g word other same cycles at there h k =
     let tests : SameTests (Some (Simulation a p f)) (Some (Simulation b q g)) = subst (λ (y : Option Trial). SameTests (Some (Simulation a p f)) y) there (subst (λ (x : Option Trial). SameTests x (slice_get d.trials t)) at (same.1 t)) in
-    let first : IsSimulated d.netlist site (record { bench = a; seed = d.word_seed; cycles = d.cycles; pass = p; fail = f }) word = subst (λ (x : Prepared). IsSimulated x.netlist site (record { bench = a; seed = x.word_seed; cycles = x.cycles; pass = p; fail = f }) word) same.0 h in
+    let moved : IsSimulated d.netlist site (record { bench = a; seed = d.word_seed; cycles = c.cycles; pass = p; fail = f }) word = subst (λ (x : Prepared). IsSimulated x.netlist site (record { bench = a; seed = x.word_seed; cycles = c.cycles; pass = p; fail = f }) word) same.0 h in
+    let first : IsSimulated d.netlist site (record { bench = a; seed = d.word_seed; cycles = d.cycles; pass = p; fail = f }) word = subst (λ (n : ℕ). IsSimulated d.netlist site (record { bench = a; seed = d.word_seed; cycles = n; pass = p; fail = f }) word) cycles moved in
     let second : IsSimulated d.netlist site (record { bench = a; seed = d.word_seed; cycles = d.cycles; pass = q; fail = f }) word = subst (λ (x : List ℕ). IsSimulated d.netlist site (record { bench = a; seed = d.word_seed; cycles = d.cycles; pass = x; fail = f }) word) tests.1 first in
     let third : IsSimulated d.netlist site (record { bench = a; seed = d.word_seed; cycles = d.cycles; pass = q; fail = g }) word = subst (λ (x : List ℕ). IsSimulated d.netlist site (record { bench = a; seed = d.word_seed; cycles = d.cycles; pass = q; fail = x }) word) tests.2 second in
-    once d.netlist site a b d.word_seed d.cycles q g word other tests.0 third k
+    once.say d.netlist site a b d.word_seed d.cycles q g word other tests.0 third k
 
-said_once : BenchesSayOnce → (c : Prepared) (t : ℕ) (site : Site) (a b : ℕ) → IsSaid c t site a → IsSaid c t site b → a ≡ b
-said_once once c t site a b h k = same_said once h.other k.other t site h.bench k.bench h.pass k.pass h.fail k.fail a b (plan_once h.other k.other h.plan k.plan (h.same ∙ sym k.same)) h.at k.at h.said k.said
+said_once : BenchesSayOnce → (meta : List (List ℕ)) (t : ℕ) (site : Site) (a b : ℕ) → IsSaid meta t site a → IsSaid meta t site b → a ≡ b
+said_once once meta t site a b h k =
+    let same : h.other.campaign.meta ≡ k.other.campaign.meta = h.same ∙ sym k.same in
+    same_said once h.other k.other t site h.bench k.bench h.pass k.pass h.fail k.fail a b (plan_once h.other k.other h.plan k.plan same) (limit_once once.baselines h.other k.other h.plan k.plan same h.limit k.limit) h.at k.at h.said k.said
 
 true_word_once : BenchesSayOnce → (c : Prepared) (t : ℕ) (site : Option Site) (trial : Option Trial) (a b : ℕ) → IsTrueWordAt c t site trial a → IsTrueWordAt c t site trial b → a ≡ b
 true_word_once once c t (Some site) (Some Equality) a b (inl h) (inl k) = h.0 ∙ sym k.0
 true_word_once once c t (Some site) (Some Equality) a b (inl h) (inr k) = absurd (k.1 h.1)
 true_word_once once c t (Some site) (Some Equality) a b (inr h) (inl k) = absurd (h.1 k.1)
 true_word_once once c t (Some site) (Some Equality) a b (inr h) (inr k) = h.0 ∙ sym k.0
-true_word_once once c t (Some site) (Some (Simulation bench pass fail)) a b h k = said_once once c t site a b h k
+true_word_once once c t (Some site) (Some (Simulation bench pass fail)) a b h k = said_once once c.campaign.meta t site a b h k
 true_word_once once c t (Some site) None a b h k = absurd h
 true_word_once once c t None trial a b h k = absurd h
 
@@ -145,3 +150,12 @@ ended_text command c book plan ended = final_is command c book plan (right_of c 
 pub finished_text_once : BenchesSayOnce → (command : Command) (c : Prepared) (book other : Book) → IsPlan c → IsEnded c book → IsEnded c other → GaveUpSame book other → text_of command c book ≡ text_of command c other
 finished_text_once once command c book other plan ended done same =
     final_text_by_pairs once command c (given_up book.journal) (given_up other.journal) (text_of command c book) (text_of command c other) same (ended_text command c book plan ended) (ended_text command c other plan done)
+
+-- and the answers by mutations are the same, so that the same is missed
+finished_groups_once : BenchesSayOnce → (c : Prepared) (book other : Book) → IsPlan c → IsEnded c book → IsEnded c other → GaveUpSame book other → groups c.campaign book.journal ≡ groups c.campaign other.journal
+finished_groups_once once c book other plan ended done same =
+    all_once once c (given_up book.journal) (given_up other.journal) 0 (groups c.campaign book.journal) (groups c.campaign other.journal) same
+    (groups_are c book plan (right_of c book plan ended.form (inr ended.good)) ended.finished) (groups_are c other plan (right_of c other plan done.form (inr done.good)) done.finished)
+
+pub finished_misses_once : BenchesSayOnce → (command : Command) (c : Prepared) (book other : Book) → IsPlan c → IsEnded c book → IsEnded c other → GaveUpSame book other → misses_on command c book ≡ misses_on command c other
+finished_misses_once once command c book other plan ended done same = ap (misses command c) (finished_groups_once once c book other plan ended done same)

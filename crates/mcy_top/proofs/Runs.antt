@@ -1,5 +1,5 @@
 -- A run as a whole.
-use Rattle.std.proofs.Common.{◌≡◌, ◌∙◌, arith, ℕ, ◌+◌, ◌≤◌, false, List, length, Option, None, refl, sym, ap, subst}
+use Rattle.std.proofs.Common.{◌≡◌, ◌∙◌, arith, ℕ, ◌+◌, false, List, length, Option, None, refl, sym, ap, subst}
 use Rattle.std.proofs.lemmas.List.{length-replicate}
 use Rattle.mcy_keeper.specs.declared.book.Entry.{Entry}
 use Rattle.mcy_keeper.specs.declared.book.Book.{Book}
@@ -23,8 +23,8 @@ use Rattle.campaign_plan.specs.Campaigns.{IsPlan}
 use Rattle.campaign_run.specs.Running.{book_of, Ran}
 use Rattle.campaign_run.proofs.Growing.{book_form, ran_none}
 use Rattle.project_tester.specs.ProjectJobs.{may_give, most_of}
-use Rattle.mcy_top.specs.declared.work.Ending.{Ending}
-use Rattle.mcy_top.specs.Commands.{run_goal}
+use Rattle.mcy_top.specs.declared.ending.Ending.{Ending}
+use Rattle.mcy_top.specs.BookRefusals.{HasNamed}
 use Rattle.mcy_top.specs.Endings.{broken_outcome, ended_outcome, run_outcome, Delivers}
 use Rattle.mcy_top.specs.Life.{StartsFew, Work}
 use Rattle.mcy_top.specs.ProgramOrder.{IsInOrder}
@@ -49,10 +49,10 @@ begun_on c aim jobs state core plan is form order =
     }
 
 -- what a core begins with
-pub record Begins (c : Prepared) (aim : Goal) (jobs : ℕ) (retry : Option ℕ) (state : Progress) (core : Turns Prepared) : Type 0 where
+pub record Begins (c : Prepared) (aim : Goal) (jobs : ℕ) (state : Progress) (core : Turns Prepared) : Type 0 where
   pub plan : IsPlan c
-  pub goal : IsGoal (run_goal retry)
-  pub aims : aim ≡ run_goal retry
+  pub goal : IsGoal aim
+  pub named : HasNamed aim c
   pub form : IsStateOf c.campaign state.rows state
   pub is : core ≡ begun c.campaign aim c state jobs
   pub on : On c aim jobs state.rows core
@@ -61,16 +61,16 @@ pub record Begins (c : Prepared) (aim : Goal) (jobs : ℕ) (retry : Option ℕ) 
   pub going : core.is_stopped ≡ false
   pub free : HasFree core.slots
 
-pub begins : (c : Prepared) (aim : Goal) (jobs : ℕ) (retry : Option ℕ) (state : Progress) (tester : Prepared) (core : Turns Prepared) → IsPlan c → IsGoal (run_goal retry) → aim ≡ run_goal retry → IsStateOf c.campaign state.rows state → tester ≡ c
-    → core ≡ begun c.campaign aim tester state jobs → IsUnderWay (may_give core.tester) core → Begins c aim jobs retry state core
-begins c aim jobs retry state tester core plan goal aims form mine made order =
+pub begins : (c : Prepared) (aim : Goal) (jobs : ℕ) (state : Progress) (tester : Prepared) (core : Turns Prepared) → IsPlan c → IsGoal aim → HasNamed aim c → IsStateOf c.campaign state.rows state → tester ≡ c
+    → core ≡ begun c.campaign aim tester state jobs → IsUnderWay (may_give core.tester) core → Begins c aim jobs state core
+begins c aim jobs state tester core plan goal named form mine made order =
     let is : core ≡ begun c.campaign aim c state jobs = made ∙ ap (λ (t : Prepared). begun c.campaign aim t state jobs) mine in
     let acknowledged : core.acknowledged ≡ 0 = ap (λ (s : Turns Prepared). s.acknowledged) is in
     let started : core.started ≡ 0 = ap (λ (s : Turns Prepared). s.started) is in
     record {
       plan = plan;
       goal = goal;
-      aims = aims;
+      named = named;
       form = form;
       is = is;
       on = begun_on c aim jobs state core plan is form order;
@@ -80,7 +80,7 @@ begins c aim jobs retry state tester core plan goal aims form mine made order =
       free = omega (arith, order.counts, acknowledged, started, order.some_slots);
     }
 
-module _ (c : Prepared) (aim : Goal) (jobs : ℕ) (stop retry : Option ℕ) (state : Progress) (core : Turns Prepared) (b : Begins c aim jobs retry state core) where
+module _ (c : Prepared) (aim : Goal) (jobs : ℕ) (stop retry : Option ℕ) (state : Progress) (core : Turns Prepared) (b : Begins c aim jobs state core) where
   -- the run that came to its end
   end_on : (end : Turns Prepared) → CoreRan may_give most_of stop core end → On c aim jobs state.rows end
   end_on end ran = program_on c aim jobs state.rows b.plan ran.events core end b.on ran.program
@@ -91,36 +91,31 @@ module _ (c : Prepared) (aim : Goal) (jobs : ℕ) (stop retry : Option ℕ) (sta
 
   pub work_turned : (holds : Book → Type 0) (leaves : Option Book → Type 0) (written written' : Option (List ℕ)) (before now : ℕ) (end : Turns Prepared) (shown told : Progress) (ending : Ending) → CoreRan may_give most_of stop core end
       → now + core.started ≡ before + end.started → Keeps holds leaves (core_book end.campaign end.state.rows) → shown ≡ end.state → told ≡ end.state → Delivers written written' (status_text c.campaign shown.rows) ending
-      → Work leaves written written' before now (Run jobs stop retry) c (book_of c state.rows) (ended_outcome (run_outcome c aim told.rows) ending)
+      → Work leaves written written' before now (Run jobs stop retry) aim c (book_of c state.rows) (ended_outcome (run_outcome c aim told.rows) ending)
   work_turned holds leaves written written' before now end shown told ending ran steps kept shown_is told_is wrote =
       let on : On c aim jobs state.rows end = end_on end ran in
       let since : now ≡ before + end.started = omega (arith, steps, b.started) in
       let counts : Counts c aim jobs state.rows end.state.rows before now = counts_of c aim jobs state.rows b.plan end before now on since in
-      let went : Went c aim stop state.rows end.state.rows = went_of c aim jobs state.rows b.plan stop core end b.on b.acknowledged b.going (subst IsGoal (sym b.aims) b.goal) b.form.form ran in
+      let went : Went c aim stop state.rows end.state.rows = went_of c aim jobs state.rows b.plan stop core end b.on b.acknowledged b.going b.goal b.named b.form.form ran in
       let few : StartsFew stop jobs before now = few_of c aim jobs state.rows b.plan stop core end before now b.on b.acknowledged b.going b.free ran since in
       let order : IsInOrder c aim jobs (book_of c state.rows) (book_of c end.state.rows) = order_of c aim jobs state b.plan core b.is ran.events end end.state.rows ran.program refl in
       let mine : Keeps holds leaves (book_of c end.state.rows) = subst (λ (k : Campaign). Keeps holds leaves (core_book k end.state.rows)) on.campaign kept in
       let text : Delivers written written' (status_text c.campaign end.state.rows) ending = subst (λ (p : Progress). Delivers written written' (status_text c.campaign p.rows) ending) shown_is wrote in
-      let whole : Work leaves written written' before now (Run jobs stop retry) c (book_of c state.rows) (ended_outcome (run_outcome c (run_goal retry) end.state.rows) ending) =
-      work_ran holds leaves written written' before now jobs stop retry c state.rows end.state.rows ending (subst (λ (g : Goal). Went c g stop state.rows end.state.rows) b.aims went) mine
-      (subst (λ (g : Goal). Counts c g jobs state.rows end.state.rows before now) b.aims counts) few (subst (λ (g : Goal). IsInOrder c g jobs (book_of c state.rows) (book_of c end.state.rows)) b.aims order) text in
-      subst (λ (p : Progress). Work leaves written written' before now (Run jobs stop retry) c (book_of c state.rows) (ended_outcome (run_outcome c aim p.rows) ending)) (sym told_is)
-      (subst (λ (g : Goal). Work leaves written written' before now (Run jobs stop retry) c (book_of c state.rows) (ended_outcome (run_outcome c g end.state.rows) ending)) (sym b.aims) whole)
+      let whole : Work leaves written written' before now (Run jobs stop retry) aim c (book_of c state.rows) (ended_outcome (run_outcome c aim end.state.rows) ending) =
+      work_ran holds leaves written written' before now jobs stop retry aim c state.rows end.state.rows ending went mine counts few order text in
+      subst (λ (p : Progress). Work leaves written written' before now (Run jobs stop retry) aim c (book_of c state.rows) (ended_outcome (run_outcome c aim p.rows) ending)) (sym told_is) whole
 
   -- the run that broke off
   pub work_torn : (leaves : Option Book → Type 0) (written : Option (List ℕ)) (before now : ℕ) (new : Turns Prepared) (e : CoreError) → CoreTorn may_give most_of stop leaves core new → now + core.started ≡ before + new.started
-      → Work leaves written written before now (Run jobs stop retry) c (book_of c state.rows) (broken_outcome e)
+      → Work leaves written written before now (Run jobs stop retry) aim c (book_of c state.rows) (broken_outcome e)
   work_torn leaves written before now new e torn steps = go e
     where
-      mine : Tears leaves c aim jobs stop state.rows before now
-      mine = tears_of c aim jobs state b.plan core b.is leaves stop new before now b.on b.acknowledged torn (omega (arith, steps, b.started))
-
-      tears : Tears leaves c (run_goal retry) jobs stop state.rows before now
-      tears = subst (λ (g : Goal). Tears leaves c g jobs stop state.rows before now) b.aims mine
+      tears : Tears leaves c aim jobs stop state.rows before now
+      tears = tears_of c aim jobs state b.plan core b.is leaves stop new before now b.on b.acknowledged torn (omega (arith, steps, b.started))
 
       form : IsWellFormed c.campaign (book_of c state.rows)
       form = book_form c state.rows b.plan b.form.form
 
-      go : (e : CoreError) → Work leaves written written before now (Run jobs stop retry) c (book_of c state.rows) (broken_outcome e)
-      go CoreFault = work_broke leaves written written before now jobs stop retry c state.rows KeepFault b.plan form tears.broke tears.order tears.wants refl
-      go CoreMemory = work_broke leaves written written before now jobs stop retry c state.rows KeepMemory b.plan form tears.broke tears.order tears.wants refl
+      go : (e : CoreError) → Work leaves written written before now (Run jobs stop retry) aim c (book_of c state.rows) (broken_outcome e)
+      go CoreFault = work_broke leaves written written before now jobs stop retry aim c state.rows KeepFault b.plan form b.named tears.broke tears.order tears.wants refl
+      go CoreMemory = work_broke leaves written written before now jobs stop retry aim c state.rows KeepMemory b.plan form b.named tears.broke tears.order tears.wants refl

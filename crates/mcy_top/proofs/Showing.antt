@@ -6,6 +6,7 @@ use Rattle.mcy_keeper.specs.Books.{blank, is_first, with_entry, IsBlank, IsFirst
 use Rattle.result_book.specs.Rows.{groups, AreRows, AreRowsIn, IsFinished, IsWellFormed}
 use Rattle.result_book.proofs.Formats.{second_is_not_first}
 use Rattle.source_report.specs.Texts.{lines}
+use Rattle.result_book.specs.declared.goal.Goal.{Goal}
 use Rattle.campaign_plan.specs.declared.prepared.Prepared.{Prepared}
 use Rattle.campaign_plan.specs.Campaigns.{IsPlan}
 use Rattle.campaign_plan.proofs.Plans.{plan_fit}
@@ -21,13 +22,13 @@ use Rattle.mcy_top.specs.Defined.{given_up}
 use Rattle.mcy_top.specs.Life.{wanting, Work}
 use Rattle.mcy_top.specs.Shown.{tests_in, RanPart, RanWhole}
 use Rattle.mcy_top.proofs.Advancing.{history_second, opened_form}
-use Rattle.mcy_top.proofs.Aiming.{none_again}
+use Rattle.mcy_top.proofs.Aiming.{in_all, none_again}
 use Rattle.mcy_top.proofs.Defining.{all_mutations}
 use Rattle.mcy_top.proofs.Finishing.{groups_are}
 use Rattle.mcy_top.proofs.Fresh.{new_rows, rows_counted, AreNew}
 use Rattle.mcy_top.proofs.NoneUp.{none_up}
 use Rattle.mcy_top.proofs.Simulating.{BenchesSayOnce}
-use Rattle.mcy_top.proofs.Working.{form_meta}
+use Rattle.mcy_top.proofs.Kept.{form_meta}
 
 -- The book is empty, or the campaign's with right rows.
 record IsOwned (c : Prepared) (book : Book) : Type 0 where
@@ -74,14 +75,14 @@ has_rows c book plan (inr own) =
     subst (λ (b : Book). HasRows c b.journal) (sym own.is) (record { form = subst (λ (first : Bool). AreRowsIn first c.campaign [] own.rows) second own.form.rows; right = own.right })
 
 module _ (once : BenchesSayOnce) (leaves : Option Book → Type 0) (written written' : Option (List ℕ)) (before now : ℕ) (jobs : ℕ) (c : Prepared) (outcome : Outcome) (plan : IsPlan c)
-    (w : Work leaves written written' before now (Run jobs None None) c blank outcome) where
+    (w : Work leaves written written' before now (Run jobs None None) (run_goal None []) c blank outcome) where
   has : HasRows c w.sure.journal
   has = has_rows c w.sure plan (own_course c blank w.book.changes w.sure plan (inl refl) w.book.course)
 
   new : AreNew c.campaign [] w.sure.journal
   new =
-      let asked : AreWanted c (run_goal None) [] w.sure.journal = w.book.wanted_only w.sure.journal refl in
-      new_rows c (run_goal None) [] w.sure.journal refl (plan_fit c plan) has.form asked
+      let asked : AreWanted c (run_goal None []) [] w.sure.journal = w.book.wanted_only w.sure.journal refl in
+      new_rows c (run_goal None []) [] w.sure.journal refl (plan_fit c plan) has.form asked
 
   counted : tests_in (groups c.campaign w.sure.journal) ≡ length w.sure.journal
   counted = rows_counted c.campaign w.sure.journal (plan_fit c plan) has.form new
@@ -91,19 +92,19 @@ module _ (once : BenchesSayOnce) (leaves : Option Book → Type 0) (written writ
     pairs = given_up w.sure.journal;
     none_up = none_up c w.sure.journal plan has.form has.right new;
     few = λ all defined.
-        let wants : now + 0 ≤ before + length w.sure.journal + wanting c (run_goal None) w.sure.journal = w.steps.wants in
-        let most : tests_in (groups c.campaign w.sure.journal) + wanting c (run_goal None) w.sure.journal ≤ tests_in all =
-        all_mutations once c (run_goal None) w.sure.journal plan has.form has.right none_again refl 0 (length c.campaign.mutations) all (omega arith) defined in
+        let wants : now + 0 ≤ before + length w.sure.journal + wanting c (run_goal None []) w.sure.journal = w.steps.wants in
+        let most : tests_in (groups c.campaign w.sure.journal) + wanting c (run_goal None []) w.sure.journal ≤ tests_in all =
+        all_mutations once c (run_goal None []) w.sure.journal plan has.form has.right (none_again []) refl 0 (length c.campaign.mutations) all (omega arith) defined in
         omega (arith, wants, most, counted);
   }
 
 -- where the run came to its end
-module _ (once : BenchesSayOnce) (leaves : Option Book → Type 0) (text : List ℕ) (before now : ℕ) (jobs : ℕ) (c : Prepared) (plan : IsPlan c) (w : Work leaves (Some []) (Some text) before now (Run jobs None None) c blank Done) where
+module _ (once : BenchesSayOnce) (leaves : Option Book → Type 0) (text : List ℕ) (before now : ℕ) (jobs : ℕ) (c : Prepared) (plan : IsPlan c) (w : Work leaves (Some []) (Some text) before now (Run jobs None None) (run_goal None []) c blank Done) where
   own : HasRows c w.sure.journal
   own = has once leaves (Some []) (Some text) before now jobs c Done plan w
 
   ended : IsFinished c.campaign w.sure
-  ended = (w.answer.0.whole tt).finished
+  ended = (w.answer.0.whole tt).finished (in_all None)
 
   told : text ≡ lines c.campaign (groups c.campaign w.sure.journal)
   told = let is : Some text ≡ Some ([] ++ lines c.campaign (groups c.campaign w.sure.journal)) = w.text in cc
@@ -121,12 +122,18 @@ module _ (once : BenchesSayOnce) (leaves : Option Book → Type 0) (text : List 
     status_is = told;
   }
 
--- the same of a sink that has kept its text from nothing on
-pub ran_done : BenchesSayOnce → (leaves : Option Book → Type 0) (first text : List ℕ) (before now : ℕ) (jobs : ℕ) (c : Prepared) (outcome : Outcome) → IsPlan c → first ≡ [] → outcome ≡ Done
-    → Work leaves (Some first) (Some text) before now (Run jobs None None) c blank outcome → RanWhole c c.campaign.conflicts before now text
-ran_done once leaves first text before now jobs c outcome plan none done w =
-    ran_whole once leaves text before now jobs c plan (subst (λ (o : Outcome). Work leaves (Some []) (Some text) before now (Run jobs None None) c blank o) done
-    (subst (λ (l : List ℕ). Work leaves (Some l) (Some text) before now (Run jobs None None) c blank outcome) none w))
+-- the same of a goal that is so, and of a sink that has kept its text from nothing on
+pub part_ran : BenchesSayOnce → (leaves : Option Book → Type 0) (written written' : Option (List ℕ)) (before now : ℕ) (jobs : ℕ) (aim : Goal) (c : Prepared) (outcome : Outcome) → IsPlan c → aim ≡ run_goal None []
+    → Work leaves written written' before now (Run jobs None None) aim c blank outcome → RanPart c c.campaign.conflicts before now
+part_ran once leaves written written' before now jobs aim c outcome plan all w =
+    ran_part once leaves written written' before now jobs c outcome plan (subst (λ (g : Goal). Work leaves written written' before now (Run jobs None None) g c blank outcome) all w)
+
+pub ran_done : BenchesSayOnce → (leaves : Option Book → Type 0) (first text : List ℕ) (before now : ℕ) (jobs : ℕ) (aim : Goal) (c : Prepared) (outcome : Outcome) → IsPlan c → aim ≡ run_goal None [] → first ≡ [] → outcome ≡ Done
+    → Work leaves (Some first) (Some text) before now (Run jobs None None) aim c blank outcome → RanWhole c c.campaign.conflicts before now text
+ran_done once leaves first text before now jobs aim c outcome plan all none done w =
+    ran_whole once leaves text before now jobs c plan (subst (λ (o : Outcome). Work leaves (Some []) (Some text) before now (Run jobs None None) (run_goal None []) c blank o) done
+    (subst (λ (l : List ℕ). Work leaves (Some l) (Some text) before now (Run jobs None None) (run_goal None []) c blank outcome) none
+    (subst (λ (g : Goal). Work leaves (Some first) (Some text) before now (Run jobs None None) g c blank outcome) all w)))
 
 -- nothing was run
 pub ran_none : (c : Prepared) (limit n : ℕ) → RanPart c limit n n

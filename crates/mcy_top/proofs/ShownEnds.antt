@@ -11,8 +11,8 @@ use Rattle.campaign_reading.specs.Reads.{IsUnmade}
 use Rattle.campaign_outcomes.specs.declared.outcome.Outcome.TheVariants.{Done}
 use Rattle.made_project.specs.Summaries.{summary_text}
 use Rattle.made_campaign.specs.Made.{made_held, made_limit, IsOfTexts}
-use Rattle.mcy_top.specs.declared.work.Ending.{Ending}
-use Rattle.mcy_top.specs.declared.work.Ending.TheVariants.{Written, Refused, NoMemory}
+use Rattle.mcy_top.specs.declared.ending.Ending.{Ending}
+use Rattle.mcy_top.specs.declared.ending.Ending.TheVariants.{Written, Refused, NoMemory}
 use Rattle.mcy_top.specs.Endings.{ended_outcome, Delivers}
 use Rattle.mcy_top.specs.Life.{HasCause, IsQuiet}
 use Rattle.mcy_top.specs.Outcomes.{outcome_of}

@@ -14,6 +14,7 @@ use Rattle.tb_process.specs.Running.{generator}
 use Rattle.tb_once.specs.Laws.{BenchesHaveOneOutcome, SettingsByDesign, StartsByRegisters}
 use Rattle.sim_words.specs.SimWords.{IsMutant, RunsDesigns, SimBench}
 use Rattle.sim_words.specs.Laws.{MutantsTellTheSame}
+use Rattle.campaign_baseline.specs.Laws.{BaselinesAreOne}
 use Rattle.campaign_baseline.proofs.Words.{word_once}
 use Rattle.campaign_run.specs.GivenUp.{IsMutantAt}
 use Rattle.campaign_run.specs.Simulated.{told_verdict, IsSimulated, Run}
@@ -32,12 +33,12 @@ runs_designs settings starts run trees = record {
 }
 
 -- Benches that are alike say one word of a mutation.
-abbrev pub BenchesSayOnce : Type 0
-BenchesSayOnce = (netlist : RawNetlist) (site : Site) (a b : Parts) (seed cycles : ℕ) (pass fail : List ℕ) (word other : ℕ) → AreAlike a b
+abbrev pub AlikeSayOnce : Type 0
+AlikeSayOnce = (netlist : RawNetlist) (site : Site) (a b : Parts) (seed cycles : ℕ) (pass fail : List ℕ) (word other : ℕ) → AreAlike a b
     → IsSimulated netlist site (record { bench = a; seed = seed; cycles = cycles; pass = pass; fail = fail }) word → IsSimulated netlist site (record { bench = b; seed = seed; cycles = cycles; pass = pass; fail = fail }) other → word ≡ other
 
-pub benches_say_once : BenchesHaveOneOutcome → SettingsByDesign → StartsByRegisters → MutantsTellTheSame → BenchesSayOnce
-benches_say_once outcomes settings starts same netlist site a b seed cycles pass fail word other alike h k =
+alike_say_once : BenchesHaveOneOutcome → SettingsByDesign → StartsByRegisters → MutantsTellTheSame → AlikeSayOnce
+alike_say_once outcomes settings starts same netlist site a b seed cycles pass fail word other alike h k =
     let first : Run = record { bench = a; seed = seed; cycles = cycles; pass = pass; fail = fail } in
     let here : Setting = setting_of a (tree_of alike.trees) k.mutated.raw in
     let there : Setting = setting_of b (tree_of alike.others) k.mutated.raw in
@@ -51,3 +52,11 @@ benches_say_once outcomes settings starts same netlist site a b seed cycles pass
     let outcome : moved.outcome ≡ said.outcome = outcomes b (tree_of alike.others) k.mutated (generator seed) (phases_of cycles) moved.outcome said.outcome k.runnable k.sound k.fits moved.simulated said.simulated in
     let verdict : h.verdict ≡ k.verdict = word_once said.outcome pass fail h.verdict k.verdict (subst (λ (o : Outcome). IsWord o pass fail h.verdict) outcome moved.word) said.word in
     h.word_is ∙ ap told_verdict verdict ∙ sym k.word_is
+
+-- And so do the benches of a project, under its limit of cycles, which is one.
+pub record BenchesSayOnce : Type 0 where
+  pub say : AlikeSayOnce
+  pub baselines : BaselinesAreOne
+
+pub benches_say_once : BenchesHaveOneOutcome → SettingsByDesign → StartsByRegisters → MutantsTellTheSame → BaselinesAreOne → BenchesSayOnce
+benches_say_once outcomes settings starts same one = record { say = alike_say_once outcomes settings starts same; baselines = one }

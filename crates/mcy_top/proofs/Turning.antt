@@ -27,6 +27,7 @@ use Rattle.campaign_run.specs.Rows.{IsNextRow}
 use Rattle.campaign_run.specs.Running.{book_of, IsWanted, IsWithin, Ran, Reached, WantsNone}
 use Rattle.campaign_run.proofs.Growing.{book_form, length_more, next_row_of, ran_more}
 use Rattle.project_tester.specs.ProjectJobs.{may_give, most_of}
+use Rattle.mcy_top.specs.BookRefusals.{HasNamed}
 use Rattle.mcy_top.specs.Life.{StartsFew}
 use Rattle.mcy_top.proofs.Busy.{busy_wanted}
 use Rattle.mcy_top.proofs.Working.{Counts, Went}
@@ -172,12 +173,13 @@ module _ (c : Prepared) (aim : Goal) (jobs : ℕ) (first : List Entry) (plan : I
     | inr rest ↦ elim rest [ inl all ↦ inr all | inr stopped ↦ absurd (let never : false ≡ true = sym going ∙ stopped in cc) ]
   ]
 
-  pub went_of : (stop : Option ℕ) (start end : Turns Prepared) → On c aim jobs first start → start.acknowledged ≡ 0 → start.is_stopped ≡ false → IsGoal aim → AreRows c.campaign [] first → CoreRan may_give most_of stop start end → Went c aim stop first end.state.rows
-  went_of stop start end on none_yet going goal form ran =
+  pub went_of : (stop : Option ℕ) (start end : Turns Prepared) → On c aim jobs first start → start.acknowledged ≡ 0 → start.is_stopped ≡ false → IsGoal aim → HasNamed aim c → AreRows c.campaign [] first → CoreRan may_give most_of stop start end → Went c aim stop first end.state.rows
+  went_of stop start end on none_yet going goal named form ran =
       let last : On c aim jobs first end = program_on ran.events start end on ran.program in
       record {
         plan = plan;
         form = book_form c first plan form;
+        named = named;
         ran = last.ran;
         goal = goal;
         ends = elim (ends_in stop start end going ran) [

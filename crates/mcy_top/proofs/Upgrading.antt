@@ -8,16 +8,17 @@ use Rattle.mcy_keeper.specs.Books.{is_first, upgraded, IsBlank, IsFirst, Keeps, 
 use Rattle.result_book.specs.Rows.{bounds_of, history, IsWellFormed}
 use Rattle.result_book.proofs.Formats.{has_history, history_meta, history_mutations}
 use Rattle.command_words.specs.declared.command.Command.TheVariants.{Init, Run}
+use Rattle.result_book.specs.declared.goal.Goal.{Goal}
 use Rattle.campaign_plan.specs.declared.prepared.Prepared.{Prepared}
 use Rattle.campaign_plan.specs.Campaigns.{IsPlan}
 use Rattle.campaign_plan.proofs.Plans.{plan_fit}
 use Rattle.campaign_outcomes.specs.declared.outcome.Outcome.{Outcome}
-use Rattle.campaign_outcomes.specs.declared.outcome.Outcome.TheVariants.{Done, Unfinished, NoCampaign, AlreadyBegun, BookBad, KeeperFault, WriteFault, Memory, RequirementMissed}
+use Rattle.campaign_outcomes.specs.declared.outcome.Outcome.TheVariants.{Done, Unfinished, NoCampaign, AlreadyBegun, BookBad, KeeperFault, WriteFault, Memory, BaselineBad, RequirementMissed, NoMutation}
 use Rattle.campaign_run.specs.Changes.{IsNear, Upgraded}
 use Rattle.campaign_run.specs.Rows.{IsBlankOrGood, IsGood, IsPrefix, IsWithinOne}
 use Rattle.campaign_run.specs.Running.{book_of, AreWanted, IsWithin}
 use Rattle.campaign_run.proofs.Crashes.{either_books, weaker_books}
-use Rattle.mcy_top.specs.Commands.{run_goal}
+use Rattle.mcy_top.specs.BookRefusals.{HasNamed}
 use Rattle.mcy_top.specs.Endings.{failed_outcome}
 use Rattle.mcy_top.specs.Life.{Answers, Carried, DidAll, GainsWanted, Grew, Work}
 use Rattle.mcy_top.specs.ProgramOrder.{IsInOrder}
@@ -28,7 +29,7 @@ use Rattle.mcy_top.proofs.InOrder.{none_in_order, order_from}
 use Rattle.mcy_top.proofs.Living.{near_prefix}
 use Rattle.mcy_top.proofs.Once.{right_of}
 use Rattle.mcy_top.proofs.Prefixes.{prefix_trans}
-use Rattle.mcy_top.proofs.Working.{few_kept, form_meta, within_same}
+use Rattle.mcy_top.proofs.Kept.{few_kept, form_meta, within_same}
 
 -- The campaign's book, and its history.
 
@@ -73,32 +74,39 @@ moved_good c loaded plan form was = inr (good_history c loaded plan form (right_
 
 -- A run from the history is one from the book.
 
-moved_all : (jobs : ℕ) (stop retry : Option ℕ) (c : Prepared) (loaded sure : Book) → IsPlan c → IsWellFormed c.campaign loaded → DidAll (Run jobs stop retry) c (history c.campaign loaded) sure → DidAll (Run jobs stop retry) c loaded sure
-moved_all jobs stop retry c loaded sure plan form all = record {
-  takes = inr form;
+moved_all : (jobs : ℕ) (stop retry : Option ℕ) (aim : Goal) (c : Prepared) (loaded sure : Book) → IsPlan c → IsWellFormed c.campaign loaded → DidAll (Run jobs stop retry) aim c (history c.campaign loaded) sure → DidAll (Run jobs stop retry) aim c loaded sure
+moved_all jobs stop retry aim c loaded sure plan form all = record {
+  takes = (inr form, all.takes.1);
   form = all.form;
-  whole = λ runs. record { wants_none = (all.whole runs).wants_none; finished = (all.whole runs).finished; final = λ was. (all.whole runs).final (moved_good c loaded plan form was) };
+  whole = λ runs. record {
+    wants_none = (all.whole runs).wants_none;
+    ended = (all.whole runs).ended;
+    finished = (all.whole runs).finished;
+    final = λ each was. (all.whole runs).final each (moved_good c loaded plan form was);
+  };
 }
 
-moved_answer : (jobs : ℕ) (stop retry : Option ℕ) (c : Prepared) (loaded sure : Book) (outcome : Outcome) → IsPlan c → IsWellFormed c.campaign loaded → Answers (Run jobs stop retry) c (history c.campaign loaded) sure outcome → Answers (Run jobs stop retry) c loaded sure outcome
-moved_answer jobs stop retry c loaded sure Done plan form answer = (moved_all jobs stop retry c loaded sure plan form answer.0, answer.1)
-moved_answer jobs stop retry c loaded sure RequirementMissed plan form answer = (moved_all jobs stop retry c loaded sure plan form answer.0, answer.1)
-moved_answer jobs stop retry c loaded sure (Unfinished left) plan form (takes, well, s) =
-    (inr form, well, record { stop = s.stop; asked = s.asked; gained = s.gained ∙ ap (λ (n : ℕ). n + s.stop) (history_length c loaded); left_is = s.left_is; some = s.some })
-moved_answer jobs stop retry c loaded sure NoCampaign plan form answer = absurd answer.1
-moved_answer jobs stop retry c loaded sure AlreadyBegun plan form answer = absurd (let is : Run jobs stop retry ≡ Init = answer.1 in cc)
-moved_answer jobs stop retry c loaded sure (BookBad error) plan form answer = absurd (form_not_bad c (history c.campaign loaded) error plan (has_history c.campaign loaded (plan_fit c plan) form).form answer.0)
-moved_answer jobs stop retry c loaded sure KeeperFault plan form answer = inr form
-moved_answer jobs stop retry c loaded sure WriteFault plan form answer = inr form
-moved_answer jobs stop retry c loaded sure Memory plan form answer = tt
-moved_answer jobs stop retry c loaded sure outcome plan form answer = absurd answer
+moved_answer : (jobs : ℕ) (stop retry : Option ℕ) (aim : Goal) (c : Prepared) (loaded sure : Book) (outcome : Outcome) → IsPlan c → IsWellFormed c.campaign loaded → Answers (Run jobs stop retry) aim c (history c.campaign loaded) sure outcome → Answers (Run jobs stop retry) aim c loaded sure outcome
+moved_answer jobs stop retry aim c loaded sure Done plan form answer = (moved_all jobs stop retry aim c loaded sure plan form answer.0, answer.1)
+moved_answer jobs stop retry aim c loaded sure RequirementMissed plan form answer = (moved_all jobs stop retry aim c loaded sure plan form answer.0, answer.1)
+moved_answer jobs stop retry aim c loaded sure (Unfinished left) plan form (takes, well, s) =
+    ((inr form, takes.1), well, record { stop = s.stop; asked = s.asked; gained = s.gained ∙ ap (λ (n : ℕ). n + s.stop) (history_length c loaded); left_is = s.left_is; some = s.some })
+moved_answer jobs stop retry aim c loaded sure NoCampaign plan form answer = absurd answer.1
+moved_answer jobs stop retry aim c loaded sure AlreadyBegun plan form answer = absurd (let is : Run jobs stop retry ≡ Init = answer.1 in cc)
+moved_answer jobs stop retry aim c loaded sure (BookBad error) plan form answer = absurd (form_not_bad c (history c.campaign loaded) error plan (has_history c.campaign loaded (plan_fit c plan) form).form answer.0)
+moved_answer jobs stop retry aim c loaded sure (NoMutation number) plan form answer = (answer.0, inr form, answer.2)
+moved_answer jobs stop retry aim c loaded sure BaselineBad plan form answer = ((inr form, answer.0.1), answer.1)
+moved_answer jobs stop retry aim c loaded sure KeeperFault plan form answer = (inr form, answer.1)
+moved_answer jobs stop retry aim c loaded sure WriteFault plan form answer = (inr form, answer.1)
+moved_answer jobs stop retry aim c loaded sure Memory plan form answer = tt
+moved_answer jobs stop retry aim c loaded sure outcome plan form answer = absurd answer
 
-moved_gains : (c : Prepared) (retry : Option ℕ) (loaded sure : Book) → IsPlan c → IsWellFormed c.campaign loaded → GainsWanted c (run_goal retry) (history c.campaign loaded) sure → GainsWanted c (run_goal retry) loaded sure
-moved_gains c retry loaded sure plan form gains = subst (λ (b : Book). (more : List Entry) → sure.journal ≡ b.journal ++ more → AreWanted c (run_goal retry) b.journal more) (still c loaded plan form) gains
+moved_gains : (c : Prepared) (aim : Goal) (loaded sure : Book) → IsPlan c → IsWellFormed c.campaign loaded → GainsWanted c aim (history c.campaign loaded) sure → GainsWanted c aim loaded sure
+moved_gains c aim loaded sure plan form gains = subst (λ (b : Book). (more : List Entry) → sure.journal ≡ b.journal ++ more → AreWanted c aim b.journal more) (still c loaded plan form) gains
 
-work_moved : (leaves : Option Book → Type 0) (written written' : Option (List ℕ)) (before now : ℕ) (jobs : ℕ) (stop retry : Option ℕ) (c : Prepared) (loaded : Book) (outcome : Outcome) → IsPlan c → IsWellFormed c.campaign loaded → IsFirst loaded
-    → Work leaves written written' before now (Run jobs stop retry) c (history c.campaign loaded) outcome → Work leaves written written' before now (Run jobs stop retry) c loaded outcome
-work_moved leaves written written' before now jobs stop retry c loaded outcome plan form first w =
+work_moved : (leaves : Option Book → Type 0) (written written' : Option (List ℕ)) (before now : ℕ) (jobs : ℕ) (stop retry : Option ℕ) (aim : Goal) (c : Prepared) (loaded : Book) (outcome : Outcome) → IsPlan c → IsWellFormed c.campaign loaded → IsFirst loaded
+    → Work leaves written written' before now (Run jobs stop retry) aim c (history c.campaign loaded) outcome → Work leaves written written' before now (Run jobs stop retry) aim c loaded outcome
+work_moved leaves written written' before now jobs stop retry aim c loaded outcome plan form first w =
     let same : length (history c.campaign loaded).journal ≡ length loaded.journal = history_length c loaded in
     record {
       sure = w.sure;
@@ -109,8 +117,8 @@ work_moved leaves written written' before now jobs stop retry c loaded outcome p
         reads = λ h. absurd h;
         no_entry = λ h. absurd (h tt);
         gained = subst (λ (n : ℕ). IsWithin stop n (length w.sure.journal)) same w.book.gained;
-        wanted_only = moved_gains c retry loaded w.sure plan form w.book.wanted_only;
-        order = λ runs. weaker_books leaves (IsInOrder c (run_goal retry) jobs (history c.campaign loaded)) (IsInOrder c (run_goal retry) jobs loaded) (λ b is. order_from c (run_goal retry) jobs loaded (history c.campaign loaded) b (still_rows c loaded plan form) is) (w.book.order runs);
+        wanted_only = moved_gains c aim loaded w.sure plan form w.book.wanted_only;
+        order = λ runs. weaker_books leaves (IsInOrder c aim jobs (history c.campaign loaded)) (IsInOrder c aim jobs loaded) (λ b is. order_from c aim jobs loaded (history c.campaign loaded) b (still_rows c loaded plan form) is) (w.book.order runs);
         stops = weaker_books leaves (λ b. IsWithin stop (length (history c.campaign loaded).journal) (length b.journal)) (λ b. IsWithin stop (length loaded.journal) (length b.journal)) (λ b within. subst (λ (n : ℕ). IsWithin stop n (length b.journal)) same within) w.book.stops;
         exact = w.book.exact;
         is_begun = w.book.is_begun;
@@ -121,20 +129,20 @@ work_moved leaves written written' before now jobs stop retry c loaded outcome p
       };
       steps = record { least = omega (arith, w.steps.least, same); bound = omega (arith, w.steps.bound, same); wants = omega (arith, w.steps.wants, same); stops = w.steps.stops; equal = λ is. omega (arith, w.steps.equal is, same); idle = λ h. absurd (h tt) };
       text = w.text;
-      answer = moved_answer jobs stop retry c loaded w.sure outcome plan form w.answer;
+      answer = moved_answer jobs stop retry aim c loaded w.sure outcome plan form w.answer;
     }
   where
     good : (other : Book) → IsGood other ⊎ (IsBlank other × IsBlank (history c.campaign loaded)) → IsGood other ⊎ (IsBlank other × IsBlank loaded)
     good other (inl is) = inl is
     good other (inr is) = absurd (form_meta c (history c.campaign loaded) plan (has_history c.campaign loaded (plan_fit c plan) form).form (ap (λ (b : Book). b.meta) is.1))
 
-pub work_resumed : (leaves : Option Book → Type 0) (written written' : Option (List ℕ)) (before now : ℕ) (jobs : ℕ) (stop retry : Option ℕ) (c : Prepared) (loaded : Book) (outcome : Outcome) → IsPlan c → IsWellFormed c.campaign loaded
-    → Work leaves written written' before now (Run jobs stop retry) c (book_of c (history c.campaign loaded).journal) outcome → Work leaves written written' before now (Run jobs stop retry) c loaded outcome
-work_resumed leaves written written' before now jobs stop retry c loaded outcome plan form w = go (is_first loaded) refl (subst (λ (b : Book). Work leaves written written' before now (Run jobs stop retry) c b outcome) (sym (history_book c loaded form)) w)
+pub work_resumed : (leaves : Option Book → Type 0) (written written' : Option (List ℕ)) (before now : ℕ) (jobs : ℕ) (stop retry : Option ℕ) (aim : Goal) (c : Prepared) (loaded : Book) (outcome : Outcome) → IsPlan c → IsWellFormed c.campaign loaded
+    → Work leaves written written' before now (Run jobs stop retry) aim c (book_of c (history c.campaign loaded).journal) outcome → Work leaves written written' before now (Run jobs stop retry) aim c loaded outcome
+work_resumed leaves written written' before now jobs stop retry aim c loaded outcome plan form w = go (is_first loaded) refl (subst (λ (b : Book). Work leaves written written' before now (Run jobs stop retry) aim c b outcome) (sym (history_book c loaded form)) w)
   where
-    go : (first : Bool) → is_first loaded ≡ first → Work leaves written written' before now (Run jobs stop retry) c (history c.campaign loaded) outcome → Work leaves written written' before now (Run jobs stop retry) c loaded outcome
-    go true first w = work_moved leaves written written' before now jobs stop retry c loaded outcome plan form first w
-    go false other w = subst (λ (b : Book). Work leaves written written' before now (Run jobs stop retry) c b outcome) (history_else c loaded other) w
+    go : (first : Bool) → is_first loaded ≡ first → Work leaves written written' before now (Run jobs stop retry) aim c (history c.campaign loaded) outcome → Work leaves written written' before now (Run jobs stop retry) aim c loaded outcome
+    go true first w = work_moved leaves written written' before now jobs stop retry aim c loaded outcome plan form first w
+    go false other w = subst (λ (b : Book). Work leaves written written' before now (Run jobs stop retry) aim c b outcome) (history_else c loaded other) w
 
 -- The book with these bounds is its history.
 
@@ -159,9 +167,9 @@ upgrade_kept holds holds' leaves leaves' (Err error) c loaded bounds first are k
 
 -- A run whose upgrade failed leaves the book or its history.
 
-grew_unmoved : (leaves : Option Book → Type 0) (jobs : ℕ) (stop retry : Option ℕ) (c : Prepared) (loaded : Book) (outcome : Outcome) → IsPlan c → IsWellFormed c.campaign loaded → ¬ Carried outcome
-    → LeavesEither leaves loaded (history c.campaign loaded) → Grew leaves (Run jobs stop retry) c loaded loaded outcome
-grew_unmoved leaves jobs stop retry c loaded outcome plan form not either =
+grew_unmoved : (leaves : Option Book → Type 0) (jobs : ℕ) (stop retry : Option ℕ) (aim : Goal) (c : Prepared) (loaded : Book) (outcome : Outcome) → IsPlan c → IsWellFormed c.campaign loaded → ¬ Carried outcome
+    → LeavesEither leaves loaded (history c.campaign loaded) → Grew leaves (Run jobs stop retry) aim c loaded loaded outcome
+grew_unmoved leaves jobs stop retry aim c loaded outcome plan form not either =
     let next : Book = history c.campaign loaded in
     let same : length next.journal ≡ length loaded.journal = history_length c loaded in
     record {
@@ -171,8 +179,8 @@ grew_unmoved leaves jobs stop retry c loaded outcome plan form not either =
       reads = λ h. absurd h;
       no_entry = λ h. absurd (h tt);
       gained = within_same stop (length loaded.journal);
-      wanted_only = gains_none c (run_goal retry) loaded;
-      order = λ runs. either_books leaves (IsInOrder c (run_goal retry) jobs loaded) loaded next either (none_in_order c (run_goal retry) jobs loaded loaded refl) (none_in_order c (run_goal retry) jobs loaded next (still_rows c loaded plan form));
+      wanted_only = gains_none c aim loaded;
+      order = λ runs. either_books leaves (IsInOrder c aim jobs loaded) loaded next either (none_in_order c aim jobs loaded loaded refl) (none_in_order c aim jobs loaded next (still_rows c loaded plan form));
       stops = either_books leaves (λ b. IsWithin stop (length loaded.journal) (length b.journal)) loaded next either (within_same stop (length loaded.journal)) (subst (λ (n : ℕ). IsWithin stop (length loaded.journal) n) (sym same) (within_same stop (length loaded.journal)));
       exact = λ h. absurd (not h);
       is_begun = λ h. absurd (not h);
@@ -186,18 +194,18 @@ grew_unmoved leaves jobs stop retry c loaded outcome plan form not either =
     here (inl empty) = inr (empty, empty)
     here (inr good) = inl good
 
-pub work_unmoved : (leaves : Option Book → Type 0) (written : Option (List ℕ)) (n : ℕ) (jobs : ℕ) (stop retry : Option ℕ) (c : Prepared) (loaded : Book) (e : KeepError) → IsPlan c → IsWellFormed c.campaign loaded
-    → LeavesEither leaves loaded (history c.campaign loaded) → Work leaves written written n n (Run jobs stop retry) c loaded (failed_outcome e)
-work_unmoved leaves written n jobs stop retry c loaded KeepFault plan form either = record {
+pub work_unmoved : (leaves : Option Book → Type 0) (written : Option (List ℕ)) (n : ℕ) (jobs : ℕ) (stop retry : Option ℕ) (aim : Goal) (c : Prepared) (loaded : Book) (e : KeepError) → IsPlan c → IsWellFormed c.campaign loaded → HasNamed aim c
+    → LeavesEither leaves loaded (history c.campaign loaded) → Work leaves written written n n (Run jobs stop retry) aim c loaded (failed_outcome e)
+work_unmoved leaves written n jobs stop retry aim c loaded KeepFault plan form named either = record {
   sure = loaded;
-  book = grew_unmoved leaves jobs stop retry c loaded KeeperFault plan form (λ h. h) either;
+  book = grew_unmoved leaves jobs stop retry aim c loaded KeeperFault plan form (λ h. h) either;
   steps = record { least = omega arith; bound = omega arith; wants = omega arith; stops = few_kept stop jobs n; equal = λ is. absurd is; idle = λ h. refl };
   text = refl;
-  answer = inr form;
+  answer = (inr form, named);
 }
-work_unmoved leaves written n jobs stop retry c loaded KeepMemory plan form either = record {
+work_unmoved leaves written n jobs stop retry aim c loaded KeepMemory plan form named either = record {
   sure = loaded;
-  book = grew_unmoved leaves jobs stop retry c loaded Memory plan form (λ h. h) either;
+  book = grew_unmoved leaves jobs stop retry aim c loaded Memory plan form (λ h. h) either;
   steps = record { least = omega arith; bound = omega arith; wants = omega arith; stops = few_kept stop jobs n; equal = λ is. absurd is; idle = λ h. refl };
   text = refl;
   answer = tt;

@@ -6,11 +6,12 @@ use Rattle.campaign_plan.specs.declared.prepared.Prepared.{Prepared}
 use Rattle.campaign_plan.specs.Campaigns.{IsPlan}
 use Rattle.campaign_reading.specs.declared.refusal.Refusal.{Refusal}
 use Rattle.campaign_reading.specs.Files.{IsMade}
-use Rattle.campaign_baseline.specs.declared.baseline.Baseline.{Baseline}
-use Rattle.campaign_baseline.specs.Baselines.{AllPass}
+use Rattle.campaign_run.specs.declared.baseline.Baseline.{Baseline}
+use Rattle.campaign_run.specs.Baselines.{AllPass}
+use Rattle.campaign_run.specs.Limits.{HasBaselines}
 use Rattle.campaign_outcomes.specs.declared.outcome.Outcome.{Outcome}
 use Rattle.campaign_outcomes.specs.declared.outcome.Outcome.TheVariants.{Done, BaselineBad, WriteFault}
-use Rattle.mcy_top.specs.Baselines.{HasBaselines, TellsBaselines, ToldBaselines}
+use Rattle.mcy_top.specs.Baselines.{TellsBaselines, ToldBaselines}
 use Rattle.mcy_top.specs.Exact.{IsCutShort, RefusesFiles}
 use Rattle.mcy_top.specs.Outcomes.{outcome_of}
 

@@ -1,5 +1,5 @@
 -- What `baseline` does: it tells what each bench of a campaign says of the design itself.
-use Rattle.std.specs.Prelude.{◌≡◌, ◌≢◌, ℕ, ◌⊎◌, Bool, true, false, List, [], Option, length}
+use Rattle.std.specs.Prelude.{◌≡◌, ◌≢◌, ℕ, ◌⊎◌, Bool, true, false, List, [], Option}
 use Rattle.mcy_outside.specs.Files.{Held}
 use Rattle.mcy_outside.specs.Written.{Appends, AppendsPart}
 use Rattle.campaign_plan.specs.declared.prepared.Prepared.{Prepared}
@@ -7,15 +7,12 @@ use Rattle.campaign_reading.specs.declared.refusal.Refusal.{Refusal}
 use Rattle.campaign_reading.specs.declared.refusal.Refusal.TheVariants.{ProjectBad as RefusedProject, ScriptBad as RefusedScript, SourceBad as RefusedSource, Missing as RefusedMissing, TooLarge as RefusedTooLarge, ReadFault as RefusedRead, Memory as NotTold}
 use Rattle.campaign_reading.specs.Files.{IsMade}
 use Rattle.campaign_reading.specs.Reads.{HasReadCause, IsUnmade}
-use Rattle.campaign_baseline.specs.declared.baseline.Baseline.{Baseline}
-use Rattle.campaign_baseline.specs.Baselines.{AllPass, AreBaselines}
+use Rattle.campaign_run.specs.declared.baseline.Baseline.{Baseline}
+use Rattle.campaign_run.specs.Baselines.{AllPass}
+use Rattle.campaign_run.specs.Limits.{HasBaselines}
 use Rattle.campaign_baseline.specs.Lines.{baseline_text, failing_text}
 use Rattle.campaign_outcomes.specs.declared.outcome.Outcome.{Outcome}
 use Rattle.campaign_outcomes.specs.declared.outcome.Outcome.TheVariants.{Done, BaselineBad, ProjectBad, ScriptBad, SourceBad, Missing, TooLarge, ReadFault, WriteFault, Memory}
-
--- the baselines of a campaign: one of each simulation, in the order of the tests, by the definition of its bench with the design
-abbrev pub HasBaselines : Prepared → List Baseline → Type 0
-HasBaselines c list = AreBaselines c c.cycles (length c.trials) list
 
 -- the text that tells them
 abbrev pub baselines_text : Prepared → List Baseline → List ℕ

@@ -1,20 +1,11 @@
 -- What the commands do: which of them work on the book of a campaign, the tests that they may have under way, when they are to stop,
 -- what they aim at, and which of them change the book.
-use Rattle.std.specs.Prelude.{◌≡◌, ◌⊎◌, ℕ, ◌≤◌, List, [], ◌∷◌, Option, None, Some, option_and_then, unwrap_or, ⊤}
+use Rattle.std.specs.Prelude.{◌≡◌, ◌⊎◌, ℕ, ◌≤◌, true, List, Option, None, Some, unwrap_or, ⊤}
 use Rattle.result_book.specs.declared.goal.Goal.{Goal}
+use Rattle.result_book.specs.Goals.{is_in}
 use Rattle.command_words.specs.declared.command.Command.{Command}
 use Rattle.command_words.specs.declared.command.Command.TheVariants.{Init, Run, List as Listing, Status, Source, Baseline, Demo}
-use Rattle.command_words.specs.declared.asked.Asked.{Asked}
-use Rattle.command_words.specs.Commands.{asked_of}
-
--- the command of words that name no mutations
-abbrev pub unnamed : Command → List ℕ → Option Command
-unnamed command [] = Some command
-unnamed command (number ∷ more) = None
-
--- the command that the words give, if they give one
-abbrev pub command_of : List (List ℕ) → Option Command
-command_of words = option_and_then (λ (asked : Asked). unnamed asked.command asked.mutations) (asked_of words)
+use Rattle.command_words.specs.Commands.{command_of, mutations_of}
 
 -- the words ask for the demo that two numbers make
 abbrev pub AsksDemo : List (List ℕ) → ℕ → ℕ → Type 0
@@ -75,19 +66,31 @@ stop_of Source = None
 stop_of Baseline = None
 stop_of (Demo seed cells) = None
 
--- all mutations are aimed at, and the pairs that were given up under less than the number of the option; without it none
-abbrev pub run_goal : Option ℕ → Goal
-run_goal retry = record { retry = unwrap_or retry 0; part = 0; parts = 1 }
+-- The mutations of these numbers, or all where there are none, are aimed at, and the pairs that were given up under less than the number
+-- of the option; without it none.
+abbrev pub run_goal : Option ℕ → List ℕ → Goal
+run_goal retry numbers = record { retry = unwrap_or retry 0; part = 0; parts = 1; mutations = numbers }
 
--- what a command aims at
-abbrev pub goal_of : Command → Goal
-goal_of Init = run_goal None
-goal_of (Run jobs stop_after retry) = run_goal retry
-goal_of Listing = run_goal None
-goal_of (Status strict) = run_goal None
-goal_of Source = run_goal None
-goal_of Baseline = run_goal None
-goal_of (Demo seed cells) = run_goal None
+-- the number of that option, if a command has it
+abbrev pub retry_of : Command → Option ℕ
+retry_of Init = None
+retry_of (Run jobs stop_after retry) = retry
+retry_of Listing = None
+retry_of (Status strict) = None
+retry_of Source = None
+retry_of Baseline = None
+retry_of (Demo seed cells) = None
+
+-- what a command aims at that names these mutations, and what the words do that give it
+abbrev pub goal_of : Command → List ℕ → Goal
+goal_of command numbers = run_goal (retry_of command) numbers
+
+abbrev pub aim_of : List (List ℕ) → Command → Goal
+aim_of words command = goal_of command (mutations_of words)
+
+-- all mutations are aimed at
+abbrev pub AimsAtAll : Goal → Type 0
+AimsAtAll aim = (m : ℕ) → is_in aim m ≡ true
 
 -- the command runs tests of the book's campaign
 abbrev pub Runs : Command → Type 0

@@ -7,12 +7,14 @@ use Rattle.mcy_keeper.specs.declared.keeper.KeepError.TheVariants.{Fault as Keep
 use Rattle.campaign_core.specs.declared.event.CoreError.{CoreError}
 use Rattle.campaign_core.specs.declared.event.CoreError.TheVariants.{Keeper as CoreFault, Memory as CoreMemory}
 use Rattle.mcy_outside.specs.Written.{Appends, AppendsPart}
-use Rattle.mcy_top.specs.declared.work.Ending.{Ending}
-use Rattle.mcy_top.specs.declared.work.Ending.TheVariants.{Written, Refused, NoMemory}
+use Rattle.mcy_top.specs.declared.ending.Ending.{Ending}
+use Rattle.mcy_top.specs.declared.ending.Ending.TheVariants.{Written, Refused, NoMemory}
 use Rattle.campaign_outcomes.specs.declared.outcome.Outcome.{Outcome}
-use Rattle.campaign_outcomes.specs.declared.outcome.Outcome.TheVariants.{Done, Unfinished, NoCampaign, AlreadyBegun, BookBad, KeeperFault, WriteFault, Memory, RequirementMissed}
+use Rattle.campaign_outcomes.specs.declared.outcome.Outcome.TheVariants.{Done, Unfinished, NoCampaign, AlreadyBegun, BookBad, BaselineBad, KeeperFault, WriteFault, Memory, RequirementMissed, NoMutation}
 use Rattle.campaign_plan.specs.declared.prepared.Prepared.{Prepared}
 use Rattle.result_book.specs.declared.goal.Goal.{Goal}
+use Rattle.result_book.specs.Rows.{groups}
+use Rattle.mcy_top.specs.Requirements.{falls_short}
 use Rattle.mcy_top.specs.Life.{wanting, IsQuiet}
 
 -- the outcome of a command that was done
@@ -49,9 +51,11 @@ HasLateCause keeper keeper' sink sink' WriteFault = Rose sink sink'
 HasLateCause keeper keeper' sink sink' Done = ⊤
 HasLateCause keeper keeper' sink sink' RequirementMissed = ⊤
 HasLateCause keeper keeper' sink sink' (Unfinished left) = ⊤
+HasLateCause keeper keeper' sink sink' BaselineBad = ⊤
 HasLateCause keeper keeper' sink sink' NoCampaign = ⊤
 HasLateCause keeper keeper' sink sink' AlreadyBegun = ⊤
 HasLateCause keeper keeper' sink sink' (BookBad error) = ⊤
+HasLateCause keeper keeper' sink sink' (NoMutation number) = ⊤
 HasLateCause keeper keeper' sink sink' Memory = ⊤
 HasLateCause keeper keeper' sink sink' outcome = ⊥
 
@@ -62,4 +66,4 @@ pub record Ends (written written' : Option (List ℕ)) (keeper keeper' sink sink
 
 -- the outcome of a run whose text is written
 abbrev pub run_outcome : Prepared → Goal → List Entry → Outcome
-run_outcome c goal rows = if wanting c goal rows == 0 then Done else Unfinished (wanting c goal rows)
+run_outcome c goal rows = if wanting c goal rows == 0 then done_outcome (falls_short c (groups c.campaign rows)) else Unfinished (wanting c goal rows)

@@ -3,6 +3,7 @@ use Rattle.std.specs.Prelude.{◌≡◌, ◌≢◌, ◌⊎◌, ℕ, List, Option
 use Rattle.mcy_keeper.specs.declared.book.Book.{Book}
 use Rattle.mcy_outside.specs.Files.{Held}
 use Rattle.command_words.specs.declared.command.Command.{Command}
+use Rattle.result_book.specs.declared.goal.Goal.{Goal}
 use Rattle.campaign_plan.specs.declared.prepared.Prepared.{Prepared}
 use Rattle.campaign_reading.specs.declared.refusal.Refusal.{Refusal}
 use Rattle.mcy_top.specs.declared.refusal.BookRefusal.{BookRefusal}
@@ -12,7 +13,7 @@ use Rattle.campaign_outcomes.specs.declared.outcome.Outcome.TheVariants.{Usage, 
 use Rattle.campaign_reading.specs.Files.{IsMade}
 use Rattle.campaign_plan.specs.Campaigns.{IsPlan}
 use Rattle.campaign_reading.specs.Reads.{IsUnmade}
-use Rattle.mcy_top.specs.Commands.{command_of}
+use Rattle.command_words.specs.Commands.{command_of}
 use Rattle.mcy_top.specs.Outcomes.{book_outcome, outcome_of}
 use Rattle.mcy_top.specs.BookRefusals.{RefusesBook}
 use Rattle.mcy_top.specs.Life.{Answered, Answers, Commands}
@@ -29,8 +30,8 @@ pub record RefusesFiles (map : Held) (refusal : Refusal) : Type 0 where
   pub by_files : ¬ IsCutShort (outcome_of refusal)
 
 -- the book is refused, and not for want of memory
-pub record RefusesFor (command : Command) (c : Prepared) (loaded : Book) (refusal : BookRefusal) : Type 0 where
-  pub cause : RefusesBook command c loaded refusal
+pub record RefusesFor (command : Command) (aim : Goal) (c : Prepared) (loaded : Book) (refusal : BookRefusal) : Type 0 where
+  pub cause : RefusesBook command aim c loaded refusal
   pub by_book : refusal ≢ NoMemory
 
 -- Where the words give no command, the call ends with that, or there is no memory.
@@ -43,7 +44,7 @@ FileRefusalsAreExact = (words : List (List ℕ)) (map : Held) (refusal : Refusal
 
 -- Where the command refuses the loaded book, the call ends with that, or there is no memory.
 abbrev pub BookRefusalsAreExact : Type 0
-BookRefusalsAreExact = (command : Command) (c : Prepared) (loaded sure : Book) (refusal : BookRefusal) (outcome : Outcome) → IsPlan c → RefusesFor command c loaded refusal → Answers command c loaded sure outcome → (outcome ≡ book_outcome refusal) ⊎ (outcome ≡ Memory)
+BookRefusalsAreExact = (command : Command) (aim : Goal) (c : Prepared) (loaded sure : Book) (refusal : BookRefusal) (outcome : Outcome) → IsPlan c → RefusesFor command aim c loaded refusal → Answers command aim c loaded sure outcome → (outcome ≡ book_outcome refusal) ⊎ (outcome ≡ Memory)
 
 -- Files are refused for one cause,
 abbrev pub FilesHaveOneCause : Type 0

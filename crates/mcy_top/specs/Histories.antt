@@ -9,13 +9,14 @@ use Rattle.result_book.specs.Rows.{IsFinished}
 use Rattle.campaign_plan.specs.declared.prepared.Prepared.{Prepared}
 use Rattle.command_words.specs.declared.command.Command.{Command}
 use Rattle.campaign_outcomes.specs.declared.outcome.Outcome.{Outcome}
-use Rattle.mcy_top.specs.Commands.{goal_of, Runs}
+use Rattle.command_words.specs.Commands.{mutations_of}
+use Rattle.mcy_top.specs.Commands.{aim_of, Runs}
 use Rattle.campaign_run.specs.Rows.{IsBlankOrGood}
 use Rattle.campaign_run.specs.Crashes.{LeavesBooks}
 use Rattle.campaign_run.specs.Changes.{IsNear}
 use Rattle.campaign_run.specs.Running.{WantsNone}
 use Rattle.mcy_top.specs.Defined.{given_up, IsFinalText}
-use Rattle.mcy_top.specs.Life.{IsDone, Life, Unloaded}
+use Rattle.mcy_top.specs.Life.{AreEnded, IsDone, Life, Unloaded}
 use Rattle.mcy_top.specs.Lives.{AreSafe, IsHistory, IsStart, Lived}
 
 -- A call of `mcy_main`: its words, what the files hold, the keeper, the text and the steps at its entry and at its end,
@@ -117,16 +118,18 @@ pub record WroteFinalText (before now : Option (List ℕ)) (command : Command) (
   pub wrote : Appends before now text
   pub final : IsFinalText command c (given_up book.journal) text
 
--- A `run` has left no test that it aims at, and so has finished the book; and a call over a finished book has written that text.
-pub record TellsFinal (before now : Option (List ℕ)) (command : Command) (c : Prepared) (book : Book) : Type 0 where
-  pub wants_none : Runs command → WantsNone c (goal_of command) book.journal
-  pub finished : Runs command → IsFinished c.campaign book
+-- A `run` has left no test that it aims at, and so has finished the mutations that it aims at, and the book where its words name none;
+-- and a call over a finished book has written that text.
+pub record TellsFinal (words : List (List ℕ)) (before now : Option (List ℕ)) (command : Command) (c : Prepared) (book : Book) : Type 0 where
+  pub wants_none : Runs command → WantsNone c (aim_of words command) book.journal
+  pub ended : Runs command → AreEnded (aim_of words command) c book
+  pub finished : Runs command → mutations_of words ≡ [] → IsFinished c.campaign book
   pub told : IsFinished c.campaign book → WroteFinalText before now command c book
 
 -- If the turn is a call that was done, it does so with its last book.
 abbrev pub TellsTrue : {K : Type 0} (holds : K → Book → Type 0) (leaves : K → Option Book → Type 0) (turn : Turn K) → IsTurn holds leaves turn → Type 0
 TellsTrue holds leaves (Ended call) (inl unloaded) = ⊤
-TellsTrue holds leaves (Ended call) (inr life) = IsDone call.outcome → TellsFinal call.written_before call.written_after life.command life.prepared life.work.sure
+TellsTrue holds leaves (Ended call) (inr life) = IsDone call.outcome → TellsFinal call.words call.written_before call.written_after life.command life.prepared life.work.sure
 TellsTrue holds leaves (CutEarly call) is = ⊤
 TellsTrue holds leaves (Cut call count) life = ⊤
 
@@ -134,7 +137,7 @@ abbrev pub AllTellTrue : {K : Type 0} (holds : K → Book → Type 0) (leaves : 
 AllTellTrue holds leaves found [] are = ⊤
 AllTellTrue holds leaves found (turn ∷ more) are = TellsTrue holds leaves turn are.1.0 × AllTellTrue holds leaves (Left holds leaves turn are.1.0) more are.1.1
 
--- Each `run` of such a list that is done has finished its campaign, and each call that is done over a finished book has
+-- Each `run` of such a list that is done has finished the mutations that it aims at, and each call that is done over a finished book has
 -- written the text that its campaign defines for it: the status, the list, or the sources.
 abbrev pub DoneCallsTellTrue : {K : Type 0} → (K → Book → Type 0) → (K → Option Book → Type 0) → Type 0
 DoneCallsTellTrue {K} holds leaves = (start : Book) (turns : List (Turn K)) → IsStart start → (are : AreTurns holds leaves (IsNew start) turns) → AllTellTrue holds leaves (IsNew start) turns are

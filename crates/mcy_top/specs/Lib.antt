@@ -6,7 +6,9 @@ pub mod Defined
 pub mod Outcomes
 pub mod BookRefusals
 pub mod ProgramOrder
+pub mod Limits
 pub mod Life
+pub mod LimitedWork
 pub mod KeptTexts
 pub mod Baselines
 pub mod Shown

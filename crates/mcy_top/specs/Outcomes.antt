@@ -2,9 +2,9 @@
 use Rattle.campaign_reading.specs.declared.refusal.Refusal.{Refusal}
 use Rattle.campaign_reading.specs.declared.refusal.Refusal.TheVariants.{ProjectBad as RefusedProject, ScriptBad as RefusedScript, SourceBad as RefusedSource, Missing as RefusedMissing, TooLarge as RefusedTooLarge, ReadFault as RefusedRead, Memory as RefusedMemory}
 use Rattle.mcy_top.specs.declared.refusal.BookRefusal.{BookRefusal}
-use Rattle.mcy_top.specs.declared.refusal.BookRefusal.TheVariants.{NoCampaign as RefusedNone, AlreadyBegun as RefusedBegun, BookBad as RefusedBook, Memory as NoMemory}
+use Rattle.mcy_top.specs.declared.refusal.BookRefusal.TheVariants.{NoCampaign as RefusedNone, AlreadyBegun as RefusedBegun, BookBad as RefusedBook, NoMutation as RefusedMutation, Memory as NoMemory}
 use Rattle.campaign_outcomes.specs.declared.outcome.Outcome.{Outcome}
-use Rattle.campaign_outcomes.specs.declared.outcome.Outcome.TheVariants.{ProjectBad, ScriptBad, SourceBad, Missing, TooLarge, NoCampaign, AlreadyBegun, BookBad, ReadFault, Memory}
+use Rattle.campaign_outcomes.specs.declared.outcome.Outcome.TheVariants.{ProjectBad, ScriptBad, SourceBad, Missing, TooLarge, NoCampaign, AlreadyBegun, BookBad, ReadFault, Memory, NoMutation}
 
 -- the outcome of a call whose files are refused
 abbrev pub outcome_of : Refusal → Outcome
@@ -21,4 +21,5 @@ abbrev pub book_outcome : BookRefusal → Outcome
 book_outcome RefusedNone = NoCampaign
 book_outcome RefusedBegun = AlreadyBegun
 book_outcome (RefusedBook error) = BookBad error
+book_outcome (RefusedMutation number) = NoMutation number
 book_outcome NoMemory = Memory

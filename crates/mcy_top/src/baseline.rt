@@ -7,7 +7,7 @@ ghost use Rattle.campaign_plan.specs.Campaigns.{IsPlan};
 ghost use Rattle.mcy_top.specs.Baselines.{baseline_outcome, IsFailingText, TellsBaselines};
 ghost use Rattle.mcy_top.specs.Life.{Answered, HasCause, IsAccepted, IsQuiet};
 
-use crate::work::deliver;
+use crate::ending::deliver;
 use campaign_baseline::{all_pass, baseline_text, baselines, failing_text};
 use campaign_outcomes::Outcome;
 use campaign_plan::Prepared;
@@ -35,7 +35,7 @@ pub(crate) fn baseline<O: Sink>(alloc: Global, prepared: &Prepared, out: &mut O)
     ensures cause { (files files' keeper : ℕ) → HasCause files files' keeper keeper (O.faults out.old) (O.faults out.new) result }
     ensures answered { (words : List (List ℕ)) (held : Option Held) → IsAccepted words held → Answered words held result }
 {
-    let Ok(list) = baselines(alloc, prepared, prepared.cycles) else {
+    let Ok(list) = baselines(alloc, prepared) else {
         return Outcome::Memory;
     };
     let Ok(text) = baseline_text(alloc, &prepared.campaign.test_names, &list) else {
@@ -63,6 +63,6 @@ pub fn failing_baselines<F: SourceFiles>(alloc: Global, files: &mut F) -> Result
         Ok(prepared) => prepared,
         Err(refusal) => return none_told(alloc, refusal),
     };
-    let list = baselines(alloc, &prepared, prepared.cycles)?;
+    let list = baselines(alloc, &prepared)?;
     failing_text(alloc, &prepared.campaign.test_names, &list)
 }

@@ -2,16 +2,20 @@
 //!
 //! No file is read, and no keeper is handed in. The texts of the project are made, the book is kept in memory, and so is the status, which
 //! stands in the summary.
-ghost use Rattle.std.specs.Prelude.{◌≡◌, ◌≤◌, ℕ, IfOk, IsTrue};
+ghost use Rattle.std.specs.Prelude.{◌≡◌, ◌≤◌, ℕ, [], false, None, IfOk, IsTrue};
 ghost use Rattle.mcy_keeper.specs.Books.{blank};
 ghost use Rattle.campaign_plan.specs.Campaigns.{IsPlan};
+ghost use Rattle.mcy_top.specs.Commands.{run_goal};
 ghost use Rattle.mcy_top.specs.Life.{HasCause, IsQuiet};
 ghost use Rattle.mcy_top.specs.Shown.{IsMadeOf, IsSummary, RanPart, RanWhole, Shown};
 ghost use Rattle.made_campaign.specs.Made.{made_limit};
 
+use crate::ending::deliver;
 use crate::kept_text::KeptText;
 use crate::refusal::refused;
-use crate::work::{Task, deliver};
+use crate::running::run_goal;
+use crate::work::Task;
+use campaign_baseline::laws::baselines_are_one;
 use campaign_outcomes::Outcome;
 use campaign_plan::Prepared;
 use made_campaign::made_campaign;
@@ -19,6 +23,7 @@ use made_project::summary;
 use mcy_base::{Bytes, Steps};
 use mcy_keeper::{CleanKeeper, KeepError, Keeper};
 use mcy_outside::Sink;
+use result_book::{Goal, NumberList};
 use sim_words::mutants_tell_the_same;
 use std::alloc::{AllocError, Global};
 use std::sync::ledger::Ledger;
@@ -37,6 +42,13 @@ fn settled_keeper(alloc: Global) -> Result<CleanKeeper, KeepError>
     Ok(keeper)
 }
 
+/// What a run aims at that looks at all mutations, and asks nothing again.
+fn goal_of_all(alloc: Global) -> Goal
+    ensures { result ≡ run_goal None [] }
+{
+    run_goal(None, NumberList::from_vec(Vec::new(alloc)))
+}
+
 /// Runs the whole campaign over a keeper of its own, and keeps its status. It finds no memory, or comes to its end.
 fn run_whole<L: Ledger>(
     alloc: Global,
@@ -44,18 +56,21 @@ fn run_whole<L: Ledger>(
     steps: &mut Steps<L>,
 ) -> Result<KeptText, AllocError>
     requires plan { IsPlan prepared.now }
+    requires fixed { prepared.now.auto_cycles ≡ false }
     ensures whole { IfOk result (λ kept. RanWhole prepared.now prepared.now.campaign.conflicts steps.old steps.new kept.text) }
     ensures part { RanPart prepared.now prepared.now.campaign.conflicts steps.old steps.new }
 {
     benches_have_one_outcome();
     designs_in_benches();
     mutants_tell_the_same();
+    baselines_are_one();
     let mut status = KeptText::new(alloc);
     let Ok(mut keeper) = settled_keeper(alloc) else {
         return Err(AllocError);
     };
     let task = Task { alloc, prepared };
-    let outcome = task.begin_and_run(SLOTS, None, None, &mut keeper, &mut status, steps);
+    let goal = goal_of_all(alloc);
+    let outcome = task.begin_and_run(SLOTS, None, &goal, &mut keeper, &mut status, steps);
     match &outcome {
         Outcome::Done => Ok(status),
         _ => Err(AllocError),
@@ -72,6 +87,7 @@ fn summary_of<L: Ledger>(
 ) -> Result<Bytes, AllocError>
     requires made { IsMadeOf seed cells prepared.now }
     requires limit { prepared.now.campaign.conflicts ≡ made_limit }
+    requires fixed { prepared.now.auto_cycles ≡ false }
     ensures whole { IfOk result (IsSummary seed cells steps.old steps.new) }
     ensures part { RanPart prepared.now made_limit steps.old steps.new }
 {

@@ -2,12 +2,13 @@
 //! function that does nothing: each refusal comes exactly where its cause holds, a project has one
 //! campaign and that one text of each command, and no call that is cut off loses or repeats what was acknowledged.
 ghost use Rattle.mcy_keeper.specs.Books.{LeavesSome};
-ghost use Rattle.mcy_top.specs.Once.{AnswersAreOne, CampaignsAreOne, FinalTextsAreOne, FinishedTextsAreOne};
+ghost use Rattle.mcy_top.specs.Once.{AnswersAreOne, CampaignsAreOne, FinalTextsAreOne, FinishedBooksMissTheSame, FinishedTextsAreOne};
 ghost use Rattle.mcy_top.specs.Exact.{BookRefusalsAreExact, FileRefusalsAreExact, FilesHaveOneCause, RefusedFilesMakeNone, UsageIsExact};
 ghost use Rattle.mcy_top.specs.Lives.{LivesAreSafe, PartsAreGood};
 ghost use Rattle.mcy_top.specs.Calls.{CallIsALife, SureBookHasAll, UnloadedCallLeavesNothingNew};
 ghost use Rattle.mcy_top.specs.Histories.{CallsAreAHistory, CallsAreSafe, DoneCallsTellTrue, RestartsFindBooks};
 
+use campaign_baseline::laws::baselines_are_one;
 use mcy_keeper::Keeper;
 use sim_words::mutants_tell_the_same;
 use tb_once::{benches_have_one_outcome, designs_in_benches};
@@ -33,17 +34,20 @@ pub fn campaigns_are_one()
     benches_have_one_outcome();
     designs_in_benches();
     mutants_tell_the_same();
+    baselines_are_one();
 }
 
 /// The text of each command over a finished book, be it the status, the list or the sources, depends on the campaign and the pairs whose
 /// last word is UNKNOWN alone: not on the format of the book, not on the order and the bounds of the tests, not on what was run again,
-/// and not on where calls were cut off.
+/// and not on where calls were cut off. So does what is missed of that which a command looks at.
 pub fn finished_texts_are_the_campaigns()
-    ensures { FinishedTextsAreOne }
+    ensures texts { FinishedTextsAreOne }
+    ensures misses { FinishedBooksMissTheSame }
 {
     benches_have_one_outcome();
     designs_in_benches();
     mutants_tell_the_same();
+    baselines_are_one();
 }
 
 /// Over every list of lives that begins with the empty book, or with a good book of the first format: each book is empty or good and has

@@ -1,37 +1,41 @@
 //! The one call of the program.
-ghost use Rattle.std.specs.Prelude.{◌≡◌, ◌⊎◌, ◌<◌, ℕ, IfOk, map, string_bytes};
+ghost use Rattle.std.specs.Prelude.{◌≡◌, ◌⊎◌, ◌<◌, ℕ, map, string_bytes};
 ghost use Rattle.command_words.specs.declared.command.Command.{Command as Asked};
 ghost use Rattle.mcy_top.specs.Baselines.{ToldBaselines};
-ghost use Rattle.mcy_top.specs.Commands.{command_of, AsksBaseline, AsksDemo, AsksNoDemo};
+ghost use Rattle.mcy_top.specs.Commands.{goal_of, AsksBaseline, AsksDemo, AsksNoDemo};
 ghost use Rattle.mcy_top.specs.Complete.{Completes, IsReady, NoneRose};
 ghost use Rattle.mcy_top.specs.Life.{Answered, HasCause, IsQuiet, Life, Unloaded};
 ghost use Rattle.mcy_top.specs.Shown.{Shown};
 
 use crate::baseline::baseline;
 use crate::demo::demo;
+use crate::ending::failed;
+use crate::limited::on_book;
 use crate::refusal::refused;
-use crate::work::{Task, failed};
+use crate::running::run_goal;
 use campaign_outcomes::Outcome;
 use campaign_reading::read_campaign;
-use command_words::{Command, read_words};
+use command_words::{Command, MutationNumbers, read_words};
 use mcy_base::Steps;
 use mcy_keeper::Keeper;
 use mcy_outside::{Sink, SourceFiles};
-use std::alloc::{AllocError, Global};
+use result_book::Goal;
+use std::alloc::Global;
 use std::marker::Brand;
 use std::sync::ledger::{Blank, Ledger};
 
-/// The command that the words give, if they give one.
-fn read_command(alloc: Global, words: &[String]) -> Result<Option<Command>, AllocError>
-    ensures { IfOk result (λ found. found ≡ command_of (map string_bytes words.now)) }
+/// What is aimed at by a command that names these mutations.
+fn goal_of(command: Command, numbers: MutationNumbers) -> Goal
+    ensures { result ≡ goal_of command numbers }
 {
-    let Some(asked) = read_words(alloc, words)? else {
-        return Ok(None);
-    };
-    if asked.mutations.as_slice().is_empty() {
-        Ok(Some(asked.command))
-    } else {
-        Ok(None)
+    match command {
+        Command::Run { retry, .. } => run_goal(retry, numbers),
+        Command::Init => run_goal(None, numbers),
+        Command::List => run_goal(None, numbers),
+        Command::Status { .. } => run_goal(None, numbers),
+        Command::Source => run_goal(None, numbers),
+        Command::Baseline => run_goal(None, numbers),
+        Command::Demo { .. } => run_goal(None, numbers),
     }
 }
 
@@ -93,11 +97,12 @@ fn carry_out_words<F: SourceFiles, K: Keeper, O: Sink, L: Ledger>(
     ensures demo { (seed cells : ℕ) → AsksDemo (map string_bytes words.now) seed cells → Shown seed cells (O.written out.old) (O.written out.new) steps.old steps.new result × (files.new ≡ files.old) × (keeper.new ≡ keeper.old) }
     ensures baseline { AsksBaseline (map string_bytes words.now) → ToldBaselines (F.held files.old) (O.written out.old) (O.written out.new) result × (steps.new ≡ steps.old) × (keeper.new ≡ keeper.old) }
 {
-    let command = match read_command(alloc, words) {
-        Ok(Some(command)) => command,
+    let asked = match read_words(alloc, words) {
+        Ok(Some(asked)) => asked,
         Ok(None) => return Outcome::Usage,
         Err(_) => return Outcome::Memory,
     };
+    let command = asked.command;
     if let Command::Demo { seed, cells } = command {
         return demo(alloc, seed, cells, out, steps);
     }
@@ -110,11 +115,8 @@ fn carry_out_words<F: SourceFiles, K: Keeper, O: Sink, L: Ledger>(
     }
     match keeper.load() {
         Ok(loaded) => {
-            let task = Task {
-                alloc,
-                prepared: &prepared,
-            };
-            task.carry_out(command, &loaded, keeper, out, steps)
+            let goal = goal_of(command, asked.mutations);
+            on_book(alloc, command, &goal, prepared, &loaded, keeper, out, steps)
         }
         Err(error) => failed(error),
     }

@@ -2,6 +2,7 @@
 ghost use Rattle.std.specs.Prelude.{◌≡◌, []};
 ghost use Rattle.mcy_keeper.specs.Books.{IsBlank};
 ghost use Rattle.command_words.specs.declared.command.Command.{Command as Asked};
+ghost use Rattle.result_book.specs.declared.goal.Goal.{Goal as Aim};
 ghost use Rattle.campaign_plan.specs.declared.prepared.Prepared.{Prepared as Planned};
 ghost use Rattle.mcy_top.specs.BookRefusals.{told, RefusesBook};
 ghost use Rattle.mcy_top.specs.Outcomes.{book_outcome, outcome_of};
@@ -32,6 +33,8 @@ pub(crate) enum BookRefusal {
     NoCampaign,
     AlreadyBegun,
     BookBad(BookError),
+    /// The command names a mutation of this number, and the campaign has fewer.
+    NoMutation(u32),
     Memory,
 }
 
@@ -44,6 +47,7 @@ impl BookRefusal {
             BookRefusal::NoCampaign => Outcome::NoCampaign,
             BookRefusal::AlreadyBegun => Outcome::AlreadyBegun,
             BookRefusal::BookBad(error) => Outcome::BookBad(error),
+            BookRefusal::NoMutation(number) => Outcome::NoMutation(number),
             BookRefusal::Memory => Outcome::Memory,
         }
     }
@@ -60,7 +64,7 @@ fn told(count: usize) -> u32
 pub(crate) fn stray(loaded: &Book) -> BookError
     requires meta { loaded.now.meta ≡ [] }
     requires some { ¬ IsBlank loaded.now }
-    ensures { (command : Asked) (prepared : Planned) → RefusesBook command prepared loaded.now (BookRefusal.BookBad result) }
+    ensures { (command : Asked) (aim : Aim) (prepared : Planned) → RefusesBook command aim prepared loaded.now (BookRefusal.BookBad result) }
 {
     let mutations = told(loaded.mutations.as_slice().len());
     let rows = told(loaded.journal.as_slice().len());

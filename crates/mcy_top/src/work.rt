@@ -8,73 +8,30 @@ ghost use Rattle.result_book.specs.States.{IsStateOf};
 ghost use Rattle.source_report.specs.Lists.{list_text};
 ghost use Rattle.source_report.specs.Sources.{source_text};
 ghost use Rattle.source_report.specs.Texts.{status_text};
-ghost use Rattle.mcy_top.specs.Commands.{goal_of, HasSlots, OnBook, OnlyReads};
+ghost use Rattle.result_book.specs.declared.goal.Goal.{Goal as Aim};
+ghost use Rattle.mcy_top.specs.Commands.{HasSlots, OnBook, OnlyReads, Runs};
+ghost use Rattle.campaign_run.specs.Limits.{HasItsLimit};
 ghost use Rattle.mcy_top.specs.Texts.{init_text, text_of};
 ghost use Rattle.campaign_plan.specs.Campaigns.{IsPlan};
 ghost use Rattle.mcy_top.specs.BookRefusals.{RefusesBook};
-ghost use Rattle.mcy_top.specs.Endings.{ended_outcome, failed_outcome, Delivers, Ends};
+ghost use Rattle.mcy_top.specs.Endings.{Delivers, Ends};
 ghost use Rattle.campaign_run.specs.Running.{book_of};
 ghost use Rattle.mcy_top.specs.Life.{Work};
 ghost use Rattle.command_words.specs.declared.command.Command.{Command as Asked};
 
+use crate::ending::{Ending, deliver, failed};
 use crate::refusal::{BookRefusal, stray};
 use campaign_outcomes::Outcome;
 use campaign_plan::Prepared;
 use command_words::Command;
 use mcy_base::Steps;
-use mcy_keeper::{Book, KeepError, Keeper};
+use mcy_keeper::{Book, Keeper};
 use mcy_outside::Sink;
 use result_book::book_laws::refused_books_are_ill_formed;
-use result_book::{BookError, State, check_book};
+use result_book::{BookError, Goal, State, check_book};
 use source_report::{add_number, list_text, source_text, status_text};
 use std::alloc::{AllocError, Global};
 use std::sync::ledger::Ledger;
-
-/// How the writing of a text ended.
-#[derive(Clone, Copy, Debug, PartialEq, Eq)]
-pub(crate) enum Ending {
-    /// The whole text was written.
-    Written,
-    /// The sink failed.
-    Refused,
-    /// There was no memory for the text.
-    NoMemory,
-}
-
-impl Ending {
-    /// How the call ends, from how it ends where the text is written.
-    pub(crate) fn outcome(self, written: Outcome) -> Outcome
-        ensures { result ≡ ended_outcome written self }
-    {
-        match self {
-            Ending::Written => written,
-            Ending::Refused => Outcome::WriteFault,
-            Ending::NoMemory => Outcome::Memory,
-        }
-    }
-}
-
-/// How a call ends that an error of the keeper ended.
-pub(crate) fn failed(error: KeepError) -> Outcome
-    ensures { result ≡ failed_outcome error }
-{
-    match error {
-        KeepError::Fault => Outcome::KeeperFault,
-        KeepError::Memory => Outcome::Memory,
-    }
-}
-
-/// Writes a whole text.
-pub(crate) fn deliver<O: Sink>(text: &[u8], out: &mut O) -> Ending
-    ensures wrote { Delivers (O.written out.old) (O.written out.new) text.now result }
-    ensures later { O.faults out.old ≤ O.faults out.new }
-    ensures cause { result ≡ Ending.Refused → Rose (O.faults out.old) (O.faults out.new) }
-{
-    match out.write_all(text) {
-        Ok(()) => Ending::Written,
-        Err(_) => Ending::Refused,
-    }
-}
 
 /// The campaign that a command works on.
 #[derive(Drop)]
@@ -164,7 +121,7 @@ impl Task<'_> {
         requires plan { IsPlan self.now.prepared.now }
         requires kept { K.tells keeper.old → Keeps (K.holds keeper.old) (K.leaves keeper.old) blank }
         ensures tells { K.tells keeper.new → K.tells keeper.old }
-        ensures work { K.tells keeper.new → (n : ℕ) → Work (K.leaves keeper.new) (O.written out.old) (O.written out.new) n n Command.Init self.now.prepared.now blank result }
+        ensures work { K.tells keeper.new → (n : ℕ) (aim : Aim) → Work (K.leaves keeper.new) (O.written out.old) (O.written out.new) n n Command.Init aim self.now.prepared.now blank result }
         ensures ends { Ends (O.written out.old) (O.written out.new) (K.faults keeper.old) (K.faults keeper.new) (O.faults out.old) (O.faults out.new) result }
     {
         match keeper.begin(
@@ -184,18 +141,20 @@ impl Task<'_> {
     fn start<K: Keeper, O: Sink, L: Ledger>(
         &self,
         command: Command,
+        goal: &Goal,
         keeper: &mut K,
         out: &mut O,
         steps: &mut Steps<L>,
     ) -> Outcome
         requires settled { IsTrue (K.is_settled keeper.old) }
         requires plan { IsPlan self.now.prepared.now }
+        requires limit { Runs command → HasItsLimit self.now.prepared.now }
         requires book { OnBook command }
-        requires goal { IsGoal (goal_of command) }
+        requires goal { IsGoal goal.now }
         requires slots { HasSlots command }
         requires kept { K.tells keeper.old → Keeps (K.holds keeper.old) (K.leaves keeper.old) blank }
         ensures tells { K.tells keeper.new → K.tells keeper.old }
-        ensures work { K.tells keeper.new → Work (K.leaves keeper.new) (O.written out.old) (O.written out.new) steps.old steps.new command self.now.prepared.now blank result }
+        ensures work { K.tells keeper.new → Work (K.leaves keeper.new) (O.written out.old) (O.written out.new) steps.old steps.new command goal.now self.now.prepared.now blank result }
         ensures ends { Ends (O.written out.old) (O.written out.new) (K.faults keeper.old) (K.faults keeper.new) (O.faults out.old) (O.faults out.new) result }
     {
         match command {
@@ -203,8 +162,8 @@ impl Task<'_> {
             Command::Run {
                 jobs,
                 stop_after,
-                retry,
-            } => { self.begin_and_run(jobs, stop_after, retry, keeper, out, steps) }
+                ..
+            } => self.begin_and_run(jobs, stop_after, goal, keeper, out, steps),
             Command::List
             | Command::Status { .. }
             | Command::Source
@@ -219,7 +178,7 @@ impl Task<'_> {
         requires begun { loaded.now.meta ≢ [] }
         ensures form { OnOk result (IsWellFormed self.now.prepared.now.campaign loaded.now) }
         ensures state { IfOk result (IsStateOf self.now.prepared.now.campaign (history self.now.prepared.now.campaign loaded.now).journal) }
-        ensures refused { IfErr result (λ refusal. (command : Asked) → command ≢ Command.Init → RefusesBook command self.now.prepared.now loaded.now refusal) }
+        ensures refused { IfErr result (λ refusal. (command : Asked) (aim : Aim) → command ≢ Command.Init → RefusesBook command aim self.now.prepared.now loaded.now refusal) }
     {
         refused_books_are_ill_formed();
         match check_book(self.alloc, &self.prepared.campaign, loaded) {
@@ -241,7 +200,7 @@ impl Task<'_> {
         requires plan { IsPlan self.now.prepared.now }
         requires begun { loaded.now.meta ≢ [] }
         requires kept { K.tells keeper.now → Keeps (K.holds keeper.now) (K.leaves keeper.now) loaded.now }
-        ensures work { K.tells keeper.now → (n : ℕ) → Work (K.leaves keeper.now) (O.written out.old) (O.written out.new) n n command self.now.prepared.now loaded.now result }
+        ensures work { K.tells keeper.now → (n : ℕ) (aim : Aim) → Work (K.leaves keeper.now) (O.written out.old) (O.written out.new) n n command aim self.now.prepared.now loaded.now result }
         ensures ends { Ends (O.written out.old) (O.written out.new) (K.faults keeper.now) (K.faults keeper.now) (O.faults out.old) (O.faults out.new) result }
     {
         match self.read_state(loaded) {
@@ -256,6 +215,7 @@ impl Task<'_> {
     fn go_on<K: Keeper, O: Sink, L: Ledger>(
         &self,
         command: Command,
+        goal: &Goal,
         loaded: &Book,
         keeper: &mut K,
         out: &mut O,
@@ -263,13 +223,14 @@ impl Task<'_> {
     ) -> Outcome
         requires settled { IsTrue (K.is_settled keeper.old) }
         requires plan { IsPlan self.now.prepared.now }
+        requires limit { Runs command → HasItsLimit self.now.prepared.now }
         requires book { OnBook command }
-        requires goal { IsGoal (goal_of command) }
+        requires goal { IsGoal goal.now }
         requires slots { HasSlots command }
         requires begun { loaded.now.meta ≢ [] }
         requires kept { K.tells keeper.old → Keeps (K.holds keeper.old) (K.leaves keeper.old) loaded.now }
         ensures tells { K.tells keeper.new → K.tells keeper.old }
-        ensures work { K.tells keeper.new → Work (K.leaves keeper.new) (O.written out.old) (O.written out.new) steps.old steps.new command self.now.prepared.now loaded.now result }
+        ensures work { K.tells keeper.new → Work (K.leaves keeper.new) (O.written out.old) (O.written out.new) steps.old steps.new command goal.now self.now.prepared.now loaded.now result }
         ensures ends { Ends (O.written out.old) (O.written out.new) (K.faults keeper.old) (K.faults keeper.new) (O.faults out.old) (O.faults out.new) result }
     {
         match command {
@@ -277,8 +238,8 @@ impl Task<'_> {
             Command::Run {
                 jobs,
                 stop_after,
-                retry,
-            } => { self.resume(jobs, stop_after, retry, loaded, keeper, out, steps) }
+                ..
+            } => self.resume(jobs, stop_after, goal, loaded, keeper, out, steps),
             Command::List
             | Command::Status { .. }
             | Command::Source
@@ -291,6 +252,7 @@ impl Task<'_> {
     pub(crate) fn carry_out<K: Keeper, O: Sink, L: Ledger>(
         &self,
         command: Command,
+        goal: &Goal,
         loaded: &Book,
         keeper: &mut K,
         out: &mut O,
@@ -298,20 +260,21 @@ impl Task<'_> {
     ) -> Outcome
         requires settled { IsTrue (K.is_settled keeper.old) }
         requires plan { IsPlan self.now.prepared.now }
+        requires limit { Runs command → HasItsLimit self.now.prepared.now }
         requires book { OnBook command }
-        requires goal { IsGoal (goal_of command) }
+        requires goal { IsGoal goal.now }
         requires slots { HasSlots command }
         requires kept { K.tells keeper.old → Keeps (K.holds keeper.old) (K.leaves keeper.old) loaded.now }
         ensures tells { K.tells keeper.new → K.tells keeper.old }
-        ensures work { K.tells keeper.new → Work (K.leaves keeper.new) (O.written out.old) (O.written out.new) steps.old steps.new command self.now.prepared.now loaded.now result }
+        ensures work { K.tells keeper.new → Work (K.leaves keeper.new) (O.written out.old) (O.written out.new) steps.old steps.new command goal.now self.now.prepared.now loaded.now result }
         ensures ends { Ends (O.written out.old) (O.written out.new) (K.faults keeper.old) (K.faults keeper.new) (O.faults out.old) (O.faults out.new) result }
     {
         if loaded.is_blank() {
-            return self.start(command, keeper, out, steps);
+            return self.start(command, goal, keeper, out, steps);
         }
         if loaded.meta.as_slice().is_empty() {
             return Outcome::BookBad(stray(loaded));
         }
-        self.go_on(command, loaded, keeper, out, steps)
+        self.go_on(command, goal, loaded, keeper, out, steps)
     }
 }

@@ -1,5 +1,5 @@
 -- The numbers of what sites draw are their places, in order.
-use Rattle.std.proofs.Common.{◌≡◌, ℕ, ◌+◌, ◌≤◌, List, [], ◌∷◌, length, map, refl, sym, ap, ◌∙◌, subst, arith}
+use Rattle.std.proofs.Common.{◌≡◌, ℕ, suc, ◌+◌, ◌≤◌, Bool, cond, true, false, filter, List, [], ◌∷◌, length, map, refl, sym, ap, subst, arith}
 use Rattle.std.specs.List.Sorted.{IsPermutation}
 use Rattle.std.proofs.lemmas.List.Sorted.{IsPermutation-refl}
 use Rattle.rand_pcg.specs.Lcg.{Lcg}
@@ -10,8 +10,9 @@ use Rattle.mutation_select.specs.declared.words.Drawn.{Drawn}
 use Rattle.mutation_select.specs.declared.pick.Pick.{Pick}
 use Rattle.mutation_select.specs.declared.pick.Pick.TheVariants.{Plain, Even}
 use Rattle.mutation_select.specs.Draws.{drawn}
-use Rattle.mutation_select.specs.Selection.{draw_number, draws, number_of, rank, with_rank}
+use Rattle.mutation_select.specs.Selection.{draw_number, draws, is_kept, kept, number_of, rank, with_rank}
 use Rattle.mutation_select.specs.Walks.{Ascends}
+use Rattle.mutation_select.proofs.Ascending.{Ascends-filter}
 
 pub drawn-ascends : (netlist : RawNetlist) (g : Lcg) (i : ℕ) (sites : List Site) → Ascends i (map number_of (drawn netlist g i sites))
 drawn-ascends netlist g i [] = tt
@@ -20,6 +21,21 @@ drawn-ascends netlist g i (site ∷ more) = (omega arith, drawn-ascends netlist 
 pub length-drawn : (netlist : RawNetlist) (g : Lcg) (i : ℕ) (sites : List Site) → length (drawn netlist g i sites) ≡ length sites
 length-drawn netlist g i [] = refl
 length-drawn netlist g i (site ∷ more) = omega (arith, length-drawn netlist (pcg64 g).1 (i + 1) more)
+
+-- of those that are kept too
+pub kept-ascends : (omitted : List Bool) (words : List Drawn) → Ascends 0 (map number_of words) → Ascends 0 (map number_of (kept omitted words))
+kept-ascends omitted words ascends = Ascends-filter (is_kept omitted) number_of 0 words ascends
+
+filtered-length : {X : Type 0} (p : X → Bool) (xs : List X) → length (filter p xs) ≤ length xs
+filtered-length p [] = omega arith
+filtered-length p (x ∷ xs) = by (p x) (filtered-length p xs)
+  where
+    by : (b : Bool) → length (filter p xs) ≤ length xs → length (cond b (x ∷ filter p xs) (filter p xs)) ≤ suc (length xs)
+    by true few = omega (arith, few)
+    by false few = omega (arith, few)
+
+pub length-kept : (omitted : List Bool) (words : List Drawn) → length (kept omitted words) ≤ length words
+length-kept omitted words = filtered-length (is_kept omitted) words
 
 ranked-numbers : (f : Drawn → ℕ) (sites : List Drawn) → map draw_number (map (λ d. with_rank (f d) d) sites) ≡ map number_of sites
 ranked-numbers f [] = refl

@@ -11,20 +11,17 @@ use Rattle.std.proofs.lemmas.Bool.Decides.{nat_tests}
 use Rattle.std.proofs.lemmas.Cmp.{upto, tied_itself}
 use Rattle.std.proofs.lemmas.List.{length-map, get_or-map}
 use Rattle.std.proofs.lemmas.List.Sums.{length-filter}
-use Rattle.rand_pcg.specs.Lcg.{Lcg}
-use Rattle.rand_pcg.specs.Pcg.{pcg64}
-use Rattle.netlist_core.specs.declared.raw.RawNetlist.{RawNetlist}
-use Rattle.mutation_sites.specs.declared.site.Site.{Site}
 use Rattle.mutation_select.specs.declared.draw.Draw.{Draw}
 use Rattle.mutation_select.specs.declared.words.Drawn.{Drawn}
 use Rattle.mutation_select.specs.declared.pick.Pick.{Pick}
 use Rattle.mutation_select.specs.declared.pick.Pick.TheVariants.{Plain, Even}
 use Rattle.mutation_select.specs.Draws.{drawn}
-use Rattle.mutation_select.specs.Selection.{draw_cmp, draw_number, draws, is_taken, number_of, rank, with_rank}
+use Rattle.mutation_select.specs.Selection.{draw_cmp, draw_number, draws, is_taken, kept, number_of, rank, selected, with_rank}
 use Rattle.mutation_select.specs.Laws.{SelectionsAreFew}
+use Rattle.mutation_select.specs.Walks.{Ascends}
 use Rattle.mutation_select.proofs.Counts.{count-cons, count-no, count-yes}
 use Rattle.mutation_select.proofs.Order.{equal-last, equal-numbers}
-use Rattle.mutation_select.proofs.Numbered.{length-draws}
+use Rattle.mutation_select.proofs.Numbered.{drawn-ascends, kept-ascends, length-draws}
 
 -- Counts.
 
@@ -148,12 +145,6 @@ draw_total = search (comparing, rules)
 draw_tells : (x y : Draw) → draw_cmp x y ≡ Equal → draw_number x ≡ draw_number y
 draw_tells x y h = equal-numbers x.number y.number (equal-last (nat_cmp x.word y.word) _ (equal-last (nat_cmp x.rank y.rank) _ h))
 
--- what a site draws has the number of its place
-drawn_number : (netlist : RawNetlist) (g : Lcg) (n : ℕ) (sites : List Site) (k : ℕ) (d : Drawn) → k < length (drawn netlist g n sites) → (get_or (drawn netlist g n sites) k d).number ≡ n + k
-drawn_number netlist g n [] k d within = absurd (omega (arith, within))
-drawn_number netlist g n (site ∷ more) zero d within = omega arith
-drawn_number netlist g n (site ∷ more) (suc k) d within = omega (arith, drawn_number netlist (pcg64 g).1 (n + 1) more k d (omega (arith, within)))
-
 ranked_number : (f : Drawn → ℕ) (words : List Drawn) (k : ℕ) (d : Draw) (e : Drawn) → k < length words → draw_number (get_or (map (λ w. with_rank (f w) w) words) k d) ≡ number_of (get_or words k e)
 ranked_number f words k d e within = ap draw_number (get_or-map (λ w. with_rank (f w) w) words k e d within)
 
@@ -161,13 +152,30 @@ draws_number : (pick : Pick) (words : List Drawn) (k : ℕ) (d : Draw) (e : Draw
 draws_number Plain words k d e within = ranked_number (λ w. 0) words k d e within
 draws_number Even words k d e within = ranked_number (rank words) words k d e within
 
-pub within_size : SelectionsAreFew
-within_size pick size netlist g sites =
-    let words : List Drawn = drawn netlist g 0 sites in
+-- numbers that ascend are apart
+ascends_above : (i : ℕ) (ns : List ℕ) (k : ℕ) → Ascends i ns → k < length ns → i ≤ get_or ns k 0
+ascends_above i [] k ascends within = absurd (omega (arith, within))
+ascends_above i (n ∷ more) zero ascends within = ascends.0
+ascends_above i (n ∷ more) (suc k) ascends within = omega (arith, ascends.0, ascends_above (n + 1) more k ascends.1 (omega (arith, within)))
+
+ascends_less : (i : ℕ) (ns : List ℕ) (j k : ℕ) → Ascends i ns → j < k → k < length ns → get_or ns j 0 < get_or ns k 0
+ascends_less i [] j k ascends less within = absurd (omega (arith, within))
+ascends_less i (n ∷ more) zero zero ascends less within = absurd (omega (arith, less))
+ascends_less i (n ∷ more) zero (suc k) ascends less within = omega (arith, ascends_above (n + 1) more k ascends.1 (omega (arith, within)))
+ascends_less i (n ∷ more) (suc j) zero ascends less within = absurd (omega (arith, less))
+ascends_less i (n ∷ more) (suc j) (suc k) ascends less within = ascends_less (n + 1) more j k ascends.1 (omega (arith, less)) (omega (arith, within))
+
+selected_few : (pick : Pick) (size : ℕ) (words : List Drawn) → Ascends 0 (map number_of words) → length (selected pick size words) ≤ size
+selected_few pick size words ascends =
     let all : List Draw = draws pick words in
     let long : length all ≡ length words = length-draws pick words in
-    let at : (k : ℕ) (d : Draw) → k < length all → draw_number (get_or all k d) ≡ k = λ k d within.
     let e : Drawn = record { file = 0; line = 0; word = 0; number = 0 } in
-    omega (arith, draws_number pick words k d e (omega (arith, within, long)), drawn_number netlist g 0 sites k e (omega (arith, within, long))) in
-    let apart : (i j : ℕ) (d : Draw) → i < j → j < length all → draw_number (get_or all i d) ≢ draw_number (get_or all j d) = λ i j d less within same. omega (arith, less, same, at i d (omega (arith, less, within)), at j d within) in
+    let at : (k : ℕ) (d : Draw) → k < length all → draw_number (get_or all k d) ≡ get_or (map number_of words) k 0 = λ k d within.
+    draws_number pick words k d e (omega (arith, within, long)) ∙ sym (get_or-map number_of words k e 0 (omega (arith, within, long))) in
+    let many : length (map number_of words) ≡ length words = length-map words number_of in
+    let apart : (i j : ℕ) (d : Draw) → i < j → j < length all → draw_number (get_or all i d) ≢ draw_number (get_or all j d) = λ i j d less within same.
+    omega (arith, same, at i d (omega (arith, less, within)), at j d within, ascends_less 0 (map number_of words) i j ascends less (omega (arith, within, long, many))) in
     omega (arith, length-map (filter (is_taken size all) all) draw_number, length-filter (is_taken size all) all, few_below draw_cmp draw_total draw_number draw_tells all apart size)
+
+pub within_size : SelectionsAreFew
+within_size pick size netlist g sites omitted = selected_few pick size (kept omitted (drawn netlist g 0 sites)) (kept-ascends omitted (drawn netlist g 0 sites) (drawn-ascends netlist g 0 sites))

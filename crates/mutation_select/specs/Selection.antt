@@ -1,5 +1,5 @@
 -- The selection: which sites are the first so many, by word and number, or by rank, word and number.
-use Rattle.std.specs.Prelude.{ℕ, List, map, Bool, ◌&&◌, eqb, ltb, filter}
+use Rattle.std.specs.Prelude.{ℕ, List, map, Bool, false, not, ◌&&◌, eqb, ltb, filter, slice_index_or}
 use Rattle.std.specs.List.{count_by}
 use Rattle.std.specs.declared.cmp.Ordering.{Ordering}
 use Rattle.std.specs.Ordering.{nat_cmp, on, then_cmp, is_lt}
@@ -13,6 +13,14 @@ number_of d = d.number
 
 abbrev pub draw_number : Draw → ℕ
 draw_number d = d.number
+
+-- a site counts where the flag of its number is not set, or where there is none
+abbrev pub is_kept : List Bool → Drawn → Bool
+is_kept omitted d = not (slice_index_or omitted d.number false)
+
+-- the sites that count, with what they draw among all
+abbrev pub kept : List Bool → List Drawn → List Drawn
+kept omitted sites = filter (is_kept omitted) sites
 
 -- by word, then by number
 abbrev pub drawn_cmp : Drawn → Drawn → Ordering

@@ -32,6 +32,7 @@ source_spot (f.Parse error) = spot_of (parse_place error)
 source_spot (f.Elab error) = spot_of (elab_place error)
 source_spot (f.Bench test error) = spot_in test (bench_place error)
 source_spot (f.TooMany kind) = Nowhere
+source_spot f.NoSites = Nowhere
 
 abbrev pub missing_spot : What → Spot
 missing_spot (w.Kind test) = Test test

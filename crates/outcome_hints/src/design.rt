@@ -41,6 +41,9 @@ pub(crate) fn source_told(fault: &SourceFault) -> Told
         SourceFault::Elab(error) => elab_told(error),
         SourceFault::Bench(test, error) => bench_told(*test, *error),
         SourceFault::TooMany(kind) => nowhere(limit_hint(*kind)),
+        SourceFault::NoSites => nowhere(
+            "the lines of only and the instances of skip in config.mcy leave no site: mcy init without them tells how many there are",
+        ),
     }
 }
 

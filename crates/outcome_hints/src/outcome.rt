@@ -42,7 +42,7 @@ fn call_hint(outcome: &Outcome) -> &'static str
             "standard output took no more, as where its disk is full; what was kept stays, and status, list and source tell it again"
         }
         Outcome::BaselineBad => {
-            "a bench does not pass with the design itself: mend its text, its cycles or the design first, since each mutant looks noticed else"
+            "a bench does not pass with the design itself, so that each mutant would look noticed: mcy baseline tells which, and its text, its cycles or the design is to be mended"
         }
         Outcome::RequirementMissed => {
             "status tells the counts, and list which mutations they are"

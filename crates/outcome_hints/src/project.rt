@@ -18,7 +18,7 @@ pub(crate) fn project_told(error: ProjectError) -> Told
         }
         ProjectError::BadLine(number) => in_line(
             number,
-            "this is not the form of the line, or does not go with the kind of its test (docs/FORMATS.md has all forms)",
+            "this is not the form of the line, names a tag or a file that there is not, or does not go with the kind of its test (docs/FORMATS.md has all forms)",
         ),
         ProjectError::UnknownKey(number) => in_line(
             number,

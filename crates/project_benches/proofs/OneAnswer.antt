@@ -1,5 +1,6 @@
 -- A test has a bench, but for how its nodes are numbered, or one fault.
 pub use Rattle.project_sources.proofs.OneAnswer.{netlist_cells, netlists_are_one}
+pub use Rattle.project_sources.proofs.Skipping.{skips_once}
 use Rattle.std.proofs.Common.{◌≡◌, ◌≢◌, ℕ, zero, suc, List, [], ◌∷◌, map, Option, None, Some, slice_get, refl, sym, ap, ◌∙◌, subst}
 use Rattle.mcy_base.specs.declared.span.Span.{Span}
 use Rattle.mcy_base.specs.declared.file.SourceFile.{SourceFile}

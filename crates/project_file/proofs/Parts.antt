@@ -1,8 +1,9 @@
 -- The faults behind lines and sections, by what these read.
-use Rattle.std.proofs.Common.{◌≡◌, ℕ, Bool, true, false, List, [], Some, None, ap}
+use Rattle.std.proofs.Common.{◌≡◌, ℕ, true, false, List, [], Some, None, ap}
 use Rattle.project_lines.specs.declared.error.ProjectError.TheVariants.{BadLine}
 use Rattle.project_lines.specs.Lines.{is_said}
-use Rattle.project_lines.specs.Paths.{Known, gather, with_names}
+use Rattle.project_lines.specs.Paths.{gather, with_names}
+use Rattle.project_options.specs.Options.{Around}
 use Rattle.project_lines.specs.Sections.{Part}
 use Rattle.project_lines.proofs.Reading.{none_where, some_where}
 use Rattle.project_file.specs.Projects.{lead_fault, part_at, part_fault, part_reads}
@@ -22,6 +23,6 @@ unfolding lead_fault
 lead_good earlier number line h = none_where (is_said line) (BadLine number) h
 
 -- a section behind others
-pub part_same : (known : Known) (earlier : List Part) (read : List (List ℕ)) (number : ℕ) (part : Part) → read ≡ with_names [] (gather (part_reads known) earlier) → part_at known read earlier part ≡ part_fault known earlier number part
+pub part_same : (around : Around) (earlier : List Part) (read : List (List ℕ)) (number : ℕ) (part : Part) → read ≡ with_names [] (gather (part_reads around.known) earlier) → part_at around read earlier part ≡ part_fault around earlier number part
 unfolding part_fault
-part_same known earlier read number part e = ap (λ r. part_at known r earlier part) e
+part_same around earlier read number part e = ap (λ r. part_at around r earlier part) e

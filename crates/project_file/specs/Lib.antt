@@ -1,3 +1,3 @@
-pub mod Options
+pub mod Values
 pub mod Tests
 pub mod Projects

@@ -14,7 +14,8 @@ use Rattle.project_lines.specs.Checks.{first_fault, first_of_two}
 use Rattle.project_lines.specs.Lines.{is_said, has_line}
 use Rattle.project_lines.specs.Sections.{Part, lead, parts_of, title_of, name_in, has_header, find_part, lines_in, tests_in}
 use Rattle.project_lines.specs.Paths.{Known, find_path, files_fault, with_names, gather}
-use Rattle.project_file.specs.Options.{option_fault, size_in, tags_in, seed_in, modes_in, is_even_in, conflicts_in, cycles_in}
+use Rattle.project_options.specs.Options.{Around, option_fault}
+use Rattle.project_file.specs.Values.{conflicts_in, cycles_in, is_auto_in, is_checked_in, is_even_in, modes_in, only_in, requirement_in, seed_in, size_in, skip_in, tags_in}
 use Rattle.project_lines.specs.Scripts.{script_fault, script_reads, first_top}
 use Rattle.project_file.specs.Tests.{test_fault, test_reads, plan_of, is_sim, has_kind}
 
@@ -40,12 +41,12 @@ unfoldable pub header_fault : List Part → ℕ → List ℕ → Option ProjectE
 header_fault earlier number header = titled_fault (title_of header) earlier number header
 
 -- what is wrong with the lines of a section, numbered from here on
-abbrev pub lines_fault : Known → List (List ℕ) → Option Title → ℕ → List (List ℕ) → Option ProjectError
-lines_fault known names (Some Options) number lines = first_fault option_fault [] number lines
-lines_fault known names (Some Script) number lines = first_fault (script_fault known names) [] number lines
-lines_fault known names (Some Files) number lines = first_fault files_fault [] number lines
-lines_fault known names (Some Test) number lines = first_fault (test_fault names) [] number lines
-lines_fault known names _ number lines = None
+abbrev pub lines_fault : Around → List (List ℕ) → Option Title → ℕ → List (List ℕ) → Option ProjectError
+lines_fault around names (Some Options) number lines = first_fault (option_fault around) [] number lines
+lines_fault around names (Some Script) number lines = first_fault (script_fault around.known names) [] number lines
+lines_fault around names (Some Files) number lines = first_fault files_fault [] number lines
+lines_fault around names (Some Test) number lines = first_fault (test_fault names) [] number lines
+lines_fault around names _ number lines = None
 
 -- the files that the lines of a section read
 abbrev pub reads_in : Known → Option Title → List (List ℕ) → List (List ℕ)
@@ -57,13 +58,13 @@ unfoldable pub part_reads : Known → Part → List (List ℕ)
 part_reads known part = reads_in known (title_of part.header) part.lines
 
 -- the same with the files `names` that are read before it
-unfoldable pub part_at : Known → List (List ℕ) → List Part → Part → Option ProjectError
-part_at known names earlier part =
-    first_of_two (header_fault earlier part.number part.header) (lines_fault known names (title_of part.header) (part.number + 1) part.lines)
+unfoldable pub part_at : Around → List (List ℕ) → List Part → Part → Option ProjectError
+part_at around names earlier part =
+    first_of_two (header_fault earlier part.number part.header) (lines_fault around names (title_of part.header) (part.number + 1) part.lines)
 
 -- what is wrong with a section behind these
-unfoldable pub part_fault : Known → List Part → ℕ → Part → Option ProjectError
-part_fault known earlier number part = part_at known (with_names [] (gather (part_reads known) earlier)) earlier part
+unfoldable pub part_fault : Around → List Part → ℕ → Part → Option ProjectError
+part_fault around earlier number part = part_at around (with_names [] (gather (part_reads around.known) earlier)) earlier part
 
 -- the first test without a kind
 unfoldable pub missing_kind : ℕ → List Part → Option ProjectError
@@ -99,9 +100,21 @@ missing parts =
     if not (is_some (find_part (codes "script") parts)) then Some (Missing what.Script) else
     first_of_two (missing_in_script (lines_in (codes "script") parts)) (missing_behind_script parts)
 
+-- the paths of `[files]`
+abbrev pub known_in : List Part → Known
+known_in parts = find_path (lines_in (codes "files") parts)
+
+-- the files of the design
+unfoldable pub design_in : List Part → List (List ℕ)
+design_in parts = gather (script_reads (known_in parts)) (lines_in (codes "script") parts)
+
+-- what lines of `[options]` may speak of
+abbrev pub around_in : List Part → Around
+around_in parts = record { tags = tags_in (lines_in (codes "options") parts); known = known_in parts; design = design_in parts }
+
 -- what is wrong with these sections, and what they lack
 unfoldable pub parts_fault : List Part → Option ProjectError
-parts_fault parts = first_of_two (first_fault (part_fault (find_path (lines_in (codes "files") parts))) [] 0 parts) (missing parts)
+parts_fault parts = first_of_two (first_fault (part_fault (around_in parts)) [] 0 parts) (missing parts)
 
 -- the fault of the first bad line, else of what is missing
 unfoldable pub fault_of : List (List ℕ) → Option ProjectError
@@ -121,9 +134,6 @@ raw_lines word parts = elim (find_part word parts) [ None ↦ [] | Some part ↦
 abbrev pub test_of : Part → TestPlan
 test_of part = plan_of (name_in part.header) part.lines
 
-unfoldable pub design_in : List Part → List (List ℕ)
-design_in parts = gather (script_reads (find_path (lines_in (codes "files") parts))) (lines_in (codes "script") parts)
-
 unfoldable pub top_in : List Part → List ℕ
 top_in parts = unwrap_or (first_top (lines_in (codes "script") parts)) []
 
@@ -139,6 +149,11 @@ project_of parts =
       even = is_even_in options;
       conflicts = conflicts_in options;
       cycles = cycles_in options;
+      auto_cycles = is_auto_in options;
+      baseline = is_checked_in options;
+      requirement = requirement_in options;
+      only = only_in (known_in parts) options;
+      skip = skip_in options;
       design = design_in parts;
       top = top_in parts;
       logic = raw_lines (codes "logic") parts;

@@ -11,7 +11,7 @@ use Rattle.project_lines.specs.Lines.{key_of, args_of, text_of, is_said, find_li
 use Rattle.project_lines.specs.Words.{is_name, is_among, are_all, is_one}
 use Rattle.project_lines.specs.Numbers.{is_number}
 use Rattle.project_lines.specs.Paths.{with_names, count_fault, gather}
-use Rattle.project_file.specs.Options.{args_in}
+use Rattle.project_file.specs.Values.{args_in}
 
 unfoldable pub test_key : List ℕ → Option TestKey
 test_key word =

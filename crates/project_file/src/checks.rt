@@ -1,16 +1,18 @@
 //! The checks of a project file: each line behind the lines before it, so that the first bad one is told.
 ghost use Rattle.std.specs.Prelude.{◌≡◌, ◌<◌, ◌+◌, ◌-◌, ◌^◌, [], IfOk, OnOk, Some, length, map};
 ghost use Rattle.project_lines.specs.Checks.{Checks, first_fault};
-ghost use Rattle.project_lines.specs.Paths.{paths_in, with_names};
+ghost use Rattle.project_lines.specs.Paths.{with_names};
+ghost use Rattle.project_options.specs.Options.{around_of};
 ghost use Rattle.project_file.specs.Projects.{fault_of, header_fault, is_test_too_many, lead_fault, lines_fault, missing, missing_behind_script, missing_in_script, missing_in_tests, missing_kind, missing_pass, part_at, part_fault, part_reads, parts_fault, reads_in};
 ghost use Rattle.project_lines.specs.Sections.{lead, parts_of, seen, tests_in, title_of};
 
-use crate::options::check_options;
 use crate::test_plan::{check_test, has_kind, lacks_pass};
+use crate::values::args_in;
 use project_lines::{
-    Paths, ProjectError, ReadFiles, Section, Title, What, check_files, check_script, find_section,
-    first_top, has_header, has_line, is_said, lead, lines_in, tests_in, title_of,
+    Paths, ProjectError, ReadFiles, Section, Title, What, all_reads, check_files, check_script,
+    find_section, first_top, has_header, has_line, is_said, lead, lines_in, tests_in, title_of,
 };
+use project_options::{Around, check_options};
 use std::alloc::{AllocError, Global};
 
 /// The most tests of a project.
@@ -71,19 +73,19 @@ fn check_header(
 #[tactic(auto, unfolding(project_lines::specs::Paths::with_names))]
 fn check_lines<'a>(
     alloc: Global,
-    paths: &Paths<'a>,
+    around: &Around<'_, 'a>,
     read: &mut ReadFiles<'a>,
     title: Title,
     number: u32,
     lines: &[&'a str],
 ) -> Result<(), ProjectError>
     requires { number + length lines.now < 2 ^ 32 }
-    ensures fault { Checks result (lines_fault (paths_in paths.now) read.old (Some title) number (map (λ line. line.now) lines.now)) }
-    ensures read { OnOk result (read.new ≡ with_names read.old (reads_in (paths_in paths.now) (Some title) (map (λ line. line.now) lines.now))) }
+    ensures fault { Checks result (lines_fault (around_of around.now) read.old (Some title) number (map (λ line. line.now) lines.now)) }
+    ensures read { OnOk result (read.new ≡ with_names read.old (reads_in (around_of around.now).known (Some title) (map (λ line. line.now) lines.now))) }
 {
     match title {
-        Title::Options => check_options(alloc, number, lines),
-        Title::Script => check_script(alloc, paths, read, number, lines),
+        Title::Options => check_options(alloc, around, number, lines),
+        Title::Script => check_script(alloc, around.paths, read, number, lines),
         Title::Files => check_files(alloc, number, lines),
         Title::Logic | Title::Report => Ok(()),
         Title::Test => check_test(alloc, read, number, lines),
@@ -94,30 +96,37 @@ fn check_lines<'a>(
 #[tactic(auto, unfolding(crate::specs::Projects::part_at, crate::specs::Projects::part_reads))]
 fn check_section<'a>(
     alloc: Global,
-    paths: &Paths<'a>,
+    around: &Around<'_, 'a>,
     read: &mut ReadFiles<'a>,
     earlier: &[Section<'_, '_>],
     section: &Section<'_, 'a>,
 ) -> Result<(), ProjectError>
-    ensures fault { Checks result (part_at (paths_in paths.now) read.old (map seen earlier.now) (seen section.now)) }
-    ensures read { OnOk result (read.new ≡ with_names read.old (part_reads (paths_in paths.now) (seen section.now))) }
+    ensures fault { Checks result (part_at (around_of around.now) read.old (map seen earlier.now) (seen section.now)) }
+    ensures read { OnOk result (read.new ≡ with_names read.old (part_reads (around_of around.now).known (seen section.now))) }
 {
     let title = check_header(alloc, earlier, section.number, section.header)?;
-    check_lines(alloc, paths, read, title, section.number + 1, section.lines)
+    check_lines(
+        alloc,
+        around,
+        read,
+        title,
+        section.number + 1,
+        section.lines,
+    )
 }
 
 /// Checks sections in order.
 #[tactic(auto, unfolding(project_lines::specs::Paths::with_names, project_lines::specs::Paths::gather))]
 fn check_sections<'a>(
     alloc: Global,
-    paths: &Paths<'a>,
+    around: &Around<'_, 'a>,
     sections: &[Section<'_, 'a>],
 ) -> Result<(), ProjectError>
-    ensures { Checks result (first_fault (part_fault (paths_in paths.now)) [] 0 (map seen sections.now)) }
+    ensures { Checks result (first_fault (part_fault (around_of around.now)) [] 0 (map seen sections.now)) }
 {
     let mut read = ReadFiles::new(alloc);
     for (i, section) in sections.iter().enumerate() {
-        check_section(alloc, paths, &mut read, &sections[..i], section)?;
+        check_section(alloc, around, &mut read, &sections[..i], section)?;
     }
     Ok(())
 }
@@ -198,13 +207,20 @@ fn check_missing(alloc: Global, sections: &[Section<'_, '_>]) -> Result<(), Proj
 }
 
 /// Checks the sections of a file, and that nothing is missing.
-#[tactic(auto, unfolding(crate::specs::Projects::parts_fault))]
+#[tactic(auto, unfolding(crate::specs::Projects::parts_fault, crate::specs::Projects::design_in))]
 fn check_parts(alloc: Global, sections: &[Section<'_, '_>]) -> Result<(), ProjectError>
     requires { length sections.now < 2 ^ 32 }
     ensures { Checks result (parts_fault (map seen sections.now)) }
 {
     let paths = Paths::of(alloc, lines_in("files", sections))?;
-    check_sections(alloc, &paths, sections)?;
+    let tags = args_in(alloc, "tags", lines_in("options", sections))?;
+    let design = all_reads(alloc, &paths, lines_in("script", sections))?;
+    let around = Around {
+        tags: &tags,
+        paths: &paths,
+        design: &design,
+    };
+    check_sections(alloc, &around, sections)?;
     check_missing(alloc, sections)
 }
 

@@ -43,6 +43,46 @@ pub struct TestPlan {
 /// Tests.
 pub type TestPlanList = Items<TestPlan>;
 
+/// What is required of the tags: a share of those that are counted, in percent.
+#[derive(Drop)]
+pub struct Requirement {
+    /// From 1 to 100.
+    pub percent: u32,
+    /// The tag whose mutations are counted.
+    pub counted: Text,
+    /// The tags whose mutations are the whole.
+    pub among: TextList,
+}
+
+impl Requirement {
+    /// The same requirement.
+    pub fn copy(&self, alloc: Global) -> Result<Requirement, AllocError>
+        ensures { IfOk result (λ requirement. requirement ≡ self.now) }
+    {
+        let mut among = Vec::new(alloc);
+        for tag in self.among.as_slice() {
+            among.push(Text::copy(alloc, tag.as_str())?)?;
+        }
+        Ok(Requirement {
+            percent: self.percent,
+            counted: Text::copy(alloc, self.counted.as_str())?,
+            among: TextList::from_vec(among),
+        })
+    }
+}
+
+/// Lines of a file, from 1; the first is not above the last.
+#[derive(Drop)]
+pub struct LineRange {
+    /// The path of a file of the design.
+    pub file: Text,
+    pub from: u32,
+    pub to: u32,
+}
+
+/// Lines of files.
+pub type LineRangeList = Items<LineRange>;
+
 /// A project.
 #[derive(Drop)]
 pub struct Project {
@@ -57,8 +97,18 @@ pub struct Project {
     pub even: bool,
     /// The most lemmas of an equivalence test, from 1 to 100,000.
     pub conflicts: u32,
-    /// The most cycles of a simulation, from 1 to 1,000,000.
+    /// The most cycles of a simulation, from 1 to 1,000,000. With `auto_cycles` it is that of the design's own, and ten times as many
+    /// as the longest of these takes are the most for a mutant.
     pub cycles: u32,
+    pub auto_cycles: bool,
+    /// Whether a campaign is refused where a bench does not pass with the design itself.
+    pub baseline: bool,
+    /// What is required of the tags, if something is.
+    pub requirement: Option<Requirement>,
+    /// The lines whose sites are taken, at most 64; where there are none, all.
+    pub only: LineRangeList,
+    /// The instances whose sites are left out, at most 64.
+    pub skip: TextList,
     /// The files of the design, in the order in which they are named. A file may stand there twice.
     pub design: TextList,
     /// The name of the design's top module.

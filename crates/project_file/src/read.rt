@@ -6,9 +6,9 @@ ghost use Rattle.project_file.specs.Projects.{IsFault, IsProject, design_in, num
 ghost use Rattle.project_lines.specs.Sections.{seen, tests_in};
 
 use crate::checks::check_file;
-use crate::options::{settings_in, tags_in};
 use crate::project::{Project, TestPlan, TestPlanList};
 use crate::test_plan::plan_of;
+use crate::values::{only_in, requirement_in, settings_in, skip_in, tags_in};
 use mcy_base::{Line, LineList, Text, TextList};
 use project_lines::{
     Paths, ProjectError, Section, all_reads, all_sections, find_section, first_top, lines_in,
@@ -52,6 +52,7 @@ fn project_of(alloc: Global, sections: &[Section<'_, '_>]) -> Result<Project, Al
 {
     let options = lines_in("options", sections);
     let settings = settings_in(alloc, options)?;
+    let paths = Paths::of(alloc, lines_in("files", sections))?;
     Ok(Project {
         size: settings.size,
         tags: tags_in(alloc, options)?,
@@ -60,6 +61,11 @@ fn project_of(alloc: Global, sections: &[Section<'_, '_>]) -> Result<Project, Al
         even: settings.even,
         conflicts: settings.conflicts,
         cycles: settings.cycles,
+        auto_cycles: settings.auto_cycles,
+        baseline: settings.baseline,
+        requirement: requirement_in(alloc, options)?,
+        only: only_in(alloc, &paths, options)?,
+        skip: skip_in(alloc, options)?,
         design: design_in(alloc, sections)?,
         top: top_in(alloc, sections)?,
         logic: raw_lines(alloc, "logic", sections)?,

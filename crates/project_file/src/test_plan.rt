@@ -11,8 +11,8 @@ ghost use Rattle.project_lines.specs.Paths.{count_fault, gather, with_names};
 ghost use Rattle.project_file.specs.Projects.{lacks_pass};
 ghost use Rattle.project_file.specs.Tests.{all_words, bit_if, expects, files_by, formed_fault, has_kind, is_answer, is_clash, is_eq, is_kind, is_none, is_sim, is_sim_form, is_test_form, known_test_fault, kind_by, kind_in, mask_in, mask_of, plan_of, test_at, test_fault, test_key, test_reads, text_in};
 
-use crate::options::args_in;
 use crate::project::{TestKind, TestPlan};
+use crate::values::args_in;
 use mcy_base::{Bytes, Text};
 use project_lines::{
     ProjectError, ReadFiles, args_of, find_line, has_line, is_among, is_name, is_one_number,

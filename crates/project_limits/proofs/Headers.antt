@@ -5,9 +5,10 @@ use Rattle.project_lines.specs.declared.section.Title.{Title}
 use Rattle.project_lines.specs.declared.section.Title.TheVariants.{Test}
 use Rattle.project_lines.specs.Checks.{first_fault}
 use Rattle.project_lines.specs.Lines.{behind_key, is_filled, key_of}
-use Rattle.project_lines.specs.Paths.{Known, find_path, gather, with_names}
-use Rattle.project_file.specs.Projects.{fault_of, header_fault, is_test_too_many, lead_fault, lines_fault, missing, part_at, part_fault, part_reads, parts_fault, titled_fault}
-use Rattle.project_lines.specs.Sections.{Part, has_header, lead, lines_in, name_in, parts_of, plain_title, title_of}
+use Rattle.project_lines.specs.Paths.{gather, with_names}
+use Rattle.project_options.specs.Options.{Around}
+use Rattle.project_file.specs.Projects.{around_in, fault_of, header_fault, is_test_too_many, lead_fault, lines_fault, missing, part_at, part_fault, part_reads, parts_fault, titled_fault}
+use Rattle.project_lines.specs.Sections.{Part, has_header, lead, name_in, parts_of, plain_title, title_of}
 use Rattle.project_lines.specs.Words.{is_name}
 use Rattle.project_limits.proofs.Lines.{none_first, none_later}
 
@@ -49,19 +50,19 @@ room_for_test earlier number header is good =
 
 -- A good section has a good header and good lines.
 
-pub header_good : (known : Known) (earlier : List Part) (number : ℕ) (part : Part) → part_fault known earlier number part ≡ None → header_fault earlier part.number part.header ≡ None
+pub header_good : (around : Around) (earlier : List Part) (number : ℕ) (part : Part) → part_fault around earlier number part ≡ None → header_fault earlier part.number part.header ≡ None
 unfolding part_fault part_at
-header_good known earlier number part good =
-    none_first (header_fault earlier part.number part.header) (lines_fault known (with_names [] (gather (part_reads known) earlier)) (title_of part.header) (part.number + 1) part.lines) good
+header_good around earlier number part good =
+    none_first (header_fault earlier part.number part.header) (lines_fault around (with_names [] (gather (part_reads around.known) earlier)) (title_of part.header) (part.number + 1) part.lines) good
 
-pub lines_good : (known : Known) (earlier : List Part) (number : ℕ) (part : Part) → part_fault known earlier number part ≡ None → lines_fault known (with_names [] (gather (part_reads known) earlier)) (title_of part.header) (part.number + 1) part.lines ≡ None
+pub lines_good : (around : Around) (earlier : List Part) (number : ℕ) (part : Part) → part_fault around earlier number part ≡ None → lines_fault around (with_names [] (gather (part_reads around.known) earlier)) (title_of part.header) (part.number + 1) part.lines ≡ None
 unfolding part_fault part_at
-lines_good known earlier number part good =
-    none_later (header_fault earlier part.number part.header) (lines_fault known (with_names [] (gather (part_reads known) earlier)) (title_of part.header) (part.number + 1) part.lines) good
+lines_good around earlier number part good =
+    none_later (header_fault earlier part.number part.header) (lines_fault around (with_names [] (gather (part_reads around.known) earlier)) (title_of part.header) (part.number + 1) part.lines) good
 
 -- the sections of a file without a fault
-pub sections_good : (all : List (List ℕ)) → fault_of all ≡ None → first_fault (part_fault (find_path (lines_in (codes "files") (parts_of 1 all)))) [] 0 (parts_of 1 all) ≡ None
+pub sections_good : (all : List (List ℕ)) → fault_of all ≡ None → first_fault (part_fault (around_in (parts_of 1 all))) [] 0 (parts_of 1 all) ≡ None
 unfolding fault_of parts_fault
 sections_good all good =
     let parts : List Part = parts_of 1 all in
-    none_first (first_fault (part_fault (find_path (lines_in (codes "files") parts))) [] 0 parts) (missing parts) (none_later (first_fault lead_fault [] 1 (lead all)) (parts_fault parts) good)
+    none_first (first_fault (part_fault (around_in parts)) [] 0 parts) (missing parts) (none_later (first_fault lead_fault [] 1 (lead all)) (parts_fault parts) good)

@@ -4,12 +4,12 @@ use Rattle.std.proofs.lemmas.Bool.Decides.{nat_tests}
 use Rattle.std.specs.Str.Lines.{lines}
 use Rattle.project_file.specs.declared.project.Project.{Project}
 use Rattle.project_lines.specs.Numbers.{is_number, is_within, value, value_within}
-use Rattle.project_file.specs.Options.{conflicts_in, number_in, size_in}
+use Rattle.project_file.specs.Values.{conflicts_in, number_in, size_in}
 use Rattle.project_file.specs.Projects.{IsProject, project_of}
 use Rattle.project_lines.specs.Sections.{Part, parts_of}
 
 -- a number is in a range
-abbrev IsFrom : (least most number : ℕ) → Type 0
+abbrev pub IsFrom : (least most number : ℕ) → Type 0
 IsFrom least most number = (least ≤ number) × (number ≤ most)
 
 from_both : (a b c : Bool) (v default least most : ℕ) → b ≡ nat_le least v → c ≡ nat_le v most → IsFrom least most default → IsFrom least most (if a && (b && c) then v else default)
@@ -18,7 +18,7 @@ from_both true true false v default least most low high is = is
 from_both true false c v default least most low high is = is
 from_both false b c v default least most low high is = is
 
-value_from : (default least most : ℕ) (word : List ℕ) → IsFrom least most default → IsFrom least most (value_within default least most word)
+pub value_from : (default least most : ℕ) (word : List ℕ) → IsFrom least most default → IsFrom least most (value_within default least most word)
 unfolding value_within is_within
 value_from default least most word is = from_both (is_number word) (nat_le least (value word)) (nat_le (value word) most) (value word) default least most refl refl is
 

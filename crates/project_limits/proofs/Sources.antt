@@ -13,8 +13,9 @@ use Rattle.project_file.specs.declared.test_plan.TestKey.{TestKey}
 use Rattle.project_file.specs.declared.test_plan.TestKey.TheVariants.{Run, Eq, Sim, Pass, Fail, Expect, MaxBatchSize}
 use Rattle.project_lines.specs.Checks.{first_fault}
 use Rattle.project_lines.specs.Lines.{args_of, behind_key, find_line, is_filled, is_said, key_of}
-use Rattle.project_lines.specs.Paths.{Known, count_fault, find_path, gather, with_names}
-use Rattle.project_file.specs.Projects.{design_in, header_fault, lines_fault, part_fault, part_reads, project_of, reads_in, test_of, titled_fault, IsProject}
+use Rattle.project_lines.specs.Paths.{count_fault, gather, with_names}
+use Rattle.project_options.specs.Options.{Around}
+use Rattle.project_file.specs.Projects.{around_in, design_in, header_fault, lines_fault, part_fault, part_reads, project_of, reads_in, test_of, titled_fault, IsProject}
 use Rattle.project_lines.specs.Scripts.{first_top, script_fault, script_reads}
 use Rattle.project_lines.specs.Sections.{Part, find_part, is_test, lines_in, name_in, parts_of, plain_title, tests_in, title_of}
 use Rattle.project_file.specs.Tests.{files_by, formed_fault, has_kind, is_clash, is_kind, is_test_form, kind_by, kind_in, known_test_fault, plan_of, test_at, test_fault, test_key, test_key_fault, test_reads}
@@ -45,10 +46,10 @@ more_few reads names earlier x [] is few some =
     subst (λ (ns : List (List ℕ)). length ns ≤ 64) (sym none ∙ names_push reads names earlier x) few
 more_few reads names earlier x (r ∷ rs) is few some = subst (λ (ns : List (List ℕ)). length ns ≤ 64) (names_push reads names earlier x) (some (omega arith))
 
-script_few : (known : Known) (names : List (List ℕ)) → ReadsFew (script_reads known) (script_fault known names) names
+script_few : (around : Around) (names : List (List ℕ)) → ReadsFew (script_reads around.known) (script_fault around.known names) names
 unfolding script_fault
-script_few known names earlier number line good few =
-    more_few (script_reads known) names earlier line (script_reads known line) refl few (λ some. line_few known (with_names names (gather (script_reads known) earlier)) (first_top earlier) number line good some)
+script_few around names earlier number line good few =
+    more_few (script_reads around.known) names earlier line (script_reads around.known line) refl few (λ some. line_few around.known (with_names names (gather (script_reads around.known) earlier)) (first_top earlier) number line good some)
 
 -- a line of a test
 
@@ -99,27 +100,27 @@ nothing_gathered : {X : Type 0} (reads : X → List (List ℕ)) (names : List (L
 unfolding gather
 nothing_gathered reads names few = nothing_read names few
 
-titled_few : (known : Known) (names : List (List ℕ)) (title : Option Title) (number : ℕ) (lines : List (List ℕ)) → lines_fault known names title number lines ≡ None → length names ≤ 64 → length (with_names names (reads_in known title lines)) ≤ 64
-titled_few known names (Some Script) number lines good few = all_few (script_reads known) (script_fault known names) names (script_few known names) [] number lines good (nothing_gathered (script_reads known) names few)
-titled_few known names (Some Test) number lines good few = all_few test_reads (test_fault names) names (test_few names) [] number lines good (nothing_gathered test_reads names few)
-titled_few known names None number lines good few = nothing_read names few
-titled_few known names (Some Options) number lines good few = nothing_read names few
-titled_few known names (Some Files) number lines good few = nothing_read names few
-titled_few known names (Some Logic) number lines good few = nothing_read names few
-titled_few known names (Some Report) number lines good few = nothing_read names few
+titled_few : (around : Around) (names : List (List ℕ)) (title : Option Title) (number : ℕ) (lines : List (List ℕ)) → lines_fault around names title number lines ≡ None → length names ≤ 64 → length (with_names names (reads_in around.known title lines)) ≤ 64
+titled_few around names (Some Script) number lines good few = all_few (script_reads around.known) (script_fault around.known names) names (script_few around names) [] number lines good (nothing_gathered (script_reads around.known) names few)
+titled_few around names (Some Test) number lines good few = all_few test_reads (test_fault names) names (test_few names) [] number lines good (nothing_gathered test_reads names few)
+titled_few around names None number lines good few = nothing_read names few
+titled_few around names (Some Options) number lines good few = nothing_read names few
+titled_few around names (Some Files) number lines good few = nothing_read names few
+titled_few around names (Some Logic) number lines good few = nothing_read names few
+titled_few around names (Some Report) number lines good few = nothing_read names few
 
-part_read_few : (known : Known) (names : List (List ℕ)) (part : Part) (number : ℕ) → lines_fault known names (title_of part.header) number part.lines ≡ None → length names ≤ 64 → length (with_names names (part_reads known part)) ≤ 64
+part_read_few : (around : Around) (names : List (List ℕ)) (part : Part) (number : ℕ) → lines_fault around names (title_of part.header) number part.lines ≡ None → length names ≤ 64 → length (with_names names (part_reads around.known part)) ≤ 64
 unfolding part_reads
-part_read_few known names part number good few = titled_few known names (title_of part.header) number part.lines good few
+part_read_few around names part number good few = titled_few around names (title_of part.header) number part.lines good few
 
-parts_few : (known : Known) → ReadsFew (part_reads known) (part_fault known) []
-parts_few known earlier number part good few =
-    subst (λ (ns : List (List ℕ)). length ns ≤ 64) (names_push (part_reads known) [] earlier part)
-    (part_read_few known (with_names [] (gather (part_reads known) earlier)) part (part.number + 1) (lines_good known earlier number part good) few)
+parts_few : (around : Around) → ReadsFew (part_reads around.known) (part_fault around) []
+parts_few around earlier number part good few =
+    subst (λ (ns : List (List ℕ)). length ns ≤ 64) (names_push (part_reads around.known) [] earlier part)
+    (part_read_few around (with_names [] (gather (part_reads around.known) earlier)) part (part.number + 1) (lines_good around earlier number part good) few)
 
 -- the files of all sections
-all_read_few : (known : Known) (parts : List Part) → first_fault (part_fault known) [] 0 parts ≡ None → length (with_names [] (gather (part_reads known) parts)) ≤ 64
-all_read_few known parts good = all_few (part_reads known) (part_fault known) [] (parts_few known) [] 0 parts good (nothing_gathered (part_reads known) [] (omega arith))
+all_read_few : (around : Around) (parts : List Part) → first_fault (part_fault around) [] 0 parts ≡ None → length (with_names [] (gather (part_reads around.known) parts)) ≤ 64
+all_read_few around parts good = all_few (part_reads around.known) (part_fault around) [] (parts_few around) [] 0 parts good (nothing_gathered (part_reads around.known) [] (omega arith))
 
 -- The files of the design and those of the tests are among them.
 
@@ -135,26 +136,26 @@ abbrev is_script : Part → Bool
 is_script part = bytes_eq (key_of part.header) (codes "script")
 
 -- a good section of a script reads what its lines read
-script_part : (known : Known) (earlier : List Part) (number : ℕ) (part : Part) → is_script part ≡ true → part_fault known earlier number part ≡ None → part_reads known part ≡ gather (script_reads known) part.lines
+script_part : (around : Around) (earlier : List Part) (number : ℕ) (part : Part) → is_script part ≡ true → part_fault around earlier number part ≡ None → part_reads around.known part ≡ gather (script_reads around.known) part.lines
 unfolding part_reads
-script_part known earlier number part is good =
+script_part around earlier number part is good =
     let key : key_of part.header ≡ codes "script" = (bytes_eq-Decides (key_of part.header) (codes "script")).0 is in
-    ap (λ (title : Option Title). reads_in known title part.lines) (header_of_word (codes "script") earlier part.number part.header key refl (header_good known earlier number part good))
+    ap (λ (title : Option Title). reads_in around.known title part.lines) (header_of_word (codes "script") earlier part.number part.header key refl (header_good around earlier number part good))
 
-script_found : (known : Known) (names : List (List ℕ)) (b : Bool) (part : Part) (found : Option Part) → (b ≡ true → AreAmong (gather (script_reads known) part.lines) names) → AreAmong (gather (script_reads known) (elim found [ None ↦ [] | Some part ↦ part.lines ])) names → AreAmong (gather (script_reads known) (elim (cond b (Some part) found) [ None ↦ [] | Some part ↦ part.lines ])) names
-script_found known names true part found here later = here refl
-script_found known names false part found here later = later
+script_found : (around : Around) (names : List (List ℕ)) (b : Bool) (part : Part) (found : Option Part) → (b ≡ true → AreAmong (gather (script_reads around.known) part.lines) names) → AreAmong (gather (script_reads around.known) (elim found [ None ↦ [] | Some part ↦ part.lines ])) names → AreAmong (gather (script_reads around.known) (elim (cond b (Some part) found) [ None ↦ [] | Some part ↦ part.lines ])) names
+script_found around names true part found here later = here refl
+script_found around names false part found here later = later
 
-scripts_among : (known : Known) (names : List (List ℕ)) (earlier : List Part) (number : ℕ) (parts : List Part) → first_fault (part_fault known) earlier number parts ≡ None → AreAmong (gather (part_reads known) parts) names → AreAmong (gather (script_reads known) (elim (find is_script parts) [ None ↦ [] | Some part ↦ part.lines ])) names
-scripts_among known names earlier number [] good are = none_gathered (script_reads known) names
-scripts_among known names earlier number (part ∷ more) good are =
-    let both = gathered_first (part_reads known) part more names are in
-    script_found known names (is_script part) part (find is_script more) (λ is. subst (λ (read : List (List ℕ)). AreAmong read names) (script_part known earlier number part is (head_good (part_fault known) earlier number part more good)) both.0)
-    (scripts_among known names (earlier ++ part ∷ []) (number + 1) more (tail_good (part_fault known) earlier number part more good) both.1)
+scripts_among : (around : Around) (names : List (List ℕ)) (earlier : List Part) (number : ℕ) (parts : List Part) → first_fault (part_fault around) earlier number parts ≡ None → AreAmong (gather (part_reads around.known) parts) names → AreAmong (gather (script_reads around.known) (elim (find is_script parts) [ None ↦ [] | Some part ↦ part.lines ])) names
+scripts_among around names earlier number [] good are = none_gathered (script_reads around.known) names
+scripts_among around names earlier number (part ∷ more) good are =
+    let both = gathered_first (part_reads around.known) part more names are in
+    script_found around names (is_script part) part (find is_script more) (λ is. subst (λ (read : List (List ℕ)). AreAmong read names) (script_part around earlier number part is (head_good (part_fault around) earlier number part more good)) both.0)
+    (scripts_among around names (earlier ++ part ∷ []) (number + 1) more (tail_good (part_fault around) earlier number part more good) both.1)
 
-design_among : (known : Known) (names : List (List ℕ)) (parts : List Part) → known ≡ find_path (lines_in (codes "files") parts) → first_fault (part_fault known) [] 0 parts ≡ None → AreAmong (gather (part_reads known) parts) names → AreAmong (design_in parts) names
+design_among : (around : Around) (names : List (List ℕ)) (parts : List Part) → around ≡ around_in parts → first_fault (part_fault around) [] 0 parts ≡ None → AreAmong (gather (part_reads around.known) parts) names → AreAmong (design_in parts) names
 unfolding design_in lines_in find_part
-design_among known names parts is good are = subst (λ (k : Known). AreAmong (gather (script_reads k) (elim (find is_script parts) [ None ↦ [] | Some part ↦ part.lines ])) names) is (scripts_among known names [] 0 parts good are)
+design_among around names parts is good are = subst (λ (a : Around). AreAmong (gather (script_reads a.known) (elim (find is_script parts) [ None ↦ [] | Some part ↦ part.lines ])) names) is (scripts_among around names [] 0 parts good are)
 
 -- tests
 
@@ -172,11 +173,11 @@ unfolding header_fault title_of
 test_header earlier number header is good =
     test_title (is_filled (key_of (behind_key (behind_key header)))) (is_filled (name_in header)) (bytes_eq (key_of header) (codes "test")) (is_name (name_in header)) (plain_title (key_of header)) earlier number header (ap (λ key. bytes_eq key (codes "test")) is) (ap plain_title is) good
 
-test_part : (known : Known) (earlier : List Part) (number : ℕ) (part : Part) → is_test part ≡ true → part_fault known earlier number part ≡ None → part_reads known part ≡ gather test_reads part.lines
+test_part : (around : Around) (earlier : List Part) (number : ℕ) (part : Part) → is_test part ≡ true → part_fault around earlier number part ≡ None → part_reads around.known part ≡ gather test_reads part.lines
 unfolding part_reads is_test
-test_part known earlier number part is good =
+test_part around earlier number part is good =
     let key : key_of part.header ≡ codes "test" = (bytes_eq-Decides (key_of part.header) (codes "test")).0 is in
-    ap (λ (title : Option Title). reads_in known title part.lines) (test_header earlier part.number part.header key (header_good known earlier number part good))
+    ap (λ (title : Option Title). reads_in around.known title part.lines) (test_header earlier part.number part.header key (header_good around earlier number part good))
 
 -- a line of the key `sim` reads its files
 sim_line : (line : List ℕ) → bytes_eq (key_of line) (codes "sim") ≡ true → test_reads line ≡ drop 1 (args_of line)
@@ -207,25 +208,25 @@ one_test : (names : List (List ℕ)) (b : Bool) (part : Part) (rest : List Part)
 one_test names true part rest here later = among_both (kind_files (test_of part).kind) (flat_map files_of_plan (map test_of rest)) names (here refl) later
 one_test names false part rest here later = later
 
-tests_among : (known : Known) (names : List (List ℕ)) (earlier : List Part) (number : ℕ) (parts : List Part) → first_fault (part_fault known) earlier number parts ≡ None → AreAmong (gather (part_reads known) parts) names → AreAmong (flat_map files_of_plan (map test_of (filter is_test parts))) names
-tests_among known names earlier number [] good are = tt
-tests_among known names earlier number (part ∷ more) good are =
-    let both = gathered_first (part_reads known) part more names are in
-    one_test names (is_test part) part (filter is_test more) (λ is. plan_among names part (subst (λ (read : List (List ℕ)). AreAmong read names) (test_part known earlier number part is (head_good (part_fault known) earlier number part more good)) both.0))
-    (tests_among known names (earlier ++ part ∷ []) (number + 1) more (tail_good (part_fault known) earlier number part more good) both.1)
+tests_among : (around : Around) (names : List (List ℕ)) (earlier : List Part) (number : ℕ) (parts : List Part) → first_fault (part_fault around) earlier number parts ≡ None → AreAmong (gather (part_reads around.known) parts) names → AreAmong (flat_map files_of_plan (map test_of (filter is_test parts))) names
+tests_among around names earlier number [] good are = tt
+tests_among around names earlier number (part ∷ more) good are =
+    let both = gathered_first (part_reads around.known) part more names are in
+    one_test names (is_test part) part (filter is_test more) (λ is. plan_among names part (subst (λ (read : List (List ℕ)). AreAmong read names) (test_part around earlier number part is (head_good (part_fault around) earlier number part more good)) both.0))
+    (tests_among around names (earlier ++ part ∷ []) (number + 1) more (tail_good (part_fault around) earlier number part more good) both.1)
 
 -- So they are few.
 
-files_of : (parts : List Part) → first_fault (part_fault (find_path (lines_in (codes "files") parts))) [] 0 parts ≡ None → length (all_files (project_of parts)) ≤ 64
+files_of : (parts : List Part) → first_fault (part_fault (around_in parts)) [] 0 parts ≡ None → length (all_files (project_of parts)) ≤ 64
 unfolding project_of tests_in
 files_of parts good =
-    let known : Known = find_path (lines_in (codes "files") parts) in
-    let names : List (List ℕ) = with_names [] (gather (part_reads known) parts) in
-    let among : AreAmong (gather (part_reads known) parts) names = taken_among [] (gather (part_reads known) parts) in
+    let around : Around = around_in parts in
+    let names : List (List ℕ) = with_names [] (gather (part_reads around.known) parts) in
+    let among : AreAmong (gather (part_reads around.known) parts) names = taken_among [] (gather (part_reads around.known) parts) in
     let tests : List (List ℕ) = flat_map files_of_plan (map test_of (filter is_test parts)) in
-    let both : AreAmong (design_in parts ++ tests) names = among_both (design_in parts) tests names (design_among known names parts refl good among) (tests_among known names [] 0 parts good among) in
+    let both : AreAmong (design_in parts ++ tests) names = among_both (design_in parts) tests names (design_among around names parts refl good among) (tests_among around names [] 0 parts good among) in
     let few : length (with_names [] (design_in parts ++ tests)) ≤ length names = few_among (design_in parts ++ tests) names both in
-    subst (λ (ns : List (List ℕ)). length ns ≤ 64) (names_append [] (design_in parts) tests) (omega (arith, few, all_read_few known parts good))
+    subst (λ (ns : List (List ℕ)). length ns ≤ 64) (names_append [] (design_in parts) tests) (omega (arith, few, all_read_few around parts good))
 
 pub sources_few : (bytes : List ℕ) (project : Project) → IsProject bytes project → length (all_files project) ≤ 64
 sources_few bytes project is = subst (λ (p : Project). length (all_files p) ≤ 64) (sym is.says) (files_of (parts_of 1 (lines bytes)) (sections_good (lines bytes) is.faultless))

@@ -1,5 +1,5 @@
 -- How many tests a project has.
-use Rattle.std.proofs.Common.{◌≡◌, ℕ, ◌+◌, ◌≤◌, Bool, true, false, cond, List, [], ◌∷◌, ◌++◌, length, None, bytes_eq, codes, nat_lt, refl, sym, subst, ap, ◌∙◌, arith, append_assoc, append-nil, length-append}
+use Rattle.std.proofs.Common.{◌≡◌, ℕ, ◌+◌, ◌≤◌, Bool, true, false, cond, List, [], ◌∷◌, ◌++◌, length, None, codes, nat_lt, refl, sym, subst, ap, ◌∙◌, arith, append_assoc, append-nil, length-append}
 use Rattle.std.proofs.lemmas.Bool.Decides.{nat_tests}
 use Rattle.std.proofs.lemmas.List.{length-map}
 use Rattle.std.proofs.lemmas.List.Elements.{filter-append}
@@ -8,9 +8,9 @@ use Rattle.std.specs.Str.Lines.{lines}
 use Rattle.project_file.specs.declared.project.Project.{Project}
 use Rattle.project_lines.specs.Checks.{first_fault}
 use Rattle.project_lines.specs.Lines.{key_of}
-use Rattle.project_lines.specs.Paths.{Known, find_path}
-use Rattle.project_file.specs.Projects.{part_fault, project_of, test_of, IsProject}
-use Rattle.project_lines.specs.Sections.{Part, is_test, lines_in, parts_of, tests_in}
+use Rattle.project_options.specs.Options.{Around}
+use Rattle.project_file.specs.Projects.{around_in, part_fault, project_of, test_of, IsProject}
+use Rattle.project_lines.specs.Sections.{Part, is_test, parts_of, tests_in}
 use Rattle.project_limits.proofs.Headers.{header_good, room_for_test, sections_good}
 use Rattle.project_limits.proofs.Lines.{head_good, tail_good}
 
@@ -19,18 +19,18 @@ one_few true part count few room = (let not_many : nat_lt 15 count ≡ false = r
 one_few false part count few room = omega (arith, few)
 
 -- with a good section there are still few tests
-push_few : (known : Known) (earlier : List Part) (number : ℕ) (part : Part) → part_fault known earlier number part ≡ None → length (tests_in earlier) ≤ 16 → length (tests_in (earlier ++ part ∷ [])) ≤ 16
+push_few : (around : Around) (earlier : List Part) (number : ℕ) (part : Part) → part_fault around earlier number part ≡ None → length (tests_in earlier) ≤ 16 → length (tests_in (earlier ++ part ∷ [])) ≤ 16
 unfolding tests_in is_test
-push_few known earlier number part good few =
-    let room : is_test part ≡ true → nat_lt 15 (length (tests_in earlier)) ≡ false = λ is. room_for_test earlier part.number part.header ((bytes_eq-Decides (key_of part.header) (codes "test")).0 is) (header_good known earlier number part good) in
+push_few around earlier number part good few =
+    let room : is_test part ≡ true → nat_lt 15 (length (tests_in earlier)) ≡ false = λ is. room_for_test earlier part.number part.header ((bytes_eq-Decides (key_of part.header) (codes "test")).0 is) (header_good around earlier number part good) in
     let all : length (tests_in (earlier ++ part ∷ [])) ≡ length (tests_in earlier) + length (cond (is_test part) (part ∷ []) []) = ap length (filter-append is_test earlier (part ∷ [])) ∙ length-append (tests_in earlier) (cond (is_test part) (part ∷ []) []) in
     subst (λ count. count ≤ 16) (sym all) (one_few (is_test part) part (length (tests_in earlier)) few room)
 
-parts_few : (known : Known) (earlier : List Part) (number : ℕ) (parts : List Part) → first_fault (part_fault known) earlier number parts ≡ None → length (tests_in earlier) ≤ 16 → length (tests_in (earlier ++ parts)) ≤ 16
-parts_few known earlier number [] good few = subst (λ (parts : List Part). length (tests_in parts) ≤ 16) (sym (append-nil earlier)) few
-parts_few known earlier number (part ∷ more) good few =
+parts_few : (around : Around) (earlier : List Part) (number : ℕ) (parts : List Part) → first_fault (part_fault around) earlier number parts ≡ None → length (tests_in earlier) ≤ 16 → length (tests_in (earlier ++ parts)) ≤ 16
+parts_few around earlier number [] good few = subst (λ (parts : List Part). length (tests_in parts) ≤ 16) (sym (append-nil earlier)) few
+parts_few around earlier number (part ∷ more) good few =
     subst (λ (parts : List Part). length (tests_in parts) ≤ 16) (append_assoc earlier (part ∷ []) more)
-    (parts_few known (earlier ++ part ∷ []) (number + 1) more (tail_good (part_fault known) earlier number part more good) (push_few known earlier number part (head_good (part_fault known) earlier number part more good) few))
+    (parts_few around (earlier ++ part ∷ []) (number + 1) more (tail_good (part_fault around) earlier number part more good) (push_few around earlier number part (head_good (part_fault around) earlier number part more good) few))
 
 none_few : length (tests_in []) ≤ 16
 unfolding tests_in
@@ -43,4 +43,4 @@ tests_of parts few = subst (λ count. count ≤ 16) (sym (length-map (tests_in p
 pub tests_few : (bytes : List ℕ) (project : Project) → IsProject bytes project → length project.tests ≤ 16
 tests_few bytes project is =
     let parts : List Part = parts_of 1 (lines bytes) in
-    subst (λ (p : Project). length p.tests ≤ 16) (sym is.says) (tests_of parts (parts_few (find_path (lines_in (codes "files") parts)) [] 0 parts (sections_good (lines bytes) is.faultless) none_few))
+    subst (λ (p : Project). length p.tests ≤ 16) (sym is.says) (tests_of parts (parts_few (around_in parts) [] 0 parts (sections_good (lines bytes) is.faultless) none_few))

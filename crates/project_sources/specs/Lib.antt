@@ -1,1 +1,2 @@
 pub mod Netlists
+pub mod Skipped

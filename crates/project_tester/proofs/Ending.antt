@@ -77,7 +77,7 @@ no_unknown v.Hang word is = not_open word 2 is (omega arith)
 pub simulation_ended : (c : Prepared) (asked : Asked) (job : Simulating) (verdict : SimVerdict) (ended : Ended) → IsSimulating c asked job → Says job.simulated job.limit job.pass job.fail verdict → word_code ended.word ≡ told_verdict verdict → ended.attempt ≡ None → HasEnded c asked ended
 simulation_ended c asked job verdict ended is says word none = record {
   word = subst (may_give c asked) (sym word)
-      (right_sim_word c asked.mutation asked.test asked.bound is.bench is.pass is.fail is.mutated verdict is.plan is.test is.runnable is.sound is.broken is.fits said);
+      (right_sim_word c asked.mutation asked.test asked.bound is.bench is.pass is.fail is.mutated verdict is.testable is.test is.runnable is.sound is.broken is.fits said);
   attempt = subst (TellsAttempt c asked (Some (word_code ended.word))) (sym none) (no_unknown verdict (word_code ended.word) word);
 }
   where

@@ -9,8 +9,8 @@ use Rattle.tb_runner.specs.Jobs.{Job as Simulating, IsSameJob, new_job}
 use Rattle.campaign_plan.specs.declared.prepared.Prepared.{Prepared}
 use Rattle.campaign_plan.specs.declared.trial.Trial.{Trial}
 use Rattle.campaign_plan.specs.declared.trial.Trial.TheVariants.{Simulation}
-use Rattle.campaign_plan.specs.Campaigns.{IsPlan}
 use Rattle.campaign_plan.proofs.Fitted.{plan_fits}
+use Rattle.campaign_run.specs.Limits.{IsTestable}
 use Rattle.campaign_run.specs.Rows.{IsBrokenAt}
 use Rattle.campaign_core.specs.Testers.{Asked}
 use Rattle.project_tester.specs.declared.job.Ended.{Ended}
@@ -23,13 +23,13 @@ use Rattle.project_tester.proofs.Lefts.{all_cycles, fewer_cycles}
 
 -- ---- its start
 
-module _ (c : Prepared) (asked : Asked) (bench : Parts) (pass fail : List ℕ) (plan : IsPlan c) (test : slice_get c.trials asked.test ≡ Some (Simulation bench pass fail)) (mutated : Plan) (broken : IsBrokenAt c asked.mutation mutated.raw) where
+module _ (c : Prepared) (asked : Asked) (bench : Parts) (pass fail : List ℕ) (testable : IsTestable c) (test : slice_get c.trials asked.test ≡ Some (Simulation bench pass fail)) (mutated : Plan) (broken : IsBrokenAt c asked.mutation mutated.raw) where
   pub bench_fits : FitsDesign bench mutated.raw
-  bench_fits = fits_at c asked.mutation bench mutated.raw (plan_fits c asked.test bench pass fail plan test) broken
+  bench_fits = fits_at c asked.mutation bench mutated.raw (plan_fits c asked.test bench pass fail testable.plan test) broken
 
   new_simulating : (job : Simulating) (p f : List ℕ) → IsRunnable bench → IsSound mutated → p ≡ pass → f ≡ fail → job ≡ new_job (record { bench = bench; netlist = mutated.raw; seed = c.word_seed }) c.cycles p f → IsSimulating c asked job
   new_simulating job p f runnable sound pass_is fail_is is = record {
-    plan = plan;
+    testable = testable;
     bench = bench;
     pass = pass;
     fail = fail;
@@ -61,7 +61,7 @@ fewer_turns old new same added more = fewer_cycles old.limit new.limit old.phase
 
 pub still_simulating : (c : Prepared) (asked : Asked) (old new : Simulating) → IsSimulating c asked old → IsSameJob old new → new.is_over ≡ false → IsSimulating c asked new
 still_simulating c asked old new is same going = record {
-  plan = is.plan;
+  testable = is.testable;
   bench = is.bench;
   pass = is.pass;
   fail = is.fail;

@@ -21,7 +21,7 @@ use Rattle.tb_turns.specs.declared.verdict.SimVerdict.{SimVerdict}
 use Rattle.campaign_plan.specs.declared.trial.Trial.{Trial}
 use Rattle.campaign_plan.specs.declared.trial.Trial.TheVariants.{Equality, Simulation}
 use Rattle.campaign_run.specs.Simulated.{told_verdict, IsSimulated}
-use Rattle.campaign_plan.specs.Campaigns.{IsPlan}
+use Rattle.campaign_run.specs.Limits.{IsTestable}
 use Rattle.campaign_run.specs.GivenUp.{HasAttempt, IsMutantAt}
 use Rattle.campaign_run.specs.Rows.{IsBroken, IsBrokenAt, IsGivenUpAt, IsRightWord, IsSaid, IsTrueWordAt}
 use Rattle.mutation_sites.specs.Mutants.{HasEachRun, HasOneMore, HasSameNames, HasSameShapes, RunsAlike}
@@ -77,13 +77,13 @@ right_word laws c m t bound original mutated verdict test is sound mutated_sound
     ] broken
 
 -- What a simulation of a mutant comes to is the word of its mutation.
-pub right_sim_word : (c : Prepared) (m t bound : ℕ) (bench : Parts) (pass fail : List ℕ) (mutated : Plan) (verdict : SimVerdict) → IsPlan c → slice_get c.trials t ≡ Some (Simulation bench pass fail) → IsRunnable bench → IsSound mutated → IsBrokenAt c m mutated.raw → FitsDesign bench mutated.raw → Says (record { bench = bench; netlist = mutated.raw; seed = c.word_seed }) c.cycles pass fail verdict → IsRightWord c m t bound (told_verdict verdict)
-right_sim_word c m t bound bench pass fail mutated verdict plan test runnable sound broken fits says =
+pub right_sim_word : (c : Prepared) (m t bound : ℕ) (bench : Parts) (pass fail : List ℕ) (mutated : Plan) (verdict : SimVerdict) → IsTestable c → slice_get c.trials t ≡ Some (Simulation bench pass fail) → IsRunnable bench → IsSound mutated → IsBrokenAt c m mutated.raw → FitsDesign bench mutated.raw → Says (record { bench = bench; netlist = mutated.raw; seed = c.word_seed }) c.cycles pass fail verdict → IsRightWord c m t bound (told_verdict verdict)
+right_sim_word c m t bound bench pass fail mutated verdict testable test runnable sound broken fits says =
     elim (slice_get c.sites m) as (λ o. IsBroken c.netlist o mutated.raw → IsRightAt c t o (slice_get c.trials t) bound (told_verdict verdict)) [
       | None ↦ λ b. absurd b
       | Some site ↦ λ b. (
           let said : IsSimulated c.netlist site (record { bench = bench; seed = c.word_seed; cycles = c.cycles; pass = pass; fail = fail }) (told_verdict verdict) = record { runnable = runnable; mutated = mutated; sound = sound; broken = b; fits = fits; verdict = verdict; says = says; word_is = refl } in
-          let word : IsSaid c t site (told_verdict verdict) = record { other = c; plan = plan; same = refl; bench = bench; pass = pass; fail = fail; at = test; said = said } in
+          let word : IsSaid c.campaign.meta t site (told_verdict verdict) = record { other = c; plan = testable.plan; limit = testable.limit; same = refl; bench = bench; pass = pass; fail = fail; at = test; said = said } in
           subst (λ (o : Option Trial). IsRightAt c t (Some site) o bound (told_verdict verdict)) (sym test) (inl word))
     ] broken
 

@@ -14,7 +14,7 @@ use Rattle.result_book.specs.Scripts.{word_code}
 use Rattle.campaign_plan.specs.declared.prepared.Prepared.{Prepared}
 use Rattle.campaign_plan.specs.declared.trial.Trial.{Trial}
 use Rattle.campaign_plan.specs.declared.trial.Trial.TheVariants.{Equality, Simulation}
-use Rattle.campaign_plan.specs.Campaigns.{IsPlan}
+use Rattle.campaign_run.specs.Limits.{IsTestable}
 use Rattle.campaign_run.specs.Rows.{IsBrokenAt, IsRightWord}
 use Rattle.campaign_core.specs.Testers.{Asked}
 use Rattle.project_tester.specs.declared.job.Ended.{Ended}
@@ -88,9 +88,9 @@ pub record IsComparing (c : Prepared) (asked : Asked) (job : Comparing) : Type 0
   pub limit : job.limit ≡ asked.bound
   pub going : IsGoing job
 
--- it simulates the test's bench with the mutation's mutant, from the project's seed and for its cycles
+-- it simulates the test's bench with the mutation's mutant, from the project's seed and under its limit of cycles
 pub record IsSimulating (c : Prepared) (asked : Asked) (job : Simulating) : Type 0 where
-  pub plan : IsPlan c
+  pub testable : IsTestable c
   pub bench : Parts
   pub pass : List ℕ
   pub fail : List ℕ

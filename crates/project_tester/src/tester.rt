@@ -1,6 +1,6 @@
 //! The tester of a prepared campaign.
 ghost use Rattle.std.specs.Prelude.{◌≡◌, IfOk, length};
-ghost use Rattle.campaign_plan.specs.Campaigns.{IsPlan};
+ghost use Rattle.campaign_run.specs.Limits.{IsTestable};
 ghost use Rattle.campaign_core.specs.Testers.{IsAskable};
 ghost use Rattle.project_tester.specs.ProjectJobs.{HasBegun, IsJobOf, asked_in, asked_of, left_in, may_give, most_of, word_in};
 
@@ -24,7 +24,7 @@ pub struct ProjectTester<'a> {
 impl<'a> Model for ProjectTester<'a> {
     ghost use Rattle.campaign_plan.specs.contracts.prepared.Prepared as p;
     ghost use Rattle.campaign_plan.specs.declared.prepared.Prepared.{Prepared};
-    ghost use Rattle.campaign_plan.specs.Campaigns.{IsPlan};
+    ghost use Rattle.campaign_run.specs.Limits.{IsTestable};
     ghost use Rattle.std.specs.Coded.{codes};
 
     ghost Value = { Prepared };
@@ -33,13 +33,13 @@ impl<'a> Model for ProjectTester<'a> {
 
     ghost view = { λ t. t.prepared.now };
 
-    ghost invariant = { λ t. IsPlan t.prepared.now };
+    ghost invariant = { λ t. IsTestable t.prepared.now };
 }
 
 impl<'a> ProjectTester<'a> {
-    /// The tester of this campaign.
+    /// The tester of this campaign, whose tests can be run.
     pub fn new(alloc: Global, prepared: &'a Prepared) -> ProjectTester<'a>
-        requires { IsPlan prepared.now }
+        requires { IsTestable prepared.now }
         ensures { result ≡ prepared.now }
     {
         ProjectTester { alloc, prepared }
@@ -47,7 +47,7 @@ impl<'a> ProjectTester<'a> {
 
     /// The campaign, which is prepared.
     fn prepared(&self) -> &'a Prepared
-        ensures { IsPlan self.now }
+        ensures { IsTestable self.now }
     {
         self.prepared
     }

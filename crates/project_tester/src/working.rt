@@ -3,6 +3,7 @@ ghost use Rattle.std.specs.Prelude.{◌≡◌, ◌<◌, IfOk, MatchResult, None,
 ghost use Rattle.netlist_core.specs.Checked.{IsSound};
 ghost use Rattle.campaign_plan.specs.Campaigns.{IsPlan};
 ghost use Rattle.campaign_plan.specs.declared.prepared.Prepared.{Prepared as Planned};
+ghost use Rattle.campaign_run.specs.Limits.{IsTestable};
 ghost use Rattle.campaign_run.specs.Rows.{IsBrokenAt};
 ghost use Rattle.campaign_core.specs.Testers.{Asked, IsAskable};
 ghost use Rattle.project_tester.specs.ProjectJobs.{HasBegun, IsWorkOf, asked_of, word_in};
@@ -37,7 +38,7 @@ pub(crate) fn begin<'a>(
     mutation: u32,
     want: Want,
 ) -> Result<Work<'a>, AllocError>
-    requires plan { IsPlan prepared.now }
+    requires testable { IsTestable prepared.now }
     requires askable { IsAskable (length prepared.now.campaign.mutations) prepared.now.campaign.kinds (asked_of mutation want) }
     ensures { IfOk result (HasBegun prepared.now (asked_of mutation want)) }
 {

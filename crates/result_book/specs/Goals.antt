@@ -1,5 +1,6 @@
 -- What a run aims at, and which test it wants of a mutation.
-use Rattle.std.specs.Prelude.{◌≡◌, ◌⊎◌, ℕ, ◌<◌, ◌%◌, Bool, true, ◌==◌, ◌&&◌, List, Option, None, Some, find, nat_lt, option_map, slice_index, IsTrue, if◌then◌else◌}
+use Rattle.std.specs.Prelude.{◌≡◌, ◌⊎◌, ℕ, ◌+◌, ◌<◌, ◌%◌, Bool, true, not, ◌==◌, ◌&&◌, ◌||◌, List, length, Option, None, Some, find, nat_le, nat_lt, option_map, slice_index, IsTrue, if◌then◌else◌}
+use Rattle.std.specs.List.{list_any}
 use Rattle.mcy_keeper.specs.declared.book.Entry.{Entry}
 use Rattle.tag_script.specs.Outcomes.{word_at}
 use Rattle.result_book.specs.declared.campaign.Campaign.{Campaign}
@@ -17,9 +18,21 @@ pub record IsGoal (goal : Goal) : Type 0 where
   pub part : goal.part < goal.parts
   pub retry : (goal.retry ≡ 0) ⊎ IsTrue (is_limit goal.retry)
 
--- the run is over this mutation
+-- the number is one of these, or there are none
+abbrev pub is_named : List ℕ → ℕ → Bool
+is_named numbers number = length numbers == 0 || list_any (λ named. named == number) numbers
+
+-- the run is over this mutation, which is counted from 0 here, and among the goal's numbers from 1
 abbrev pub is_in : Goal → ℕ → Bool
-is_in goal m = m % goal.parts == goal.part
+is_in goal m = m % goal.parts == goal.part && is_named goal.mutations (m + 1)
+
+-- a number, counted from 1, names one of so many mutations
+abbrev pub names_one : (count number : ℕ) → Bool
+names_one count number = nat_le 1 number && nat_le number count
+
+-- the first of these numbers that names none of so many mutations
+abbrev pub first_unnamed : ℕ → List ℕ → Option ℕ
+first_unnamed count numbers = find (λ number. not (names_one count number)) numbers
 
 -- a test with this last word, found under this bound, was given up under less than the limit
 abbrev pub is_given_up : ℕ → ℕ → ℕ → Bool

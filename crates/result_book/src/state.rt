@@ -145,12 +145,12 @@ impl State {
     }
 
     /// Which test a run with this goal wants of a mutation, and under which bound. It takes no memory.
-    pub fn want(&self, campaign: &Campaign, mutation: u32, goal: Goal) -> Option<Want>
+    pub fn want(&self, campaign: &Campaign, mutation: u32, goal: &Goal) -> Option<Want>
         requires fit { IsFit campaign.now }
         requires state { IsStateOf campaign.now self.now.rows self.now }
         requires mutation { mutation < length campaign.now.mutations }
-        requires goal { IsGoal goal }
-        ensures { result ≡ wanted campaign.now self.now.rows mutation goal }
+        requires goal { IsGoal goal.now }
+        ensures { result ≡ wanted campaign.now self.now.rows mutation goal.now }
     {
         if !goal.has(mutation) {
             return None;

@@ -43,7 +43,7 @@ UnknownsAreLong = (book : Book) (good : IsGood book) (row : Entry) → Contains 
 pub record SaysOfMutant (c : Prepared) (test number word : ℕ) : Type 0 where
   pub site : Site
   pub placed : slice_get c.sites number ≡ Some site
-  pub is : IsSaid c test site word
+  pub is : IsSaid c.campaign.meta test site word
 
 -- A row of a simulation has the word that the bench of its test says of the mutant.
 abbrev pub SimulationsAreSaid : Type 0

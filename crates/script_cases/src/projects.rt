@@ -1,7 +1,7 @@
 //! What a project says, on one line: its fields with `;` between them.
 use crate::bytes::push_escaped;
 use mcy_base::{LineList, TextList};
-use project_file::{ModeFlags, Project, TestKind, TestPlan};
+use project_file::{LineRange, ModeFlags, Project, Requirement, TestKind, TestPlan};
 use std::alloc::{AllocError, Global};
 
 fn push_number(alloc: Global, text: &mut String, number: u64) -> Result<(), AllocError> {
@@ -108,10 +108,52 @@ fn push_selection(alloc: Global, text: &mut String, project: &Project) -> Result
     text.push_str(if project.even { "; even" } else { "; plain" })
 }
 
+/// Adds what is required, where something is.
+fn push_requirement(
+    alloc: Global,
+    text: &mut String,
+    requirement: Option<&Requirement>,
+) -> Result<(), AllocError> {
+    let Some(requirement) = requirement else {
+        return Ok(());
+    };
+    push_counted(alloc, text, "; require ", u64::from(requirement.percent))?;
+    text.push(' ')?;
+    push_listed(text, requirement.counted.as_str(), &requirement.among)
+}
+
+/// Adds the lines whose sites are taken, where some are named.
+fn push_ranges(alloc: Global, text: &mut String, ranges: &[LineRange]) -> Result<(), AllocError> {
+    for range in ranges {
+        text.push_str("; only ")?;
+        push_escaped(text, range.file.as_str().as_bytes())?;
+        push_counted(alloc, text, " ", u64::from(range.from))?;
+        push_counted(alloc, text, " ", u64::from(range.to))?;
+    }
+    Ok(())
+}
+
+/// Adds what the options say that few projects have.
+fn push_rarer(alloc: Global, text: &mut String, project: &Project) -> Result<(), AllocError> {
+    if project.auto_cycles {
+        text.push_str("; auto")?;
+    }
+    if project.baseline {
+        text.push_str("; baseline")?;
+    }
+    push_requirement(alloc, text, project.requirement.as_ref())?;
+    push_ranges(alloc, text, project.only.as_slice())?;
+    if project.skip.as_slice().is_empty() {
+        return Ok(());
+    }
+    push_listed(text, "; skip", &project.skip)
+}
+
 fn push_options(alloc: Global, text: &mut String, project: &Project) -> Result<(), AllocError> {
     push_selection(alloc, text, project)?;
     push_counted(alloc, text, "; conflicts ", u64::from(project.conflicts))?;
     push_counted(alloc, text, "; cycles ", u64::from(project.cycles))?;
+    push_rarer(alloc, text, project)?;
     push_listed(text, "; tags", &project.tags)
 }
 

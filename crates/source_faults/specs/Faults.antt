@@ -14,7 +14,7 @@ use Rattle.source_trees.specs.declared.error.ReadError.TheVariants as r
 use Rattle.tb_faults.specs.declared.error.BenchError.{BenchError}
 use Rattle.tb_faults.specs.declared.error.BenchError.TheVariants as b
 use Rattle.source_faults.specs.declared.fault.SourceFault.{SourceFault}
-use Rattle.source_faults.specs.declared.fault.SourceFault.TheVariants.{NotUtf8, Token, Parse, Elab, Bench, TooMany}
+use Rattle.source_faults.specs.declared.fault.SourceFault.TheVariants.{NotUtf8, Token, Parse, Elab, Bench, TooMany, NoSites}
 use Rattle.source_faults.specs.declared.fault.SourceError.{SourceError}
 
 -- where a fault stands
@@ -81,6 +81,9 @@ file_at files (Some at) = file_name files at.file
 
 abbrev pub too_many : Kind → SourceError
 too_many kind = record { file = []; fault = TooMany kind }
+
+abbrev pub no_sites : SourceError
+no_sites = record { file = []; fault = NoSites }
 
 abbrev pub error_at : List SourceFile → Option Span → SourceFault → SourceError
 error_at files at fault = record { file = file_at files at; fault = fault }

@@ -14,7 +14,7 @@ use Rattle.elab_items.specs.declared.answer.ElabError.TheVariants as e
 use Rattle.tb_faults.specs.declared.error.BenchError.{BenchError}
 use Rattle.tb_faults.specs.declared.error.BenchError.TheVariants as b
 use Rattle.source_faults.specs.declared.fault.SourceFault.{SourceFault}
-use Rattle.source_faults.specs.declared.fault.SourceFault.TheVariants.{NotUtf8, Token, Parse, Elab, Bench, TooMany}
+use Rattle.source_faults.specs.declared.fault.SourceFault.TheVariants.{NotUtf8, Token, Parse, Elab, Bench, TooMany, NoSites}
 use Rattle.source_faults.specs.declared.fault.SourceError.{SourceError}
 
 -- the name of a feature
@@ -129,6 +129,7 @@ fault_line file (Parse error) = parse_line file error
 fault_line file (Elab error) = elab_line file error
 fault_line file (Bench test error) = bench_line file error
 fault_line file (TooMany kind) = too_many_line kind
+fault_line file NoSites = told (codes "NoSites")
 
 -- the line of a fault of the sources
 abbrev pub source_line : SourceError → List ℕ

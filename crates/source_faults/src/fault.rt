@@ -1,6 +1,6 @@
 //! Faults of sources, with the file that each is in.
 ghost use Rattle.std.specs.Prelude.{◌≡◌, IfOk};
-ghost use Rattle.source_faults.specs.Faults.{bench_error, bench_place, elab_error, elab_place, error_at, file_at, file_name, parse_error, parse_place, read_error, token_place, too_many};
+ghost use Rattle.source_faults.specs.Faults.{bench_error, bench_place, elab_error, elab_place, error_at, file_at, file_name, no_sites, parse_error, parse_place, read_error, token_place, too_many};
 
 use elab_items::ElabError;
 use mcy_base::{Kind, SourceFile, Span, Text};
@@ -25,6 +25,8 @@ pub enum SourceFault {
     Bench(u32, BenchError),
     /// There are more of these than the limit.
     TooMany(Kind),
+    /// The project leaves out all sites.
+    NoSites,
 }
 
 /// What is wrong with the sources, and the name of the file that it is in: that of its place, or the one that is no UTF-8. No
@@ -126,6 +128,16 @@ pub fn too_many(alloc: Global, kind: Kind) -> Result<SourceError, AllocError>
     Ok(SourceError {
         file: Text::copy(alloc, "")?,
         fault: SourceFault::TooMany(kind),
+    })
+}
+
+/// The project leaves out all sites of the sources.
+pub fn no_sites(alloc: Global) -> Result<SourceError, AllocError>
+    ensures { IfOk result (λ error. error ≡ no_sites) }
+{
+    Ok(SourceError {
+        file: Text::copy(alloc, "")?,
+        fault: SourceFault::NoSites,
     })
 }
 

@@ -8,5 +8,7 @@ mod fault;
 mod feature;
 mod line;
 
-pub use fault::{SourceError, SourceFault, bench_error, elab_error, read_error, too_many};
+pub use fault::{
+    SourceError, SourceFault, bench_error, elab_error, no_sites, read_error, too_many,
+};
 pub use line::{kind_name, source_line};

@@ -23,6 +23,7 @@ pub fn source_line(alloc: Global, error: &SourceError) -> Result<String, AllocEr
         SourceFault::Elab(error) => elab_line(alloc, file, error),
         SourceFault::Bench(_, error) => bench_line(alloc, file, *error),
         SourceFault::TooMany(kind) => too_many_line(alloc, *kind),
+        SourceFault::NoSites => told(alloc, "NoSites"),
     }
 }
 

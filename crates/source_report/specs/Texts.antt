@@ -39,6 +39,10 @@ word_count groups test word = count_by (λ answers. is_word word (word_in answer
 abbrev pub finished_count : Campaign → List (List Answer) → ℕ
 finished_count c groups = count_by (λ answers. is_ended (ask c answers)) groups
 
+-- every mutation's script needs no more test
+abbrev pub are_finished : Campaign → List (List Answer) → Bool
+are_finished c groups = finished_count c groups == length groups
+
 -- a script ended in this way
 abbrev pub is_end : End → Ask → Bool
 is_end (Tag bit) ask = has_tag bit ask

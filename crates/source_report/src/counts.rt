@@ -5,7 +5,7 @@ ghost use Rattle.result_book.specs.Rows.{groups};
 ghost use Rattle.result_book.specs.Scripts.{words_of};
 ghost use Rattle.tag_script.specs.Outcomes.{word_at};
 ghost use Rattle.result_book.specs.States.{IsStateOf};
-ghost use Rattle.source_report.specs.Texts.{end_count, finished_count, has_faults, is_end, is_word};
+ghost use Rattle.source_report.specs.Texts.{are_finished, end_count, finished_count, has_faults, is_end, is_word};
 
 use result_book::{Campaign, State, TestWord, has_tag};
 use std::alloc::{AllocError, Global};
@@ -64,6 +64,15 @@ pub(crate) fn finished_count(campaign: &Campaign, state: &State) -> u32
     ensures { result ≡ finished_count campaign.now (groups campaign.now state.now.rows) }
 {
     state.finished()
+}
+
+/// Whether every mutation is finished.
+pub fn are_finished(campaign: &Campaign, state: &State) -> bool
+    requires fit { IsFit campaign.now }
+    requires state { IsStateOf campaign.now state.now.rows state.now }
+    ensures { result ≡ are_finished campaign.now (groups campaign.now state.now.rows) }
+{
+    finished_count(campaign, state) == mutation_count(campaign, state)
 }
 
 /// The last words of the read tests of each mutation.

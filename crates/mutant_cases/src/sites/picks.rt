@@ -54,7 +54,7 @@ pub(crate) fn tell_pick<R: Print + AllocGlobal>(
         println!(rt; "too many")?;
         return Ok(());
     }
-    for number in &select(rt.alloc(), &netlist, &list, size, seed, pick)? {
+    for number in &select(rt.alloc(), &netlist, &list, size, seed, pick, &[])? {
         println!(rt; "{number}")?;
     }
     Ok(())

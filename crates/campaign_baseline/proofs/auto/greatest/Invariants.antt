@@ -1,5 +1,5 @@
 use Rattle.std.proofs.Common.{◌≡◌, take}
-use Rattle.campaign_baseline.specs.Baselines as specs
+use Rattle.campaign_run.specs.Baselines as specs
 use Rattle.campaign_baseline.proofs.auto.greatest.Given as goal
 
 abbrev pub invariant-loop-baseline : goal.invariant-loop-baseline

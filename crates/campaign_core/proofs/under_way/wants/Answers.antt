@@ -9,5 +9,5 @@ pub loop-mutation-preserved : goal.loop-mutation-preserved
 loop-mutation-preserved c =
     c.in_ok-push.ensures.items
     ∙ ap (λ (items : List (Option Want)). items ++ c.want.result ∷ []) c.loop-mutation.invariant
-    ∙ ap (λ (w : Option Want). each_from (λ m. wanted c.args.campaign.now c.args.state.now.rows m c.args.goal) 0 c.loop-mutation.mutation ++ w ∷ []) c.want.ensures
-    ∙ each_next (λ m. wanted c.args.campaign.now c.args.state.now.rows m c.args.goal) c.loop-mutation.mutation
+    ∙ ap (λ (w : Option Want). each_from (λ m. wanted c.args.campaign.now c.args.state.now.rows m c.args.goal.now) 0 c.loop-mutation.mutation ++ w ∷ []) c.want.ensures
+    ∙ each_next (λ m. wanted c.args.campaign.now c.args.state.now.rows m c.args.goal.now) c.loop-mutation.mutation

@@ -1,4 +1,4 @@
-use Rattle.std.proofs.Common.{◌≡◌, ◌∙◌, subst, arith, Option, Some}
+use Rattle.std.proofs.Common.{◌≡◌, ◌∙◌, subst, arith, false, Option, Some}
 use Rattle.std.specs.Prelude.{IfOk, IfErr}
 use Rattle.std.proofs.lemmas.Result.{IfOk-weaker}
 use Rattle.mcy_outside.specs.Files.{Held}
@@ -6,7 +6,7 @@ use Rattle.campaign_reading.specs.Prepared.{Prepared}
 use Rattle.campaign_reading.specs.Files.{IsMade}
 use Rattle.campaign_reading.specs.Reads.{IsUnmade}
 use Rattle.made_campaign.specs.Made.{made_held, made_limit}
-use Rattle.made_campaign.proofs.Refusing.{held_of, limit_made, texts_of}
+use Rattle.made_campaign.proofs.Refusing.{fixed_made, held_of, limit_made, texts_of}
 use Rattle.made_campaign.proofs.making.made_campaign.Goals as goal
 
 pub returns-clause-made : goal.returns-clause-made
@@ -16,6 +16,11 @@ returns-clause-made c =
 pub returns-clause-limit : goal.returns-clause-limit
 returns-clause-limit c =
     IfOk-weaker c.read_campaign.result (IsMade (Some (made_held c.args.seed c.args.cells))) (λ (p : Prepared). p.campaign.conflicts ≡ made_limit) (λ p made. limit_made c.args.seed c.args.cells (omega (arith, c.ranges.seed.fits)) c.requires p made)
+    (subst (λ (h : Option Held). IfOk c.read_campaign.result (IsMade h)) (held_of c.args.seed c.args.cells c.new.result (c.new.ensures ∙ c.in_ok-files.ensures)) c.read_campaign.ensures.made)
+
+pub returns-clause-fixed : goal.returns-clause-fixed
+returns-clause-fixed c =
+    IfOk-weaker c.read_campaign.result (IsMade (Some (made_held c.args.seed c.args.cells))) (λ (p : Prepared). p.auto_cycles ≡ false) (λ p made. fixed_made c.args.seed c.args.cells (omega (arith, c.ranges.seed.fits)) c.requires p made)
     (subst (λ (h : Option Held). IfOk c.read_campaign.result (IsMade h)) (held_of c.args.seed c.args.cells c.new.result (c.new.ensures ∙ c.in_ok-files.ensures)) c.read_campaign.ensures.made)
 
 pub returns-clause-refused : goal.returns-clause-refused

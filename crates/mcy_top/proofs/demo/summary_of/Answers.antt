@@ -6,7 +6,7 @@ use Rattle.mcy_top.proofs.ShownEnds.{made_plan, part_is, summary_is}
 use Rattle.mcy_top.proofs.demo.summary_of.Goals as goal
 
 pub run_whole-requires : goal.run_whole-requires
-run_whole-requires g c = record { plan = made_plan c.args.seed c.args.cells c.args.prepared.now c.requires.made }
+run_whole-requires g c = record { plan = made_plan c.args.seed c.args.cells c.args.prepared.now c.requires.made; fixed = c.requires.fixed }
 
 pub returns-clause-whole : goal.returns-clause-whole
 returns-clause-whole g c =

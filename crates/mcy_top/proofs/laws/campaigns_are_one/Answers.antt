@@ -6,7 +6,7 @@ pub returns-clause-campaign : goal.returns-clause-campaign
 returns-clause-campaign c = campaigns_once
 
 pub returns-clause-answers : goal.returns-clause-answers
-returns-clause-answers c = all_answers_once (benches_say_once c.benches_have_one_outcome.ensures c.designs_in_benches.ensures.settings c.designs_in_benches.ensures.starts c.mutants_tell_the_same.ensures)
+returns-clause-answers c = all_answers_once (benches_say_once c.benches_have_one_outcome.ensures c.designs_in_benches.ensures.settings c.designs_in_benches.ensures.starts c.mutants_tell_the_same.ensures c.baselines_are_one.ensures)
 
 pub returns-clause-text : goal.returns-clause-text
-returns-clause-text c = final_text_once (benches_say_once c.benches_have_one_outcome.ensures c.designs_in_benches.ensures.settings c.designs_in_benches.ensures.starts c.mutants_tell_the_same.ensures)
+returns-clause-text c = final_text_once (benches_say_once c.benches_have_one_outcome.ensures c.designs_in_benches.ensures.settings c.designs_in_benches.ensures.starts c.mutants_tell_the_same.ensures c.baselines_are_one.ensures)

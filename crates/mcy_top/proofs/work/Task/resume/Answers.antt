@@ -8,12 +8,12 @@ use Rattle.command_words.specs.declared.command.Command.TheVariants.{Run}
 use Rattle.campaign_run.specs.Running.{book_of}
 use Rattle.mcy_top.specs.Life.{Work}
 use Rattle.mcy_top.proofs.Upgrading.{history_book, work_resumed, work_unmoved}
-use Rattle.mcy_top.proofs.Working.{run_not_init, work_refused}
+use Rattle.mcy_top.proofs.Kept.{work_refused}
 use Rattle.mcy_top.proofs.work.Task.resume.Goals as goal
 
 pub returns-in-Err-clause-work : goal.returns-in-Err-clause-work
-returns-in-Err-clause-work g c tells =
-    rw c.into_outcome.ensures (work_refused (g.K.Keeper.holds c.args.keeper.now) (g.K.Keeper.leaves c.args.keeper.now) (g.O.Sink.written c.args.out.now) c.args.steps.now (Run c.args.jobs c.args.stop_after c.args.retry) c.args.self.now.prepared.now c.args.loaded.now c.in-Err.refusal (c.requires.kept tells) (c.in-Err.ensures.refused (Run c.args.jobs c.args.stop_after c.args.retry) (run_not_init c.args.jobs c.args.stop_after c.args.retry)))
+returns-in-Err-clause-work g c tells retry =
+    rw c.into_outcome.ensures (work_refused (g.K.Keeper.holds c.args.keeper.now) (g.K.Keeper.leaves c.args.keeper.now) (g.O.Sink.written c.args.out.now) c.args.steps.now (Run c.args.jobs c.args.stop_after retry) c.args.goal.now c.args.self.now.prepared.now c.args.loaded.now c.in-Err.refusal (c.requires.kept tells) (c.in-Err.ensures.refused (Run c.args.jobs c.args.stop_after retry) tt))
 
 pub run-requires-clause-state : goal.run-requires-clause-state
 run-requires-clause-state g c = subst (λ (rows : List Entry). IsStateOf c.args.self.now.prepared.now.campaign rows c.in-Ok.state) (sym c.in-Ok.ensures.state.rows_are) c.in-Ok.ensures.state
@@ -27,11 +27,11 @@ run-requires-clause-kept g c tells =
 
 -- the run goes on from them
 pub returns-in-Ok-upgrade-clause-work : goal.returns-in-Ok-upgrade-clause-work
-returns-in-Ok-upgrade-clause-work g c tells =
-    work_resumed (g.K.Keeper.leaves c.run.new.keeper) (g.O.Sink.written c.args.out.now) (g.O.Sink.written c.run.new.out) c.args.steps.now c.run.new.steps c.args.jobs c.args.stop_after c.args.retry c.args.self.now.prepared.now c.args.loaded.now c.run.result c.requires.plan c.in-Ok.ensures.form
-    (subst (λ (rows : List Entry). Work (g.K.Keeper.leaves c.run.new.keeper) (g.O.Sink.written c.args.out.now) (g.O.Sink.written c.run.new.out) c.args.steps.now c.run.new.steps (Run c.args.jobs c.args.stop_after c.args.retry) c.args.self.now.prepared.now (book_of c.args.self.now.prepared.now rows) c.run.result) c.in-Ok.ensures.state.rows_are (c.run.ensures.work tells))
+returns-in-Ok-upgrade-clause-work g c tells retry =
+    work_resumed (g.K.Keeper.leaves c.run.new.keeper) (g.O.Sink.written c.args.out.now) (g.O.Sink.written c.run.new.out) c.args.steps.now c.run.new.steps c.args.jobs c.args.stop_after retry c.args.goal.now c.args.self.now.prepared.now c.args.loaded.now c.run.result c.requires.plan c.in-Ok.ensures.form
+    (subst (λ (rows : List Entry). Work (g.K.Keeper.leaves c.run.new.keeper) (g.O.Sink.written c.args.out.now) (g.O.Sink.written c.run.new.out) c.args.steps.now c.run.new.steps (Run c.args.jobs c.args.stop_after retry) c.args.goal.now c.args.self.now.prepared.now (book_of c.args.self.now.prepared.now rows) c.run.result) c.in-Ok.ensures.state.rows_are (c.run.ensures.work tells retry))
 
 -- an upgrade that failed leaves the book or its history
 pub returns-in-Err-upgrade-clause-work : goal.returns-in-Err-upgrade-clause-work
-returns-in-Err-upgrade-clause-work g c tells =
-    rw c.failed.ensures (work_unmoved (g.K.Keeper.leaves c.upgrade.new.keeper) (g.O.Sink.written c.args.out.now) c.args.steps.now c.args.jobs c.args.stop_after c.args.retry c.args.self.now.prepared.now c.args.loaded.now c.in-Err-upgrade.error c.requires.plan c.in-Ok.ensures.form (c.in-Err-upgrade.ensures.left tells))
+returns-in-Err-upgrade-clause-work g c tells retry =
+    rw c.failed.ensures (work_unmoved (g.K.Keeper.leaves c.upgrade.new.keeper) (g.O.Sink.written c.args.out.now) c.args.steps.now c.args.jobs c.args.stop_after retry c.args.goal.now c.args.self.now.prepared.now c.args.loaded.now c.in-Err-upgrade.error c.requires.plan c.in-Ok.ensures.form c.in-Ok.ensures.named (c.in-Err-upgrade.ensures.left tells))

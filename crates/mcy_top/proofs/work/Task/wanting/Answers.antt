@@ -17,17 +17,17 @@ want-requires-clause-mutation c = omega (arith, ap length c.as_slice.ensures)
 -- no more are counted than there are
 pub overflow_add-count : goal.overflow_add-count
 overflow_add-count c =
-    let few : wanting_from c.args.self.now.prepared.now c.args.goal c.args.state.now.rows 0 c.loop-mutation.mutation ≤ c.loop-mutation.mutation = counted_few c.args.self.now.prepared.now c.args.goal c.args.state.now.rows 0 c.loop-mutation.mutation in
+    let few : wanting_from c.args.self.now.prepared.now c.args.goal.now c.args.state.now.rows 0 c.loop-mutation.mutation ≤ c.loop-mutation.mutation = counted_few c.args.self.now.prepared.now c.args.goal.now c.args.state.now.rows 0 c.loop-mutation.mutation in
     omega (arith, few, c.loop-mutation.invariant, ap length c.as_slice.ensures, (plan_fit c.args.self.now.prepared.now c.requires.plan).few_mutations)
 
 -- it wants a test, or none
 pub loop-mutation-preserved : goal.loop-mutation-preserved
 loop-mutation-preserved c = elim c.if-is_some.branch [
-  | then-is_some v ↦ v.count-is ∙ count_some c.args.self.now.prepared.now c.args.goal c.args.state.now.rows c.loop-mutation.mutation c.loop-mutation.count c.want.result c.loop-mutation.invariant (sym c.want.ensures) (sym c.is_some.ensures ∙ v.if-is_some.true)
-  | else-is_some v ↦ v.count-is ∙ count_none c.args.self.now.prepared.now c.args.goal c.args.state.now.rows c.loop-mutation.mutation c.loop-mutation.count c.want.result c.loop-mutation.invariant (sym c.want.ensures) (sym c.is_some.ensures ∙ v.if-is_some.false)
+  | then-is_some v ↦ v.count-is ∙ count_some c.args.self.now.prepared.now c.args.goal.now c.args.state.now.rows c.loop-mutation.mutation c.loop-mutation.count c.want.result c.loop-mutation.invariant (sym c.want.ensures) (sym c.is_some.ensures ∙ v.if-is_some.true)
+  | else-is_some v ↦ v.count-is ∙ count_none c.args.self.now.prepared.now c.args.goal.now c.args.state.now.rows c.loop-mutation.mutation c.loop-mutation.count c.want.result c.loop-mutation.invariant (sym c.want.ensures) (sym c.is_some.ensures ∙ v.if-is_some.false)
 ]
 
 pub returns : goal.returns
 returns c =
     let all : c.loop-mutation.mutation ≡ length c.args.self.now.prepared.now.campaign.mutations = omega (arith, ap length c.as_slice.ensures) in
-    c.loop-mutation.invariant ∙ ap (λ (n : ℕ). wanting_from c.args.self.now.prepared.now c.args.goal c.args.state.now.rows 0 n) all
+    c.loop-mutation.invariant ∙ ap (λ (n : ℕ). wanting_from c.args.self.now.prepared.now c.args.goal.now c.args.state.now.rows 0 n) all

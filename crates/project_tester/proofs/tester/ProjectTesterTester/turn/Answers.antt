@@ -30,7 +30,7 @@ returns-in-Some-clause-told c = ap (λ (n : ℕ). Some n) (sym c.code-word.ensur
 pub returns-in-Some-clause-gives : goal.returns-in-Some-clause-gives
 returns-in-Some-clause-gives c =
     let has = rw c.in-Some.is at (c.in_ok-go_on.ensures.kept c.args.self.now (asked_in c.args.job.now) c.requires.mine) in
-    word_given c.args.self.now (asked_in c.args.job.now) c.in-Some.ended c.code-word.result c.prepared-prepared.ensures has c.code-word.ensures
+    word_given c.args.self.now (asked_in c.args.job.now) c.in-Some.ended c.code-word.result c.prepared-prepared.ensures.plan has c.code-word.ensures
 
 pub returns-in-Some-clause-left : goal.returns-in-Some-clause-left
 returns-in-Some-clause-left c none = cc

@@ -1,0 +1,22 @@
+use Rattle.std.proofs.Common.{◌≡◌, ◌++◌, [], length}
+use Rattle.std.specs.Prelude.{map}
+use Rattle.process_cells.specs.Items.{widths_in}
+use Rattle.flat_items.specs.Views.{flat_of}
+use Rattle.elab_items.specs.Designs.{widths_of}
+use Rattle.elab_items.specs.Desks.{Serves}
+use Rattle.elab_items.specs.Items.{Stands}
+use Rattle.project_options.specs.Instances.{is_within_some}
+use Rattle.cell_scopes.specs.Scopes.{cell_scopes, scopes_from}
+use Rattle.cell_scopes.proofs.cells.all_flags.Given as goal
+
+abbrev pub invariant-loop-rest : goal.invariant-loop-rest
+invariant-loop-rest l = record {
+  stands : Stands (flat_of l.flat).places l.builder;
+  serves : Serves [] (flat_of l.flat).places l.builder l.desk;
+  widths : widths_in l.builder ≡ widths_of (flat_of l.flat).signals;
+  each : length l.flags.items ≡ length l.builder.cells;
+  are : l.flags.items ++ map (is_within_some l.instances) (scopes_from (flat_of l.flat) l.rest) ≡ map (is_within_some l.instances) (cell_scopes (flat_of l.flat));
+}
+
+abbrev pub decreases-loop-rest : goal.decreases-loop-rest
+decreases-loop-rest l = length l.rest

@@ -1,0 +1,10 @@
+use Rattle.std.proofs.Common.{length, ap, arith, ◌∙◌}
+use Rattle.result_book.specs.Goals.{first_unnamed}
+use Rattle.campaign_plan.proofs.Plans.{plan_fit}
+use Rattle.mcy_top.proofs.work.Task.lacking.Goals as goal
+
+pub overflow_cast-mutations : goal.overflow_cast-mutations
+overflow_cast-mutations c = omega (arith, ap length c.as_slice.ensures, (plan_fit c.args.self.now.prepared.now c.requires).few_mutations)
+
+pub returns : goal.returns
+returns c = c.unnamed.ensures ∙ ap (λ n. first_unnamed n c.args.goal.now.mutations) (ap length c.as_slice.ensures)

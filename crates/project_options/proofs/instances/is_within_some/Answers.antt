@@ -1,0 +1,8 @@
+use Rattle.std.proofs.Common.{List, ℕ, rules, tests}
+use Rattle.std.proofs.lemmas.Iterator.{YieldsList-from_slice}
+use Rattle.std.proofs.lemmas.Iterator.Search.{any_from_yields_List}
+use Rattle.project_options.specs.Instances.{is_within}
+use Rattle.project_options.proofs.instances.is_within_some.Goals as goal
+
+pub returns : goal.returns
+returns c = any_from_yields_List (λ (instance : List ℕ). is_within instance c.args.name.now) _ _ c.any.result c.any.ensures.ran (YieldsList-from_slice c.args.instances.now cc) (λ x b q k. search (rules, tests))
